@@ -1,5 +1,5 @@
 # On a machine with the Rattle kit. `make help` lists the targets.
-.PHONY: help run lint program install openapi-example test
+.PHONY: help run lint program library install wheel node page openapi-example test test-bindings
 
 TABLE = examples/vec-option-u8.json
 DIALECT = 2020-12
@@ -8,29 +8,39 @@ PREFIX = /usr/local
 program = crates/schemagen
 built = $(program)/out/schemagen
 linter = crates/schemalint/out/schemalint
+deriver = crates/schemaderive/out/schemaderive
 retries = crates/schemars_retries/out/schemars_retries
-# the crates below the program, lowest first
-libraries = $(shell sed -n '/^schemagen:/q; s/^\([a-z_]*\):.*/\1/p' crates.txt)
+library = out/library
+# the crates below the programs, lowest first
+libraries = $(shell sed -n '/^schemagen:/q; s/^\([a-z_]*\):.*/\1/p' crates.txt) $(shell sed -n 's/^\(schemaderive_[a-z]*\):.*/\1/p' crates.txt | grep -v _cases)
 
 help:
-	@echo 'make run [TABLE=FILE] [DIALECT=..] [FLAGS=..]   prints the document of a table, without proofs'
-	@echo 'make lint [TABLE=FILE]                          tells what is wrong with a table, and whether it is plain'
+	@echo 'make run [TABLE="FILE.."] [DIALECT=..] [FLAGS=..] prints the document of each table, without proofs'
+	@echo 'make lint [TABLE="FILE.."]                      tells what is wrong with each table, and whether it is plain'
 	@echo 'make program                                    proves everything below the programs, and builds them'
-	@echo 'make install [PREFIX=/usr/local]                copies the programs and their manual pages'
+	@echo 'make library [PREFIX=/usr/local]                builds the C library of what is proved, in out/library'
+	@echo 'make install [PREFIX=/usr/local]                copies the programs, the C library and their manual pages'
+	@echo 'make wheel, make node, make page                build the packages for Python and node, and the page, in out'
 	@echo 'make openapi-example                            writes examples/openapi/openapi.json anew'
 	@echo 'make test                                       the merge gate'
+	@echo 'make test-bindings                              the tests of Python, node, the page and Rust'
 
-# The document of a table, by the toolchain's checked run.
+# Runs a program on each table by the toolchain's checked run, which is made once for all of them.
+define try
+	@echo 'a checked run without proofs: a minute or two for all tables; `make program` proves and builds once' >&2
+	@cd $(1) && if [ $(words $(TABLE)) = 1 ]; then rt try < $(abspath $(TABLE)) $(2); else \
+	    folder=$$(mktemp -d) && cp $(abspath $(TABLE)) $$folder && rt try --cases $$folder $(2); rm -r $$folder; fi
+endef
+
+# The document of each table.
 run:
-	@echo 'a checked run without proofs; it takes a minute or two' >&2
-	@cd $(program) && rt try < $(abspath $(TABLE)) -- types $(DIALECT) $(FLAGS)
+	$(call try,$(program),-- types $(DIALECT) $(FLAGS))
 
-# What is to be said of the table, in the same way.
+# What is to be said of each table.
 lint:
-	@echo 'a checked run without proofs; it takes a minute or two' >&2
-	@cd crates/schemalint && rt try < $(abspath $(TABLE))
+	$(call try,crates/schemalint,)
 
-# Proves the libraries, which takes about an hour on two cores, and builds both programs.
+# Proves the libraries, which takes about an hour on two cores, and builds the programs.
 program:
 	@started=$$(date +%s); done=0; all=$(words $(libraries)); \
 	for crate in $(libraries); do \
@@ -40,18 +50,52 @@ program:
 	done
 	@cd $(program) && rt run < ../../examples/vec-option-u8.json -- types 2020-12 >/dev/null
 	@cd crates/schemalint && rt run < ../../examples/linked-list.json >/dev/null
+	@cd crates/schemaderive && rt run < stdin -- --table Config >/dev/null
 	@echo 'built: $(built) types 2020-12 < TABLE' >&2
 	@echo 'built: $(linter) TABLE' >&2
+	@echo 'built: $(deriver) --table ROOT SOURCE' >&2
 
 # If the programs are not built, they are built first.
-$(built) $(linter):
+$(built) $(linter) $(deriver):
 	@$(MAKE) --no-print-directory program
 
-# Copies the programs, and their manual pages.
-install: $(built) $(linter)
-	install -d $(DESTDIR)$(PREFIX)/bin $(DESTDIR)$(PREFIX)/share/man/man1
-	install $(built) $(linter) $(DESTDIR)$(PREFIX)/bin
-	install -m 644 docs/schemagen.1 docs/schemalint.1 $(DESTDIR)$(PREFIX)/share/man/man1
+# The C library, of what is proved: an archive, a shared library, a header, a pkg-config file and a manual page.
+library: $(built)
+	@bindings/c/archive $(library)
+	@bindings/c/build $(library)/libschemars_c.a $(library) $(PREFIX)
+
+# If the library is not built, it is built first.
+$(library)/libschemars.so.1:
+	@$(MAKE) --no-print-directory library
+
+# Copies the programs, the C library and their manual pages.
+install: $(built) $(linter) $(deriver) $(library)/libschemars.so.1
+	install -d $(DESTDIR)$(PREFIX)/bin $(DESTDIR)$(PREFIX)/lib/pkgconfig $(DESTDIR)$(PREFIX)/include
+	install -d $(DESTDIR)$(PREFIX)/share/man/man1 $(DESTDIR)$(PREFIX)/share/man/man3
+	install $(built) $(linter) $(deriver) $(DESTDIR)$(PREFIX)/bin
+	install -m 644 $(library)/libschemars.a $(library)/libschemars.so.1 $(DESTDIR)$(PREFIX)/lib
+	ln -sf libschemars.so.1 $(DESTDIR)$(PREFIX)/lib/libschemars.so
+	install -m 644 $(library)/schemars.h $(DESTDIR)$(PREFIX)/include
+	sed 's#^prefix=.*#prefix=$(PREFIX)#' $(library)/schemars.pc >$(DESTDIR)$(PREFIX)/lib/pkgconfig/schemars.pc
+	install -m 644 docs/schemagen.1 docs/schemalint.1 docs/schemaderive.1 $(DESTDIR)$(PREFIX)/share/man/man1
+	install -m 644 docs/schemars.3 $(DESTDIR)$(PREFIX)/share/man/man3
+
+# The packages for Python and node, and the page as one file. `bindings/node/build` says how WebAssembly is made.
+wheel: $(library)/libschemars.so.1
+	@python3 bindings/python/wheel.py $(library)/libschemars.so.1 out
+
+out/node/schemars.wasm: $(library)/libschemars.so.1
+	@bindings/node/build $(library)/module.bc out/node
+
+node: out/node/schemars.wasm
+	@cp bindings/node/index.mjs bindings/node/index.d.ts bindings/node/schemars.mjs bindings/node/package.json LICENSE out/node
+	@tar -C out/node --transform 's#^#package/#' -czf out/schemars-proved-1.0.0.tgz \
+	    index.mjs index.d.ts schemars.mjs schemars.wasm package.json LICENSE
+	@echo out/schemars-proved-1.0.0.tgz
+
+page: out/node/schemars.wasm
+	@python3 bindings/page/make.py out/node/schemars.wasm out/schemars.html
+	@echo out/schemars.html
 
 # Writes examples/openapi/openapi.json anew: its paths, and the definitions that the program prints for
 # its table.
@@ -60,11 +104,20 @@ openapi-example: $(built)
 
 # The merge gate: every proof from nothing, the must-fail edits, the tests and the programs. What pages
 # and examples show has to be what the case files have, and the files, lines and words that pages name
-# have to be there. Then the memory that a row costs is measured, and each growth of the memory of the programs
-# that were built is refused in turn.
+# have to be there. Then the C library is built and called, the memory that a row costs is measured, and each growth of
+# the memory of the programs that were built is refused in turn.
 test:
 	tools/cases --check
 	tools/places --check
 	rt ci
+	@$(MAKE) --no-print-directory library
+	tools/library $(library)
 	tools/memory $(built)
 	tools/refused $(built) $(retries)
+
+# The tests of what calls the library from Python, node, a page and Rust. They need packages that the gate does not need,
+# and those that are missing are named first.
+test-bindings:
+	@bindings/test needs
+	@$(MAKE) --no-print-directory library wheel node page
+	@bindings/test run $(library) out

@@ -1,8 +1,7 @@
 //! The configuration, and how it describes itself.
-#![tactic(auto, using(schemars_impls::proofs::OwnTypes::own_types))]
+#![tactic(auto, using(schemars::proofs::OwnTypes::own_types))]
 
-ghost use Rattle.std.specs.Prelude.{codes};
-ghost use Rattle.schemars_impls.specs.Dictionary.{IsIn, own};
+ghost use Rattle.schemars.specs.Words.{codes, IsIn, own};
 
 use schemars::impls::{JsonSchema, OPTIONAL, REQUIRED, add_field, struct_entry};
 use schemars::types::{TypeEntry, Types, TypesError};

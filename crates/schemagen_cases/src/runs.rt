@@ -29,7 +29,7 @@ pub fn answer(alloc: Global, words: &str, input: &str) -> Result<String, AllocEr
     let mut written = Vec::new(alloc);
     let mut sink = SinkOf::new(&mut written);
     match run(alloc, &words, &mut source, &mut sink) {
-        Ok(()) => line_of(alloc, &written),
+        Ok(_) => line_of(alloc, &written),
         Err(fault) => format!(in alloc; "{fault}"),
     }
 }

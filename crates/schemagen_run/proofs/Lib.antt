@@ -2,6 +2,7 @@
 pub mod Results
 pub mod Tables
 pub mod Runs
+pub mod Asking
 pub mod Samples
 pub mod Writing
 mod Outputs

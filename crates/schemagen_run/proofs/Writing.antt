@@ -1,5 +1,5 @@
 -- A line is a text and its newline, and what a sink holds after both.
-use Rattle.std.proofs.Common.{◌≡◌, ◌≢◌, ◌⊎◌, inl, inr, ℕ, List, [], ◌∷◌, ◌++◌, Bool, false, Option, Result, Ok, Err, IfErr, refl, subst}
+use Rattle.std.proofs.Common.{◌≡◌, ◌≢◌, ◌⊎◌, inl, inr, ℕ, List, [], ◌∷◌, ◌++◌, Bool, false, Option, Result, Ok, Err, IfErr, refl, subst, ◌∙◌}
 use Rattle.std.specs.Prelude.{IsTrue}
 use Rattle.std.specs.Io.KnownBytes.{Appends}
 use Rattle.std.proofs.KnownBytes.{Appends-trans}
@@ -43,6 +43,30 @@ weaker P Q (Err e) old new f w = record {
   sound = tt;
   unwritten = w.unwritten;
 }
+
+-- what is told of one answer is told of another that ends in the same way
+pub as_written : {S T U : Type 0} {bytes : S → Option Text} {has_failed : S → Bool} {P : Text → Type 0} (x : T) (y : U) (old new : S)
+    → WritesLine bytes has_failed P (Ok x) old new → WritesLine bytes has_failed P (Ok y) old new
+as_written x y old new w = record {
+  done = w.done;
+  write = λ is. cc;
+  failed = λ is. cc;
+  sound = w.sound;
+  unwritten = tt;
+}
+
+pub as_refused : {S T U : Type 0} {bytes : S → Option Text} {has_failed : S → Bool} {P : Text → Type 0} (r : Result T Fault) (e : Fault)
+    (old new : S) → r ≡ Err e → WritesLine {T = U} bytes has_failed P (Err e) old new → WritesLine bytes has_failed P r old new
+as_refused (Ok x) e old new is w = cc
+as_refused (Err f) e old new is w =
+    let same : f ≡ e = cc in
+    record {
+      done = tt;
+      write = λ failed. w.write cc;
+      failed = λ failed. w.failed cc;
+      sound = tt;
+      unwritten = λ other. w.unwritten (λ failed. other (same ∙ failed));
+    }
 
 -- nothing is written at another refusal
 pub unwritten : {S T : Type 0} (bytes : S → Option Text) (has_failed : S → Bool) (P : Text → Type 0) (r : Result T Fault) (e : Fault)

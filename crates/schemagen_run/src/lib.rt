@@ -2,7 +2,7 @@
 #![tactic(auto)]
 
 pub mod fault;
-mod output;
+pub mod output;
 pub mod run;
 pub mod streams;
 mod words;

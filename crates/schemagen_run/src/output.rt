@@ -10,18 +10,27 @@ use schemars::Schema;
 use schemars::schema::{OrderedError, write_ordered_definitions};
 use schemars_text::sink::write_all;
 use serde_json::{Map, Value};
-use std::mem::ManuallyDrop;
 
-/// What a run writes.
+/// What a run has made, whose text it has written.
 #[derive(Drop)]
-pub(crate) enum Output {
+pub enum Output {
     Document(Schema),
     Definitions(Map<String, Value>),
     DocumentText(String),
 }
 
-/// Writes the text of an output, and a newline.
-pub(crate) fn write_output<K: Sink>(output: &Output, sink: &mut K) -> Result<(), Fault>
+/// Writes the text of an output, and a newline, and returns the output.
+pub(crate) fn write_output<K: Sink>(output: Output, sink: &mut K) -> Result<Output, Fault>
+    ensures written { WritesLine K.bytes K.has_failed (IsOutputLine output) result
+        sink.old sink.new }
+    ensures fault { IfErr result (λ e. e ≡ Fault.Refused WRITE) }
+{
+    write_line_of(&output, sink)?;
+    Ok(output)
+}
+
+// Writes the text of an output, and a newline.
+fn write_line_of<K: Sink>(output: &Output, sink: &mut K) -> Result<(), Fault>
     ensures written { WritesLine K.bytes K.has_failed (IsOutputLine output.now) result
         sink.old sink.new }
     ensures fault { IfErr result (λ e. e ≡ Fault.Refused WRITE) }
@@ -73,10 +82,4 @@ fn end_line<K: Sink>(sink: &mut K) -> Result<(), Fault>
         Ok(()) => Ok(()),
         Err(Failed) => Err(Fault::Refused(WRITE)),
     }
-}
-
-/// Leaves an output where it is. A run ends soon after its text is written, and the pages of its
-/// memory are then given back at once: that is much faster than each part by itself.
-pub(crate) fn leave(output: Output) {
-    let _kept = ManuallyDrop::new(output);
 }

@@ -34,7 +34,7 @@ ghost use Rattle.schemagen_run.specs.Fault.{IsTypesFault, IsSampleFault, IsFault
 use crate::fault::{
     BAD_TABLE, DEFINITIONS_PATH, Fault, NOT_JSON, NOT_WHOLE, OUT_OF_MEMORY, READ, WRITE,
 };
-use crate::output::{Output, leave, write_output};
+use crate::output::{Output, write_output};
 use crate::streams::{ReadError, Sink, Source, read_all};
 use crate::words::{Asked, Command, Dialect, command_in};
 use schemagen_input::{SampleError, TextError, read_sample};
@@ -61,13 +61,13 @@ use std::alloc::{AllocError, Global};
 /// fails, in this order. It may also run out of memory.
 ///
 /// A run that is refused has written nothing, unless the sink has failed: that has taken a
-/// beginning of the text.
+/// beginning of the text. Another run returns what it has made.
 pub fn run<S: Source, K: Sink>(
     alloc: Global,
     words: &[String],
     source: &mut S,
     sink: &mut K,
-) -> Result<(), Fault>
+) -> Result<Output, Fault>
     ensures usage { (result ≡ Err Fault.Usage) ↔ ¬ (AreCommands words.now) }
     ensures known { result ≢ Err Fault.Usage → AreCommands words.now }
     ensures unread { result ≡ Err Fault.Usage → source.new ≡ source.old }
@@ -118,7 +118,7 @@ fn run_types<S: Source, K: Sink>(
     asked: Asked,
     source: &mut S,
     sink: &mut K,
-) -> Result<(), Fault>
+) -> Result<Output, Fault>
     ensures read { (result ≡ Err (Fault.Refused READ)) ↔ IsTrue (S.has_failed source.new) }
     ensures not_json { result ≡ Err (Fault.Refused NOT_JSON)
         → GivesAll (S.left source.old) (S.left source.new) IsNoJson }
@@ -155,7 +155,7 @@ fn run_sample<S: Source, K: Sink>(
     dialect: Dialect,
     source: &mut S,
     sink: &mut K,
-) -> Result<(), Fault>
+) -> Result<Output, Fault>
     ensures read { (result ≡ Err (Fault.Refused READ)) ↔ IsTrue (S.has_failed source.new) }
     ensures not_json { result ≡ Err (Fault.Refused NOT_JSON)
         → GivesAll (S.left source.old) (S.left source.new) IsNoJson }
@@ -292,7 +292,7 @@ fn write_line<K: Sink>(
     types: Types,
     root: TypeNo,
     sink: &mut K,
-) -> Result<(), Fault>
+) -> Result<Output, Fault>
     requires { is_table types root ≡ true }
     ensures written { WritesLine K.bytes K.has_failed
         (λ line. IsAccepted types × IsLineOf asked types root line) result sink.old sink.new }
@@ -300,9 +300,7 @@ fn write_line<K: Sink>(
         (λ e. (e ≡ Fault.Refused WRITE) ⊎ IsLineRefusal asked types root e) }
 {
     let output = output_of(alloc, asked, types, root)?;
-    let answer = write_output(&output, sink);
-    leave(output);
-    answer
+    write_output(output, sink)
 }
 
 // A generator with the requested settings, over this table.
@@ -337,8 +335,7 @@ fn output_of(
     generated(alloc, asked, generator, root)
 }
 
-// What the generator makes for this row. The document of few rows is written from its JSON value,
-// which is left where it is.
+// What the generator makes for this row. The document of few rows is written from its JSON value.
 fn generated(
     alloc: Global,
     asked: Asked,
@@ -430,7 +427,7 @@ fn write_sample_line<K: Sink>(
     dialect: Dialect,
     value: &Value,
     sink: &mut K,
-) -> Result<(), Fault>
+) -> Result<Output, Fault>
     ensures written { IsAsRead (view value.now) → WritesLine K.bytes K.has_failed
         (IsSampleLineOf dialect (view value.now)) result sink.old sink.new }
     ensures not_whole { result ≡ Err (Fault.Refused NOT_WHOLE)
@@ -448,14 +445,14 @@ fn write_example<K: Sink>(
     dialect: Dialect,
     sample: &Sample,
     sink: &mut K,
-) -> Result<(), Fault>
+) -> Result<Output, Fault>
     ensures written { WritesLine K.bytes K.has_failed
         (IsExampleLine dialect (example_of sample.now)) result sink.old sink.new }
     ensures faults { IfErr result
         (λ e. (e ≡ Fault.Refused WRITE) ⊎ (e ≡ Fault.Refused OUT_OF_MEMORY)) }
 {
     let document = sample_document(alloc, dialect, sample)?;
-    write_output(&Output::Document(document), sink)
+    write_output(Output::Document(document), sink)
 }
 
 // The example that the value is.

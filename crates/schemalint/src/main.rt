@@ -1,25 +1,47 @@
-//! Tells of a table of types which fault it has, what is seldom meant, and whether it is plain.
+//! Tells of tables of types which fault they have, what is seldom meant, and whether they are plain.
 #![tactic(auto)]
 
-use schemalint_run::{Verdict, lint};
+mod words;
+
+use crate::words::{Asked, Words, words_of};
+use schemalint_run::{Report, VERSION, Verdict, lint};
 use std::alloc::{Alloc, Global};
 use std::env::Env;
-use std::io::{ErrorKind, Input, Print, Read};
+use std::io::{Eprint, Input, Print, Read};
 use std::process::ExitCode;
 use std::rt::Files;
-use std::{env, fs, io};
+use std::{fs, io};
+
+const HELP: &str = "\
+usage: schemalint [--json] [--strict] [FILE..]
+
+Reports whether tables of types have a fault, what is seldom meant, and whether they are plain.
+A table is read from each file, and from standard input for `-` or without a file.
+
+  --json     writes a report as an object of JSON on a line
+  --strict   the status is 1 unless each table is plain
+  --help     writes this text
+  --version  writes the version
+";
 
 // Why there is no report on a table.
 enum Stop {
-    Usage,
+    Usage(String),
     Failed(io::Error),
+}
+
+impl From<io::Error> for Stop {
+    fn from(error: io::Error) -> Stop {
+        Stop::Failed(error)
+    }
 }
 
 fn main(rt: HostRuntime) -> ExitCode {
     match run_program(&rt) {
         Ok(code) => ExitCode::from(code),
-        Err(Stop::Usage) => {
-            let _ = eprintln!(rt; "usage: schemalint [FILE]");
+        Err(Stop::Usage(word)) => {
+            let word = word.as_str();
+            let _ = eprintln!(rt; "schemalint: {word} is no option; --help tells which there are");
             ExitCode::from(2)
         }
         Err(Stop::Failed(error)) => {
@@ -29,51 +51,105 @@ fn main(rt: HostRuntime) -> ExitCode {
     }
 }
 
-// Prints what is to be said of the table, and answers the status.
-fn run_program<R: Env + Alloc<A = Global> + Files + Input + Print>(rt: &R) -> Result<u8, Stop> {
-    let bytes = input(rt)?;
+// Does what the words ask for, and returns the status.
+fn run_program<R: Env + Alloc<A = Global> + Files + Input + Print + Eprint>(
+    rt: &R,
+) -> Result<u8, Stop> {
+    match words_of(rt)? {
+        Asked::Help => {
+            print!(rt; "{HELP}")?;
+            Ok(0)
+        }
+        Asked::Version => {
+            println!(rt; "schemalint {VERSION}")?;
+            Ok(0)
+        }
+        Asked::Unknown(word) => Err(Stop::Usage(word)),
+        Asked::Tables(words) => lint_all(rt, &words),
+    }
+}
+
+fn lint_all<R: Alloc<A = Global> + Files + Input + Print + Eprint>(
+    rt: &R,
+    words: &Words,
+) -> Result<u8, Stop> {
+    let mut status = 0;
+    let one = words.files.len() == 1;
+    for file in &words.files {
+        let found = lint_file(rt, words, file.as_str(), one)?;
+        if found > status {
+            status = found;
+        }
+    }
+    Ok(status)
+}
+
+// Reports on the table of a file. A file that cannot be read is named, and the others are read.
+fn lint_file<R: Alloc<A = Global> + Files + Input + Print + Eprint>(
+    rt: &R,
+    words: &Words,
+    file: &str,
+    one: bool,
+) -> Result<u8, Stop> {
+    let bytes = match read(rt, file) {
+        Ok(bytes) => bytes,
+        Err(error) => {
+            let _ = eprintln!(rt; "schemalint: {file}: {error}");
+            return Ok(1);
+        }
+    };
     let report = match lint(rt.alloc(), &bytes) {
         Ok(report) => report,
         Err(error) => return Err(Stop::Failed(error.into())),
     };
-    match print!(rt; "{}", report.text.as_str()) {
-        Ok(()) => Ok(status(report.verdict)),
-        Err(error) => Err(Stop::Failed(error)),
-    }
+    print_report(rt, words, file, one, &report)?;
+    Ok(status(words, report.verdict))
 }
 
-fn status(verdict: Verdict) -> u8 {
+fn print_report<R: Alloc<A = Global> + Print>(
+    rt: &R,
+    words: &Words,
+    file: &str,
+    one: bool,
+    report: &Report,
+) -> Result<(), Stop> {
+    if words.json {
+        let text = match report.to_json(rt.alloc(), file) {
+            Ok(text) => text,
+            Err(error) => return Err(Stop::Failed(error.into())),
+        };
+        let text = text.as_str();
+        println!(rt; "{text}")?;
+        return Ok(());
+    }
+    if one {
+        let text = report.text.as_str();
+        print!(rt; "{text}")?;
+        return Ok(());
+    }
+    for line in report.text.as_str().lines() {
+        println!(rt; "{file}: {line}")?;
+    }
+    Ok(())
+}
+
+fn status(words: &Words, verdict: Verdict) -> u8 {
     match verdict {
         Verdict::Refused => 1,
-        Verdict::NotPlain | Verdict::Plain => 0,
+        Verdict::Plain => 0,
+        Verdict::NotPlain => words.strict as u8,
+        Verdict::PlainUnderReading | Verdict::PlainUnderWriting | Verdict::PlainUnderBoth => {
+            words.strict as u8
+        }
     }
 }
 
-// The bytes of the file that the one argument names, or else of standard input.
-fn input<R: Env + Alloc<A = Global> + Files + Input>(rt: &R) -> Result<Vec<u8>, Stop> {
-    let words = words_of(rt)?;
-    let read = match words.as_slice() {
-        [] => read_input(rt),
-        [file] => fs::read(rt, file.as_str()),
-        _ => return Err(Stop::Usage),
-    };
-    read.map_err(Stop::Failed)
-}
-
-fn read_input<R: Alloc<A = Global> + Input>(rt: &R) -> io::Result<Vec<u8>> {
+// The bytes of a file, or of standard input for `-`.
+fn read<R: Alloc<A = Global> + Files + Input>(rt: &R, file: &str) -> io::Result<Vec<u8>> {
+    if file != "-" {
+        return fs::read(rt, file);
+    }
     let mut bytes = Vec::new(rt.alloc());
     rt.reader().read_to_end(&mut bytes)?;
     Ok(bytes)
-}
-
-// The arguments after the program's name. An argument that is not UTF-8 does not name a file.
-fn words_of<R: Env + Alloc<A = Global>>(rt: &R) -> Result<Vec<String>, Stop> {
-    match env::args(rt) {
-        Ok(args) => match args.skip(1).collect(rt.alloc()) {
-            Ok(words) => Ok(words),
-            Err(error) => Err(Stop::Failed(error.into())),
-        },
-        Err(error) if error.kind() == ErrorKind::OutOfMemory => Err(Stop::Failed(error)),
-        Err(_) => Err(Stop::Usage),
-    }
 }

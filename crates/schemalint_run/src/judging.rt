@@ -2,19 +2,23 @@
 ghost use Rattle.std.specs.Prelude.{◌≡◌, ◌≢◌, ◌↔◌, ◌++◌, IfOk, IsTrue};
 ghost use Rattle.std.specs.Prelude.{string_bytes};
 ghost use Rattle.schemars_schema.specs.Json.{Text};
+ghost use Rattle.schemars_types.specs.declared.contract.Contract.{Contract as Which};
 ghost use Rattle.schemars_types.specs.Faults.{IsAccepted};
 ghost use Rattle.schemagen_input.specs.Texts.{IsAcceptedText};
-ghost use Rattle.schemalint_run.specs.Lint.{AreLines, IsPlainText, Judges, verdict_line};
+ghost use Rattle.schemalint_run.specs.Lint.{AreLines, IsPlainText, IsTextPlainUnder, Judges};
+ghost use Rattle.schemalint_run.specs.Lint.{IsVerdictOf, is_under, verdict_for, verdict_line};
 
-use crate::lines::{add_fault, add_row_fault};
+use crate::faults::{add_refusal, add_row_fault};
+use crate::findings::Finding;
+use crate::members::add_repeated_members;
 use crate::reasons::add_reasons;
+use crate::text::add_lines;
 use crate::warnings::add_warnings;
 use json::Scratch;
-use schemagen_input::{TextError, find_fault, read_input, read_table};
-use schemagen_json::{BorrowedValue, ParseError};
-use schemars_plain::is_plain;
-use schemars_types::{Types, TypesError};
-use serde_json::Value;
+use schemagen_input::{TextError, read_table};
+use schemagen_json::BorrowedValue;
+use schemars_plain::{is_plain, is_plain_under};
+use schemars_types::{Contract, Types, TypesError};
 use std::alloc::{AllocError, Global};
 
 /// What a table is.
@@ -24,15 +28,38 @@ pub enum Verdict {
     Refused,
     /// A table without faults. What its documents mean is not promised.
     NotPlain,
+    /// A table without faults that is plain under reading: in 2020-12 and 2019-09 the documents for
+    /// values that are read are promised to accept exactly the values of the types.
+    PlainUnderReading,
+    /// The same of the documents for values that are written.
+    PlainUnderWriting,
+    /// The same of both.
+    PlainUnderBoth,
     /// A table without faults that is plain: the documents of its types are promised to accept
     /// exactly the values of the types.
     Plain,
 }
 
+impl Verdict {
+    /// The last line of a report, without its newline.
+    pub fn words(self) -> &'static str {
+        match self {
+            Verdict::Refused => "refused",
+            Verdict::NotPlain => "not plain",
+            Verdict::PlainUnderReading => "plain under reading",
+            Verdict::PlainUnderWriting => "plain under writing",
+            Verdict::PlainUnderBoth => "plain under reading and writing",
+            Verdict::Plain => "plain",
+        }
+    }
+}
+
 /// What is to be said of a table.
 #[derive(Drop)]
 pub struct Report {
-    /// A line for its fault or for each warning, and then a line for the verdict.
+    /// Its fault, or each warning and why it is not plain.
+    pub findings: Vec<Finding>,
+    /// A line for each finding, and then a line for the verdict.
     pub text: String,
     pub verdict: Verdict,
 }
@@ -45,14 +72,30 @@ pub struct Report {
 pub fn lint(alloc: Global, bytes: &[u8]) -> Result<Report, AllocError>
     ensures fault { IfOk result (λ r. (r.verdict ≢ Verdict.Refused) ↔ IsAcceptedText bytes.now) }
     ensures plain { IfOk result (λ r. (r.verdict ≡ Verdict.Plain) ↔ IsPlainText bytes.now) }
+    ensures under { IfOk result (λ r. (contract : Which)
+        → IsTrue (is_under contract r.verdict) ↔ IsTextPlainUnder contract bytes.now) }
     ensures text { IfOk result (λ r. (lines : Text) × AreLines lines
         × (string_bytes r.text ≡ lines ++ verdict_line r.verdict)) }
 {
+    let mut findings = Vec::new(alloc);
+    let verdict = judge(alloc, bytes, &mut findings)?;
+    let text = text_of(alloc, &findings, verdict)?;
+    Ok(Report {
+        findings,
+        text,
+        verdict,
+    })
+}
+
+// The lines of the findings, and that of the verdict.
+fn text_of(alloc: Global, findings: &[Finding], verdict: Verdict) -> Result<String, AllocError>
+    ensures { IfOk result (λ s. (lines : Text) × AreLines lines
+        × (string_bytes s ≡ lines ++ verdict_line verdict)) }
+{
     let mut lines = String::new(alloc);
-    let verdict = judge(alloc, bytes, &mut lines)?;
+    add_lines(alloc, findings, &mut lines)?;
     let lines = ended(lines)?;
-    let text = with_verdict(lines, verdict)?;
-    Ok(Report { text, verdict })
+    with_verdict(lines, verdict)
 }
 
 // The lines, with a newline behind the last one, so that the verdict begins a line.
@@ -78,86 +121,91 @@ fn with_verdict(lines: String, verdict: Verdict) -> Result<String, AllocError>
     match verdict {
         Verdict::Refused => text.push_str("refused\n")?,
         Verdict::NotPlain => text.push_str("not plain\n")?,
+        Verdict::PlainUnderReading => text.push_str("plain under reading\n")?,
+        Verdict::PlainUnderWriting => text.push_str("plain under writing\n")?,
+        Verdict::PlainUnderBoth => text.push_str("plain under reading and writing\n")?,
         Verdict::Plain => text.push_str("plain\n")?,
     }
     Ok(text)
 }
 
-// Judges a text, and adds what is to be said of it.
-fn judge(alloc: Global, bytes: &[u8], lines: &mut String) -> Result<Verdict, AllocError>
+// Judges a text, and adds what is found.
+fn judge(alloc: Global, bytes: &[u8], findings: &mut Vec<Finding>) -> Result<Verdict, AllocError>
     ensures { IfOk result (λ v. Judges v bytes.now) }
 {
     let (types, root) = match read_table(alloc, bytes) {
         Ok(table) => table,
         Err(TextError::OutOfMemory) => return Err(AllocError),
         Err(TextError::NotJson | TextError::BadTable) => {
-            add_refusal(alloc, bytes, lines)?;
+            add_refusal(alloc, bytes, findings)?;
             return Ok(Verdict::Refused);
         }
     };
-    if !is_accepted(alloc, &types, lines)? {
+    if !is_accepted(alloc, &types, findings)? {
         return Ok(Verdict::Refused);
     }
-    add_warnings(alloc, &types, root, lines)?;
-    if is_plain(alloc, &types)? {
-        return Ok(Verdict::Plain);
+    add_repeated(alloc, bytes, findings)?;
+    add_warnings(alloc, &types, root, findings)?;
+    let verdict = verdict_of(alloc, &types)?;
+    if verdict != Verdict::Plain {
+        add_reasons(alloc, &types, findings)?;
     }
-    add_reasons(alloc, &types, lines)?;
-    Ok(Verdict::NotPlain)
+    Ok(verdict)
 }
 
-// Adds why the text says no table.
-fn add_refusal(alloc: Global, bytes: &[u8], lines: &mut String) -> Result<(), AllocError> {
+// What a table without faults is.
+fn verdict_of(alloc: Global, types: &Types) -> Result<Verdict, AllocError>
+    ensures { IfOk result (λ v. IsVerdictOf v types.now) }
+{
+    if is_plain(alloc, types)? {
+        return Ok(Verdict::Plain);
+    }
+    let reading = is_plain_under(alloc, Contract::Deserialize, types)?;
+    let writing = is_plain_under(alloc, Contract::Serialize, types)?;
+    Ok(verdict_for(reading, writing))
+}
+
+// What a table that is not plain is.
+fn verdict_for(reading: bool, writing: bool) -> Verdict
+    ensures { result ≡ verdict_for reading writing }
+{
+    match (reading, writing) {
+        (true, true) => Verdict::PlainUnderBoth,
+        (true, false) => Verdict::PlainUnderReading,
+        (false, true) => Verdict::PlainUnderWriting,
+        (false, false) => Verdict::NotPlain,
+    }
+}
+
+// Adds the members that are there twice.
+fn add_repeated(
+    alloc: Global,
+    bytes: &[u8],
+    findings: &mut Vec<Finding>,
+) -> Result<(), AllocError> {
     let Ok(text) = std::str::from_utf8(bytes) else {
-        return add_fault(alloc, lines, "", "this is no UTF-8");
+        return Ok(());
     };
     let mut scratch = Scratch::new(alloc);
     match BorrowedValue::from_str(alloc, text, &mut scratch) {
-        Ok(value) => add_bad_table(alloc, &value, lines),
-        Err(ParseError::OutOfMemory) => Err(AllocError),
-        Err(ParseError::NotJson) => add_syntax_error(alloc, text, lines),
-    }
-}
-
-// Adds where the text is no JSON, and why.
-fn add_syntax_error(alloc: Global, text: &str, lines: &mut String) -> Result<(), AllocError> {
-    match Value::from_str(alloc, text) {
-        Err(error) if !error.is_memory() => {
-            let reason = format!(in alloc; "this is no JSON: {error}")?;
-            add_fault(alloc, lines, "", reason.as_str())
-        }
-        _ => Err(AllocError),
-    }
-}
-
-// Adds the place at which the value is not a table, or that its root is not a row.
-fn add_bad_table(
-    alloc: Global,
-    value: &BorrowedValue<'_>,
-    lines: &mut String,
-) -> Result<(), AllocError> {
-    if let Some(fault) = find_fault(alloc, value)? {
-        return add_fault(alloc, lines, fault.place.as_str(), fault.reason.as_str());
-    }
-    match read_input(alloc, value) {
-        Ok((types, root)) => {
-            let rows = types.len();
-            let reason = format!(in alloc; "{root} is no row of a table of {rows}")?;
-            add_fault(alloc, lines, "/root", reason.as_str())
-        }
+        Ok(value) => add_repeated_members(alloc, "", &value, findings),
         Err(_) => Err(AllocError),
     }
 }
 
-// Whether the table has no fault; the first fault is reported.
-fn is_accepted(alloc: Global, types: &Types, lines: &mut String) -> Result<bool, AllocError>
+// Whether the table has no fault; the first fault is added.
+fn is_accepted(
+    alloc: Global,
+    types: &Types,
+    findings: &mut Vec<Finding>,
+) -> Result<bool, AllocError>
     ensures { IfOk result (λ b. IsTrue b ↔ IsAccepted types.now) }
 {
     match types.check(alloc) {
         Ok(()) => Ok(true),
         Err(TypesError::OutOfMemory) => Err(AllocError),
         Err(error) => {
-            add_row_fault(alloc, lines, types, &error)?;
+            add_row_fault(alloc, findings, types, &error)?;
             Ok(false)
         }
     }

@@ -7,10 +7,11 @@ ghost use Rattle.schemars_impls.specs.Dictionary.{IsIn, own};
 ghost use Rattle.schemars_impls.specs.OwnRows.{IsOptionOf, IsSeqOf};
 
 use crate::line::line_of;
-use schemars::impls::{JsonSchema, OPTIONAL, REQUIRED, add_field, register, struct_entry};
+use schemars::impls::{
+    JsonSchema, OPTIONAL, REQUIRED, add_field, add_option_of, add_seq_of, register, struct_entry,
+};
 use schemars::types::{TypeEntry, Types, TypesError};
 use schemars::{GenerateError, SchemaGenerator, SchemaSettings};
-use schemars_impls::{add_option_of, add_seq_of};
 use std::alloc::{AllocError, Global};
 use std::borrow::CowStr;
 

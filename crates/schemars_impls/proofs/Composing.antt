@@ -43,14 +43,14 @@ refuses_after p within before = record { each = λ d h f. p.each d (within d h) 
 -- ---- a type that is described
 
 pub rows_none : {rows : List Row} → KeepsRows rows rows
-rows_none {rows = rows} = record { keeps = keeps-refl rows }
+rows_none {rows = rows} = record { keeps = λ u. keeps-refl rows }
 
 pub rows_kept : {old new : List Row} → Keeps old new → KeepsRows old new
-rows_kept h = record { keeps = h }
+rows_kept h = record { keeps = λ u. h }
 
 -- one call before others
 pub rows_then : {a b c : List Row} → Keeps a b → KeepsRows b c → KeepsRows a c
-rows_then h rest = record { keeps = keeps-trans h rest.keeps }
+rows_then h rest = record { keeps = λ u. keeps-trans h (rest.keeps tt) }
 
 pub describes_none : {t : TypeRow} {rows : List Row} → Describes t rows rows
 describes_none = record { each = λ d h f. f }

@@ -146,7 +146,7 @@ never_absent (Some a) f none there = cc
 
 -- ---- what lasts
 
-length-kept : (old new : List Row) → AllContinue old new → length old ≤ length new
+pub length-kept : (old new : List Row) → AllContinue old new → length old ≤ length new
 length-kept [] new h = omega arith
 length-kept (r ∷ rs) [] h = absurd h
 length-kept (r ∷ rs) (s ∷ ss) h = omega (arith, length-kept rs ss h.1)

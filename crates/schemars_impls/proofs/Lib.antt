@@ -4,4 +4,5 @@ pub mod Following
 pub mod Registering
 pub mod Composing
 pub mod OwnRows
+pub mod Noting
 pub mod OwnTypes

@@ -3,22 +3,23 @@ use Rattle.std.proofs.Common.{◌≡◌, ◌⊎◌, ◌≤◌, inl, inr, ℕ, Li
 use Rattle.std.proofs.Common.{nat_le, is_some, option_map, option_and_then, refl, ap, sym, ◌∙◌, subst, arith, ◌==◌, if◌then◌else◌}
 use Rattle.std.proofs.lemmas.Bool.Decides.{nat_tests}
 use Rattle.schemars_schema.specs.Json.{Text}
-use Rattle.schemars_shapes.specs.Shape.{Entry, in_place, option, seq, set, tuple, array, array_of}
+use Rattle.schemars_shapes.specs.Shape.{Entry, in_place, option, seq, set, tuple, array, array_of, map_from}
 use Rattle.schemars_types.specs.declared.error.TypesError.{TypesError}
 use Rattle.schemars_types.specs.declared.error.TypesError.TheVariants.{OutOfMemory, UnknownType}
 use Rattle.schemars_types.specs.declared.error.TypesError.TheVariants as fault
 use Rattle.schemars_types.specs.Names.{option_id, option_name, seq_id, seq_name, set_id, set_name, array_id, array_name}
+use Rattle.schemars_types.specs.Names.{map_id, map_name}
 use Rattle.schemars_types.specs.Refusals.{Refuses, Registers}
 use Rattle.schemars_types.specs.Rows.{Row, place_of, id_at, name_at, reserved, defined, unknown_in, with_entry}
 use Rattle.schemars_types.proofs.Registered.{place_of-below, nat_le-above}
 use Rattle.schemars_types.proofs.TableLemmas.{place_of-reserved, reserved-absent, place_of-defined}
 use Rattle.schemars_impls.specs.Describes.{IsMade, Making, OfOne, OfArray}
-use Rattle.schemars_impls.specs.Dictionary.{Told, Dictionary, IsNamed, Follows, TypeRow, IsTold, IsLeft, IsInPart, KeepsTo, RefusesPart, of_one}
-use Rattle.schemars_impls.specs.Containers.{option_row, seq_row, set_row, array_row}
-use Rattle.schemars_impls.specs.OwnRows.{RefusesNumbers, with_row, HasRow, HasRowOf, HasOptionOf, HasSeqOf, HasSetOf, HasArrayOf}
+use Rattle.schemars_impls.specs.Dictionary.{Told, Dictionary, IsNamed, Follows, TypeRow, IsTold, IsLeft, IsIn, IsInPart, KeepsTo, RefusesAs, RefusesPart, of_one, of_two}
+use Rattle.schemars_impls.specs.Containers.{option_row, seq_row, set_row, array_row, map_row}
+use Rattle.schemars_impls.specs.OwnRows.{RefusesNumbers, IsNumber, HasMap, IsMapOf, with_row, HasRow, HasRowOf, HasOptionOf, HasSeqOf, HasSetOf}
 use Rattle.schemars_impls.specs.OwnRows.{IsReserved, IsCalled, called, IsMadeOf, IsOptionOf, IsSeqOf, IsSetOf, IsArrayOf}
 use Rattle.schemars_impls.specs.Keeps.{Keeps, KeepsRows}
-use Rattle.schemars_impls.proofs.Keeping.{keeps-same, keeps-trans, all-joined, reserved_keeps, place_of-kept}
+use Rattle.schemars_impls.proofs.Keeping.{keeps-same, keeps-trans, all-joined, reserved_keeps, place_of-kept, length-kept}
 use Rattle.schemars_impls.proofs.Following.{follows-reserved, follows-joined, made-kept, id-there}
 use Rattle.schemars_impls.proofs.Registering.{named, described}
 
@@ -192,7 +193,8 @@ array-made : (b : Bool) (len : ℕ) (o : Option ℕ) (n : ℕ) → o ≡ Some n
 array-made true len o n there = refl
 array-made false len o n there = ap (option_map (λ k. in_place (array k len))) there
 
-pub array_follows : (len : ℕ) (id name : Text) {old new : List Row} {m : ℕ} → HasArrayOf len id name old new m
+pub array_follows : (len : ℕ) (id name : Text) {old new : List Row} {m : ℕ}
+    → HasRowOf id name (array_id id len) (λ x. array_name x len) (λ k. in_place (array_of k len)) old new m
     → KeepsTo (IsArrayOf len id name) old new
 unfolding IsArrayOf array_row
 array_follows len id name {old = old} {new = new} {m = m} has =
@@ -201,7 +203,39 @@ array_follows len id name {old = old} {new = new} {m = m} has =
     let made = λ (rows : List Row) (n : ℕ) (there : place_of id rows ≡ Some n). array-made (len == 0) len (place_of id rows) n there in
     record { each = λ d h f. made-each t id name (λ x. array_name x len) make refl made (λ n. refl) old new m has d h f }
 
+-- Maps, whose keys were registered first. The name of the keys' row is told of it where that of the maps' row is.
+pub map_follows : (key : TypeRow) (id name : Text) {old rows new : List Row} {k m : ℕ} → KeepsTo (IsIn key) old rows
+    → place_of key.id rows ≡ Some k
+    → HasRowOf id name (map_id key.id id) (λ x. map_name key.id (name_at (reserved id name rows) k) x) (λ j. in_place (map_from k j)) rows new m
+    → KeepsTo (IsMapOf key id name) old new
+unfolding IsMapOf map_row of_two
+map_follows key id name {rows = rows} {new = new} {k = k} {m = m} first there has =
+    let t = map_row key (called id name) in
+    let make = λ (n : ℕ) (j : ℕ). in_place (map_from n j) in
+    let mid = reserved id name rows in
+    let key_there : place_of key.id mid ≡ Some k = place_of-kept key.id k (reserved_keeps id name rows mid refl) there in
+    let made : IsMade t.making mid (make k has.part) =
+    ap (λ o. option_and_then (λ n. option_map (λ j. make n j) (place_of id mid)) o) key_there ∙ ap (option_map (λ j. make k j)) has.place in
+    let follows : (d : Dictionary) → HasMap key id name d → Follows d rows → Follows d new = λ d h f.
+    let g : Follows d mid = follows-reserved d id name rows f h.made.own.left h.made.own.named in
+    row-follows t d (make k has.part) (map_name key.id (name_at mid k) (name_at mid has.part)) mid new m has.has h.made.told g made
+    (λ some. ap (λ x. map_name key.id x (name_at mid has.part)) (called-there key.id key.name d mid k (h.named some) g key_there)
+    ∙ ap (λ x. map_name key.id key.name x) (called-there id name d mid has.part (h.made.part some) g has.place)) in
+    record { each = λ d h f. follows d h (first.each d h.keys f) }
+
+pub map_refuses : (key : TypeRow) (id name : Text) {old : List Row} {e : TypesError} → RefusesAs (IsIn key) old e
+    → RefusesAs (IsMapOf key id name) old e
+unfolding IsMapOf
+map_refuses key id name h = record { each = λ d is f. h.each d is.keys f }
+
 -- ---- numbers
+
+pub placed_number : (id : Text) {rows : List Row} {n : ℕ} → place_of id rows ≡ Some n → IsNumber rows n
+placed_number id {rows = rows} {n = n} there = record { below = place_of-below id rows n there }
+
+pub row_number : {id name made_id : Text} {made_name : Text → Text} {make : ℕ → Entry} {old new : List Row} {n : ℕ}
+    → HasRowOf id name made_id made_name make old new n → IsNumber new n
+row_number {made_id = made_id} has = placed_number made_id has.has.number
 
 pub numbers_memory : (rows : List Row) (ns : List ℕ) (e : TypesError) → e ≡ OutOfMemory → RefusesNumbers rows ns e
 numbers_memory rows ns e is = record { cause = inl is }
@@ -227,4 +261,24 @@ part_numbers {rows = rows} {ns = ns} {e = e} h known =
 -- the number of a row that was there before other calls
 pub part_placed : {t : TypeRow} {old before rows : List Row} (id : Text) {n : ℕ} {e : TypesError} → RefusesNumbers rows (n ∷ []) e
     → place_of id before ≡ Some n → KeepsRows before rows → RefusesPart t old e
-part_placed {rows = rows} id {n = n} h there kept = part_numbers h (known-alone id rows n (place_of-kept id n kept.keeps there))
+part_placed {rows = rows} id {n = n} h there kept = part_numbers h (known-alone id rows n (place_of-kept id n (kept.keeps tt) there))
+
+pub number-known : (rows : List Row) (n : ℕ) → IsNumber rows n → find (λ m. nat_le (length rows) m) (n ∷ []) ≡ None
+number-known rows n h = rw (nat_le-above (length rows) n h.below) refl
+
+-- A table keeps its rows over several calls.
+pub record KeepsThrough (old new : List Row) : Type 0 where
+  pub keeps : Unit {0} → Keeps old new
+
+pub through_none : {rows : List Row} → KeepsThrough rows rows
+through_none {rows = rows} = record { keeps = λ u. keeps-same rows rows refl }
+
+pub through_then : {a b c : List Row} → Keeps a b → KeepsThrough b c → KeepsThrough a c
+through_then h rest = record { keeps = λ u. keeps-trans h (rest.keeps tt) }
+
+-- a number that was that of a row before other calls
+pub part_number : {t : TypeRow} {old before rows : List Row} {n : ℕ} {e : TypesError} → RefusesNumbers rows (n ∷ []) e → IsNumber before n
+    → KeepsThrough before rows → RefusesPart t old e
+part_number {before = before} {rows = rows} {n = n} h there kept =
+    let is : IsNumber rows n = record { below = omega (arith, there.below, length-kept before rows (kept.keeps tt).rows) } in
+    part_numbers h (number-known rows n is)

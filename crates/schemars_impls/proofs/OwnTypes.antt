@@ -7,12 +7,13 @@ use Rattle.schemars_types.specs.declared.error.TypesError.{TypesError}
 use Rattle.schemars_types.specs.Rows.{Row, place_of}
 use Rattle.schemars_impls.specs.Dictionary.{Dictionary, TypeRow, IsInPart, KeepsTo, RefusesAs, Describes, RefusesPart}
 use Rattle.schemars_types.proofs.Registered.{nat_le-above, place_of-below}
-use Rattle.schemars_impls.specs.Fields.{FieldsAreKnown, PartsAreKnown, VariantsAreKnown, bare_variant, plain_field, part}
+use Rattle.schemars_impls.specs.Fields.{FieldsAreKnown, NumbersAreKnown, PartsAreKnown, VariantsAreKnown, bare_variant, plain_field, part}
 use Rattle.schemars_impls.specs.Keeps.{Keeps, KeepsRows}
 use Rattle.schemars_impls.proofs.Keeping.{keeps-refl, keeps-same, numbers-kept, known-one, place_of-kept, reserved_keeps}
+use Rattle.schemars_impls.proofs.Placing.{known_more, place_added, adds_none, adds_then, adds_placed}
 use Rattle.schemars_impls.proofs.Composing.{keeps_to_refl, keeps_to_part, refuses_memory, refuses_part, describes_none, describes_then}
 use Rattle.schemars_impls.proofs.Composing.{part_memory, part_refuses, rows_none, rows_then}
-use Rattle.schemars_impls.proofs.OwnRows.{self_reserved, reserve_follows, numbers_memory, numbers_unknown, part_placed, row_of_keeps}
+use Rattle.schemars_impls.proofs.OwnRows.{self_reserved, reserve_follows, numbers_memory, numbers_unknown, part_placed, part_number, placed_number, through_none, through_then, map_follows, map_refuses, row_of_keeps}
 
 -- no fields, and fields in a table that keeps its rows
 pub no_fields : (rows : List Row) → FieldsAreKnown rows []
@@ -109,9 +110,9 @@ newtype_added rows before after name n below is h =
     variant_added rows before after (bare_variant name (newtype_payload n)) (one_known rows n below) is h
 
 pub tuple_added : (rows : List Row) (before after : List Variant) (name : Text) (ns : List ℕ)
-    → find (λ m. nat_le (length rows) m) ns ≡ None → after ≡ before ++ bare_variant name (tuple_payload ns) ∷ []
+    → NumbersAreKnown rows ns → after ≡ before ++ bare_variant name (tuple_payload ns) ∷ []
     → VariantsAreKnown rows before → VariantsAreKnown rows after
-tuple_added rows before after name ns known is h = variant_added rows before after (bare_variant name (tuple_payload ns)) known is h
+tuple_added rows before after name ns known is h = variant_added rows before after (bare_variant name (tuple_payload ns)) known.known is h
 
 pub struct_added : (rows : List Row) (before after : List Variant) (name : Text) (fields : List Field) (closed : Bool)
     → FieldsAreKnown rows fields → after ≡ before ++ bare_variant name (struct_payload (bare_fields fields closed)) ∷ []
@@ -123,6 +124,42 @@ struct_added rows before after name fields closed known is h =
 pub flat_known : (rows : List Row) (fields : List Field) (parts : List Flattened) → FieldsAreKnown rows fields → PartsAreKnown rows parts
     → find (λ m. nat_le (length rows) m) (map (λ f. f.ty) fields ++ map (λ p. p.ty) parts) ≡ None
 flat_known rows fields parts h k = both_known (length rows) (map (λ f. f.ty) fields) (map (λ p. p.ty) parts) h.known k.known
+
+-- ---- numbers
+
+pub no_numbers : (rows : List Row) → NumbersAreKnown rows []
+no_numbers rows = record { known = refl }
+
+pub numbers_kept : {old new : List Row} {ns : List ℕ} → Keeps old new → NumbersAreKnown old ns → NumbersAreKnown new ns
+numbers_kept {old = old} {new = new} {ns = ns} h k = record { known = numbers-kept old new ns h k.known }
+
+pub number_added : (rows : List Row) (before after : List ℕ) (n : ℕ) → n < length rows → after ≡ before ++ n ∷ []
+    → NumbersAreKnown rows before → NumbersAreKnown rows after
+number_added rows before after n below is h = subst (λ ns. NumbersAreKnown rows ns) (sym is) (record {
+  known = both_known (length rows) before (n ∷ []) h.known (one_known rows n below);
+})
+
+-- what the calls need that add numbers
+pub ruleset adding_numbers = (
+  keeps-refl,
+  keeps-same,
+  place_of-below,
+  numbers_kept,
+  number_added,
+  numbers_memory,
+  numbers_unknown,
+  place_of-kept,
+  known-one,
+  known_more,
+  place_added,
+  adds_none,
+  adds_then,
+  adds_placed,
+  keeps_to_refl,
+  keeps_to_part,
+  refuses_memory,
+  refuses_part,
+)
 
 -- what the calls need that add fields, variants and rows
 pub ruleset adding = (
@@ -144,6 +181,11 @@ pub ruleset adding = (
   reserved_keeps,
   numbers_memory,
   numbers_unknown,
+  placed_number,
+  map_follows,
+  map_refuses,
+  one_known,
+  known-one,
   keeps_to_refl,
   keeps_to_part,
   refuses_memory,
@@ -191,9 +233,11 @@ pub ruleset own_types = (
   no_fields,
   no_parts,
   no_variants,
+  no_numbers,
   fields_kept,
   parts_kept,
   variants_kept,
+  numbers_kept,
   numbers-kept,
   place_of-kept,
   known-one,
@@ -210,6 +254,9 @@ pub ruleset own_types = (
   describes_then,
   part_memory,
   part_placed,
+  part_number,
+  through_none,
+  through_then,
   part_refuses,
   part_after,
 )

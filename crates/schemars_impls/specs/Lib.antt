@@ -5,5 +5,6 @@ pub mod Dictionary
 pub mod Containers
 pub mod OwnRows
 pub mod Fields
+pub mod Notes
 pub mod Floats
 pub mod Zoned

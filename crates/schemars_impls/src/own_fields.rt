@@ -6,14 +6,16 @@ ghost use Rattle.std.specs.Prelude.{◌≡◌, ◌++◌, ℕ, [], ◌∷◌, Som
 ghost use Rattle.schemars_shapes.specs.Shape.{field_of, required_of};
 ghost use Rattle.schemars_types.specs.declared.error.TypesError as TypesError;
 ghost use Rattle.schemars_types.specs.Rows.{place_of};
-ghost use Rattle.schemars_impls.specs.Dictionary.{KeepsTo};
+ghost use Rattle.schemars_impls.specs.Dictionary.{KeepsTo, RefusesAs};
 ghost use Rattle.schemars_impls.specs.Fields.{plain_field, FieldsAreKnown};
 ghost use Rattle.schemars_impls.specs.Keeps.{Keeps};
-ghost use Rattle.schemars_impls.specs.OwnRows.{HasOptionOf, HasSeqOf, HasSetOf};
-ghost use Rattle.schemars_impls.specs.OwnRows.{IsOptionOf, IsReserved, IsSeqOf, IsSetOf};
+ghost use Rattle.schemars_impls.specs.OwnRows.{HasArrayOf, HasMapOf, HasOptionOf, HasSeqOf};
+ghost use Rattle.schemars_impls.specs.OwnRows.{HasSetOf, IsArrayOf, IsMapOf, IsOptionOf};
+ghost use Rattle.schemars_impls.specs.OwnRows.{IsReserved, IsSeqOf, IsSetOf};
 
 use crate::fields::push_field;
-use crate::rows::{option_of, reserve, seq_of, set_of};
+use crate::law::JsonSchema;
+use crate::rows::{array_of, map_of, option_of, reserve, seq_of, set_of};
 use schemars_types::{Field, Required, Types, TypesError};
 use std::alloc::Global;
 
@@ -129,6 +131,68 @@ pub fn add_set_of(
     ensures memory { IfErr result (λ e. e ≡ TypesError.OutOfMemory) }
 {
     let ty = set_of(alloc, types, id, called)?;
+    push_field(alloc, fields, name, ty, required)?;
+    Ok(())
+}
+
+/// Adds a field of an array of so many values of the struct behind the others.
+///
+/// # Errors
+///
+/// `OutOfMemory`. The fields are then unchanged.
+pub fn add_array_of(
+    alloc: Global,
+    types: &mut Types,
+    fields: &mut Vec<Field>,
+    name: &str,
+    id: &str,
+    called: &str,
+    len: u64,
+    required: Required,
+) -> Result<(), TypesError>
+    ensures keeps { Keeps types.old types.new }
+    ensures known { OnOk result (FieldsAreKnown types.old (map field_of fields.old.items)
+        → FieldsAreKnown types.new (map field_of fields.new.items)) }
+    ensures adds { OnOk result ((n : ℕ)
+        × (HasArrayOf len id.now called.now types.old types.new n)
+        × (map field_of fields.new.items ≡ map field_of fields.old.items
+        ++ plain_field name.now n (required_of required) ∷ [])) }
+    ensures follows { OnOk result
+        (KeepsTo (IsArrayOf len id.now called.now) types.old types.new) }
+    ensures unchanged { OnErr result (fields.new.items ≡ fields.old.items) }
+    ensures memory { IfErr result (λ e. e ≡ TypesError.OutOfMemory) }
+{
+    let ty = array_of(alloc, types, id, called, len)?;
+    push_field(alloc, fields, name, ty, required)?;
+    Ok(())
+}
+
+/// Registers `K`, and adds a field of a map from `K` to the struct behind the others.
+///
+/// # Errors
+///
+/// `OutOfMemory`, or what `register` returns. The fields are then unchanged.
+pub fn add_map_of<K: JsonSchema>(
+    alloc: Global,
+    types: &mut Types,
+    fields: &mut Vec<Field>,
+    name: &str,
+    id: &str,
+    called: &str,
+    required: Required,
+) -> Result<(), TypesError>
+    ensures keeps { Keeps types.old types.new }
+    ensures known { OnOk result (FieldsAreKnown types.old (map field_of fields.old.items)
+        → FieldsAreKnown types.new (map field_of fields.new.items)) }
+    ensures adds { OnOk result ((n : ℕ)
+        × (HasMapOf K.says id.now called.now types.old types.new n)
+        × (map field_of fields.new.items ≡ map field_of fields.old.items
+        ++ plain_field name.now n (required_of required) ∷ [])) }
+    ensures follows { OnOk result (KeepsTo (IsMapOf K.says id.now called.now) types.old types.new) }
+    ensures unchanged { OnErr result (fields.new.items ≡ fields.old.items) }
+    ensures refused { IfErr result (RefusesAs (IsMapOf K.says id.now called.now) types.old) }
+{
+    let ty = map_of::<K>(alloc, types, id, called)?;
     push_field(alloc, fields, name, ty, required)?;
     Ok(())
 }

@@ -5,14 +5,18 @@
 
 ghost use Rattle.std.specs.Prelude.{◌≡◌, ◌++◌, Some, IfErr, IfOk, OnErr, OnOk, string_bytes};
 ghost use Rattle.schemars_types.specs.declared.error.TypesError as TypesError;
-ghost use Rattle.schemars_types.specs.Names.{array_id};
-ghost use Rattle.schemars_types.specs.Rows.{place_of, reserved};
-ghost use Rattle.schemars_impls.specs.Dictionary.{KeepsTo};
+ghost use Rattle.schemars_shapes.specs.Shape.{Shape as shape, in_place};
+ghost use Rattle.schemars_types.specs.Names.{array_id, map_id, map_name};
+ghost use Rattle.schemars_types.specs.Rows.{name_at, place_of, reserved};
+ghost use Rattle.schemars_impls.specs.Dictionary.{KeepsTo, RefusesAs};
 ghost use Rattle.schemars_impls.specs.Keeps.{Keeps};
-ghost use Rattle.schemars_impls.specs.OwnRows.{HasArrayOf, HasOptionOf, HasSeqOf, HasSetOf};
-ghost use Rattle.schemars_impls.specs.OwnRows.{IsArrayOf, IsOptionOf};
+ghost use Rattle.schemars_impls.specs.OwnRows.{HasArrayOf, HasMapOf, HasOptionOf, HasRowOf};
+ghost use Rattle.schemars_impls.specs.OwnRows.{HasSeqOf, HasSetOf};
+ghost use Rattle.schemars_impls.specs.OwnRows.{IsArrayOf, IsMapOf, IsNumber, IsOptionOf};
 ghost use Rattle.schemars_impls.specs.OwnRows.{IsReserved, IsSeqOf, IsSetOf};
 
+use crate::impls::maps::map_id_to;
+use crate::law::{JsonSchema, register};
 use schemars_types::{TypeNo, Types, TypesError};
 use std::alloc::{AllocError, Global};
 
@@ -27,6 +31,7 @@ pub fn reserve(alloc: Global, types: &mut Types, id: &str, name: &str) -> Result
     ensures keeps { Keeps types.old types.new }
     ensures reserves { OnOk result (types.new ≡ reserved id.now name.now types.old) }
     ensures number { IfOk result (λ n. place_of id.now types.new ≡ Some n) }
+    ensures known { IfOk result (IsNumber types.new) }
     ensures follows { OnOk result (KeepsTo (IsReserved id.now name.now) types.old types.new) }
     ensures unchanged { OnErr result (types.new ≡ types.old) }
     ensures memory { IfErr result (λ e. e ≡ TypesError.OutOfMemory) }
@@ -50,6 +55,7 @@ pub fn option_of(
 ) -> Result<TypeNo, TypesError>
     ensures keeps { Keeps types.old types.new }
     ensures has { IfOk result (HasOptionOf id.now name.now types.old types.new) }
+    ensures known { IfOk result (IsNumber types.new) }
     ensures follows { OnOk result (KeepsTo (IsOptionOf id.now name.now) types.old types.new) }
     ensures memory { IfErr result (λ e. e ≡ TypesError.OutOfMemory) }
 {
@@ -70,6 +76,7 @@ pub fn option_of(
 pub fn seq_of(alloc: Global, types: &mut Types, id: &str, name: &str) -> Result<TypeNo, TypesError>
     ensures keeps { Keeps types.old types.new }
     ensures has { IfOk result (HasSeqOf id.now name.now types.old types.new) }
+    ensures known { IfOk result (IsNumber types.new) }
     ensures follows { OnOk result (KeepsTo (IsSeqOf id.now name.now) types.old types.new) }
     ensures memory { IfErr result (λ e. e ≡ TypesError.OutOfMemory) }
 {
@@ -90,6 +97,7 @@ pub fn seq_of(alloc: Global, types: &mut Types, id: &str, name: &str) -> Result<
 pub fn set_of(alloc: Global, types: &mut Types, id: &str, name: &str) -> Result<TypeNo, TypesError>
     ensures keeps { Keeps types.old types.new }
     ensures has { IfOk result (HasSetOf id.now name.now types.old types.new) }
+    ensures known { IfOk result (IsNumber types.new) }
     ensures follows { OnOk result (KeepsTo (IsSetOf id.now name.now) types.old types.new) }
     ensures memory { IfErr result (λ e. e ≡ TypesError.OutOfMemory) }
 {
@@ -117,6 +125,7 @@ pub fn array_of(
 ) -> Result<TypeNo, TypesError>
     ensures keeps { Keeps types.old types.new }
     ensures has { IfOk result (HasArrayOf len id.now name.now types.old types.new) }
+    ensures known { IfOk result (IsNumber types.new) }
     ensures follows { OnOk result (KeepsTo (IsArrayOf len id.now name.now) types.old types.new) }
     ensures memory { IfErr result (λ e. e ≡ TypesError.OutOfMemory) }
 {
@@ -126,6 +135,53 @@ pub fn array_of(
         return Ok(there);
     }
     let number = types.array(alloc, n, len)?;
+    Ok(number)
+}
+
+/// Returns the number of the type of maps from `K` to the type with this id, as `option_of` does. `K`
+/// is registered first.
+///
+/// # Errors
+///
+/// `OutOfMemory`, or what `register` returns. Rows that were added stay.
+pub fn map_of<K: JsonSchema>(
+    alloc: Global,
+    types: &mut Types,
+    id: &str,
+    name: &str,
+) -> Result<TypeNo, TypesError>
+    ensures keeps { Keeps types.old types.new }
+    ensures has { IfOk result (HasMapOf K.says id.now name.now types.old types.new) }
+    ensures known { IfOk result (IsNumber types.new) }
+    ensures follows { OnOk result (KeepsTo (IsMapOf K.says id.now name.now) types.old types.new) }
+    ensures refused { IfErr result (RefusesAs (IsMapOf K.says id.now name.now) types.old) }
+{
+    let key = register::<K>(alloc, types)?;
+    let number = map_from::<K>(alloc, types, key, id, name)?;
+    Ok(number)
+}
+
+// The number of the type of maps from `K`, which has this number, to the type with this id.
+fn map_from<K: JsonSchema>(
+    alloc: Global,
+    types: &mut Types,
+    key: TypeNo,
+    id: &str,
+    name: &str,
+) -> Result<TypeNo, TypesError>
+    requires { place_of K.says.id types.old ≡ Some key }
+    ensures has { IfOk result (HasRowOf id.now name.now (map_id K.says.id id.now)
+        (λ x. map_name K.says.id (name_at (reserved id.now name.now types.old) key) x)
+        (λ k. in_place (shape.map_from key k)) types.old types.new) }
+    ensures keeps { Keeps types.old types.new }
+    ensures memory { IfErr result (λ e. e ≡ TypesError.OutOfMemory) }
+{
+    let n = reserve(alloc, types, id, name)?;
+    let made = map_id_to::<K>(alloc, id)?;
+    if let Some(there) = types.find(made.as_str()) {
+        return Ok(there);
+    }
+    let number = types.map(alloc, key, n)?;
     Ok(number)
 }
 

@@ -9,10 +9,11 @@ ghost use Rattle.schemars_shapes.specs.Shape.{newtype_payload, no_payload};
 ghost use Rattle.schemars_shapes.specs.Shape.{payload_of, shape_of, struct_payload};
 ghost use Rattle.schemars_shapes.specs.Shape.{tuple_payload, variant_of, without_notes};
 ghost use Rattle.schemars_types.specs.Rows.{Row, place_of, unknown_in};
-ghost use Rattle.schemars_impls.specs.Describes.{AreKnown};
 ghost use Rattle.schemars_impls.specs.Dictionary.{IsIn, KeepsTo, RefusesAs};
-ghost use Rattle.schemars_impls.specs.Fields.{bare_variant, FieldsAreKnown, VariantsAreKnown};
+ghost use Rattle.schemars_impls.specs.Fields.{bare_variant, FieldsAreKnown, NumbersAreKnown};
+ghost use Rattle.schemars_impls.specs.Fields.{VariantsAreKnown};
 ghost use Rattle.schemars_impls.specs.Keeps.{Keeps};
+ghost use Rattle.schemars_impls.specs.OwnRows.{RefusesNumbers};
 
 use crate::law::{JsonSchema, entry, register};
 use schemars_types::{
@@ -65,6 +66,33 @@ pub fn add_newtype<T: JsonSchema>(
     Ok(())
 }
 
+/// Adds a variant that has a value of the type with this number behind the others. An enum that is
+/// inside itself adds its own number so, or that of a list of it.
+///
+/// # Errors
+///
+/// `OutOfMemory`, or `UnknownType` if the table has no such row. The variants are then unchanged.
+pub fn add_newtype_of(
+    alloc: Global,
+    types: &Types,
+    variants: &mut Vec<Variant>,
+    name: &str,
+    ty: TypeNo,
+) -> Result<(), TypesError>
+    ensures known { OnOk result (VariantsAreKnown types.now (map variant_of variants.old.items)
+        → VariantsAreKnown types.now (map variant_of variants.new.items)) }
+    ensures adds { OnOk result (map variant_of variants.new.items
+        ≡ map variant_of variants.old.items ++ bare_variant name.now (newtype_payload ty) ∷ []) }
+    ensures unchanged { OnErr result (variants.new.items ≡ variants.old.items) }
+    ensures refused { IfErr result (RefusesNumbers types.now (ty ∷ [])) }
+{
+    if types.len() <= ty {
+        return Err(TypesError::UnknownType(ty));
+    }
+    push_variant(alloc, variants, name, Payload::Newtype(ty))?;
+    Ok(())
+}
+
 /// Adds a variant with these fields behind the others. A closed one allows no other keys.
 ///
 /// # Errors
@@ -109,7 +137,7 @@ pub fn add_tuple(
     ensures adds { OnOk result (map variant_of variants.new.items
         ≡ map variant_of variants.old.items
         ++ bare_variant name.now (tuple_payload numbers.items) ∷ []) }
-    ensures known { OnOk result ((rows : List Row) → AreKnown rows numbers.items
+    ensures known { OnOk result ((rows : List Row) → NumbersAreKnown rows numbers.items
         → VariantsAreKnown rows (map variant_of variants.old.items)
         → VariantsAreKnown rows (map variant_of variants.new.items)) }
     ensures unchanged { OnErr result (variants.new.items ≡ variants.old.items) }

@@ -23,10 +23,10 @@ use Rattle.schemars_plain.specs.Decided.{is_plain_payload, is_plain_variant, are
 use Rattle.schemars_plain.specs.Decided.{spread_variant_in, is_open, is_plain_part, are_plain_parts, payloads_have_plain_parts}
 use Rattle.schemars_plain.proofs.Literals.{always, itself, notes_decided}
 
-never : Decides false ⊥
+pub never : Decides false ⊥
 never = (λ e. absurd (true≢false (sym e)), λ p. absurd p)
 
-differ_decided : (b : Bool) → Decides (not b) (b ≡ false)
+pub differ_decided : (b : Bool) → Decides (not b) (b ≡ false)
 differ_decided true = (λ t. absurd (true≢false (sym t)), λ p. absurd (true≢false p))
 differ_decided false = (λ _. refl, λ _. refl)
 
@@ -36,7 +36,7 @@ not_or : {P : Type 0} (a b c : Bool) → a ≡ c → Decides (not b) P → Decid
 not_or true b c is d = (λ t. absurd (true≢false (sym t)), λ p. absurd (true≢false (is ∙ p.0)))
 not_or false b c is d = (λ t. (sym is, d.0 t), λ p. d.1 p.1)
 
-named_decided : (k : Text) (fs : List Field) → Decides (not (is_named k fs)) (IsNoName k fs)
+pub named_decided : (k : Text) (fs : List Field) → Decides (not (is_named k fs)) (IsNoName k fs)
 named_decided k [] = always
 named_decided k (f ∷ fs) = not_or (bytes_eq k f.name) (is_named k fs) (bytes_eq f.name k) (bytes_eq_comm k f.name) (named_decided k fs)
 

@@ -1,2 +1,3 @@
 -- The definitions that contracts cite.
 pub mod Decided
+pub mod Under

@@ -6,6 +6,7 @@ ghost use Rattle.schemars_types.specs.Effective.{fields_within, effective};
 ghost use Rattle.schemars_types.specs.Effective.{part_fields, flattened_in};
 ghost use Rattle.schemars_plain.specs.Decided.{as_said, all_noted, is_plain_list, names_said};
 ghost use Rattle.schemars_plain.specs.Decided.{struct_of, is_named};
+ghost use Rattle.schemars_plain.specs.Under.{field_names};
 
 use crate::names::all_differ;
 use crate::notes::are_annotations;
@@ -34,12 +35,29 @@ pub fn has_name(
     ensures { IfOk result (λ b. b
         ≡ is_named name.now (effective (flattened_in types.now) (fields_of fields.now))) }
 {
-    let found = all_fields(alloc, types, fields)?;
-    let names = names(alloc, &found)?;
+    let names = field_names(alloc, types, fields)?;
     Ok(is_listed(name, &names))
 }
 
-fn all_fields<'t>(
+/// The names of the fields of a struct, and of those of the rows flattened into it.
+pub fn field_names<'t>(
+    alloc: Global,
+    types: &'t Types,
+    fields: &'t Fields,
+) -> Result<Vec<&'t str>, AllocError>
+    ensures { IfOk result (λ v. map (λ n. n.now) v.items
+        ≡ field_names types.now (fields_of fields.now)) }
+{
+    let found = all_fields(alloc, types, fields)?;
+    names(alloc, &found)
+}
+
+/// Returns the fields of a struct, and then those of the rows flattened into it.
+///
+/// # Errors
+///
+/// Only where memory runs out.
+pub fn all_fields<'t>(
     alloc: Global,
     types: &'t Types,
     fields: &'t Fields,

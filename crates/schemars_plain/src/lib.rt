@@ -1,15 +1,19 @@
 //! Whether a table of types is plain: what the promises on documents ask of a table.
 #![tactic(auto)]
 
+mod enums;
 mod fields;
 mod literal;
 mod names;
 mod notes;
 mod parts;
 mod table;
+mod under;
 mod variants;
 
+pub use fields::all_fields;
 pub use literal::{has_one_value, is_plain_literal, is_plain_member};
 pub use notes::{are_notes, is_annotation};
 pub use parts::have_plain_parts;
 pub use table::{is_plain, is_plain_row, is_plain_shape};
+pub use under::{has_names_apart, has_parts_under, is_plain_row_under, is_plain_under};

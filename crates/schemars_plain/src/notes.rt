@@ -2,6 +2,7 @@
 ghost use Rattle.std.specs.Prelude.{◌≡◌, ◌↔◌, IsTrue};
 ghost use Rattle.serde_json.specs.View.{members_view};
 ghost use Rattle.schemars_schema.specs.Annotations.{is_annotation, AreNotes};
+ghost use Rattle.schemars_shapes.specs.Units.{is_none};
 ghost use Rattle.schemars_plain.specs.Decided.{are_annotations};
 
 use schemars_schema::edits::is_listed;
@@ -41,4 +42,11 @@ pub(crate) fn are_annotations(notes: &Map<String, Value>) -> bool
         }
     }
     true
+}
+
+/// Whether there are no notes.
+pub fn has_no_notes(notes: &Map<String, Value>) -> bool
+    ensures { result ≡ is_none (members_view notes.now.entries) }
+{
+    notes.is_empty()
 }

@@ -56,11 +56,20 @@ fn is_plain_payload(alloc: Global, types: &Types, payload: &Payload) -> Result<b
 pub fn names_differ(alloc: Global, variants: &[Variant]) -> Result<bool, AllocError>
     ensures { IfOk result (λ b. b ≡ all_differ (names_of_variants (map variant_of variants.now))) }
 {
+    let names = variant_names(alloc, variants)?;
+    Ok(all_differ(&names))
+}
+
+/// The names of the variants.
+pub fn variant_names(alloc: Global, variants: &[Variant]) -> Result<Vec<&str>, AllocError>
+    ensures { IfOk result (λ v. map (λ n. n.now) v.items
+        ≡ names_of_variants (map variant_of variants.now)) }
+{
     let mut names = Vec::new(alloc);
     for variant in variants {
         names.push(variant.name.as_str())?;
     }
-    Ok(all_differ(&names))
+    Ok(names)
 }
 
 /// The same for variants that are tagged inside their maps.

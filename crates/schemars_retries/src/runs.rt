@@ -35,7 +35,8 @@ fn write_line<R: Alloc<A = Global> + Print>(
     let words = words_of(rt.alloc(), words)?;
     let mut source = SourceOf::new(input.as_bytes());
     let mut sink = SinkOf::new(io::writer(rt));
-    Ok(run(rt.alloc(), &words, &mut source, &mut sink)?)
+    run(rt.alloc(), &words, &mut source, &mut sink)?;
+    Ok(())
 }
 
 fn words_of(alloc: Global, words: &[&str]) -> Result<Vec<String>, Stop> {

@@ -11,7 +11,8 @@ fn ended(alloc: Global, words: &[String], input: &[u8]) -> Result<(), Fault> {
     let mut source = SourceOf::new(input);
     let mut written = Vec::new(alloc);
     let mut sink = SinkOf::new(&mut written);
-    run(alloc, words, &mut source, &mut sink)
+    run(alloc, words, &mut source, &mut sink)?;
+    Ok(())
 }
 
 const OTHER_WORDS: [&[&str]; 4] = [

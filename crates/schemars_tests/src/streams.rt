@@ -58,7 +58,8 @@ fn trickle_of(calls: Calls) -> Trickle<'static> {
 fn ended(alloc: Global, words: &[String], calls: Calls, narrow: &mut Narrow) -> Result<(), Fault> {
     let mut source = SourceOf::new(trickle_of(calls));
     let mut sink = SinkOf::new(narrow);
-    run(alloc, words, &mut source, &mut sink)
+    run(alloc, words, &mut source, &mut sink)?;
+    Ok(())
 }
 
 // Whether a run over such streams ends in this way, with as many bytes of the line taken.
@@ -199,12 +200,15 @@ fn signals_of(
 ) -> (Result<(), Fault>, usize, usize) {
     let mut reader = Interrupted::new(trickle_of(calls));
     let mut writer = Interrupted::new(narrow);
-    let result = run(
+    let result = match run(
         alloc,
         words,
         &mut SourceOf::new(&mut reader),
         &mut SinkOf::new(&mut writer),
-    );
+    ) {
+        Ok(_) => Ok(()),
+        Err(fault) => Err(fault),
+    };
     (result, reader.seen, writer.seen)
 }
 

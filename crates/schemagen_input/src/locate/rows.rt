@@ -9,9 +9,17 @@ use crate::members::text_in;
 use schemagen_json::{BorrowedValue, lone_member};
 use schemars_schema::edits::is_listed;
 use std::alloc::Global;
+use std::collections::BTreeMap;
 
 const SHAPES: [&str; 8] = [
     "null", "bool", "number", "text", "char", "any", "bytes", "schema",
+];
+
+// These are written as objects with a member of this name.
+const LARGER_SHAPES: [&str; 21] = [
+    "int", "nonzero", "format", "option", "newtype", "seq", "set", "array", "up_to", "tuple",
+    "struct", "result", "bound", "range", "either", "map", "external", "untagged", "internal",
+    "adjacent", "literal",
 ];
 
 /// Stops at the first place at which a value is not a table.
@@ -28,9 +36,10 @@ pub fn check_table(alloc: Global, value: &BorrowedValue<'_>) -> Result<(), Stop>
 }
 
 fn check_each_row(alloc: Global, rows: &[BorrowedValue<'_>]) -> Result<(), Stop> {
+    let mut ids = BTreeMap::new(alloc);
     for (n, row) in rows.iter().enumerate() {
         inside_item(alloc, n, check_heading(alloc, row))?;
-        inside_item(alloc, n, check_id(alloc, &rows[..n], row))?;
+        inside_item(alloc, n, check_id(alloc, &mut ids, n, row))?;
     }
     for (n, row) in rows.iter().enumerate() {
         inside_item(alloc, n, check_entry(alloc, row, rows.len()))?;
@@ -44,21 +53,21 @@ fn check_heading(alloc: Global, row: &BorrowedValue<'_>) -> Result<(), Stop> {
     check_text(alloc, row, "name")
 }
 
-// No row before has the id of this one.
-fn check_id(
+// No row before has the id of row `n`.
+fn check_id<'a>(
     alloc: Global,
-    before: &[BorrowedValue<'_>],
-    row: &BorrowedValue<'_>,
+    ids: &mut BTreeMap<&'a str, usize>,
+    n: usize,
+    row: &BorrowedValue<'a>,
 ) -> Result<(), Stop> {
     let Some(id) = text_in(row, "id") else {
         return Ok(());
     };
-    for (n, other) in before.iter().enumerate() {
-        if text_in(other, "id") == Some(id) {
-            let reason = format!(in alloc; "row {n} has this id too")?;
-            return inside(alloc, "id", fault_here(alloc, reason));
-        }
+    if let Some(earlier) = ids.get(id) {
+        let reason = format!(in alloc; "row {earlier} has this id too")?;
+        return inside(alloc, "id", fault_here(alloc, reason));
     }
+    ids.insert(id, n)?;
     Ok(())
 }
 
@@ -74,7 +83,11 @@ fn check_entry(alloc: Global, row: &BorrowedValue<'_>, rows: usize) -> Result<()
 fn check_shape(alloc: Global, value: &BorrowedValue<'_>, rows: usize) -> Result<(), Stop> {
     match value {
         BorrowedValue::String(name) if is_listed(name, &SHAPES) => Ok(()),
-        BorrowedValue::String(_) => refuse(alloc, "no shape has this name, or this one says more"),
+        BorrowedValue::String(name) if is_listed(name, &LARGER_SHAPES) => {
+            let reason = format!(in alloc; "an object with a member {name:?} is expected here")?;
+            fault_here(alloc, reason)
+        }
+        BorrowedValue::String(_) => refuse(alloc, "no shape has this name"),
         BorrowedValue::Object(members) => match lone_member(members) {
             Some((name, part)) => inside(alloc, name, check_shape_under(alloc, name, part, rows)),
             None => refuse(alloc, "an object of one member is expected here"),

@@ -1,5 +1,5 @@
 //! Maps.
-ghost use Rattle.std.specs.Prelude.{◌≡◌, None, IfErr, IfOk, OnOk};
+ghost use Rattle.std.specs.Prelude.{◌≡◌, None, IfErr, IfOk, OnOk, string_bytes};
 ghost use Rattle.std.specs.Cow.{cow_str_bytes};
 ghost use Rattle.schemars_shapes.specs.Shape.{entry_of, shape_of};
 ghost use Rattle.schemars_types.specs.Names.{map_id, map_name};
@@ -84,6 +84,17 @@ pub(crate) fn map_id<K: JsonSchema, V: JsonSchema>(
         return Ok(CowStr::Owned(format!(in alloc; "Map<{value}>")?));
     }
     Ok(CowStr::Owned(format!(in alloc; "Map<{key}, {value}>")?))
+}
+
+/// Returns the id of maps from `K` to the type with this id.
+pub(crate) fn map_id_to<K: JsonSchema>(alloc: Global, value: &str) -> Result<String, AllocError>
+    ensures { IfOk result (λ t. string_bytes t ≡ map_id K.says.id value.now) }
+{
+    let key = K::schema_id(alloc)?;
+    if key.as_str() == "string" {
+        return format!(in alloc; "Map<{value}>");
+    }
+    format!(in alloc; "Map<{key}, {value}>")
 }
 
 /// Returns the entry of maps from `K` to `V`, which are registered.

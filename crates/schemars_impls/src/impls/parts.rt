@@ -1,11 +1,13 @@
 //! Types of several parts, and how the parts are added to a table, one after another.
-ghost use Rattle.std.specs.Prelude.{◌≡◌, ◌++◌, [], ◌∷◌, Some, IfErr, IfOk, OnOk};
+ghost use Rattle.std.specs.Prelude.{◌≡◌, ◌++◌, [], ◌∷◌, Some, IfErr, IfOk, OnErr, OnOk};
 ghost use Rattle.std.specs.Prelude.{codes, string_bytes};
 ghost use Rattle.std.specs.List.{flat_map};
 ghost use Rattle.schemars_types.specs.Rows.{place_of};
 ghost use Rattle.schemars_impls.specs.Describes.{Adds, AreKnown};
 ghost use Rattle.schemars_impls.specs.Keeps.{Keeps};
 ghost use Rattle.schemars_impls.specs.Dictionary.{IsIn, KeepsTo, RefusesAs};
+ghost use Rattle.schemars_impls.specs.Fields.{NumbersAreKnown};
+ghost use Rattle.schemars_impls.specs.OwnRows.{RefusesNumbers};
 ghost use Rattle.schemars_impls.specs.Containers.{PartRows, and_parts, no_parts};
 
 use crate::law::{JsonSchema, register};
@@ -109,6 +111,7 @@ impl<A: JsonSchema, R: Parts> Parts for And<A, R> {
 /// # Errors
 ///
 /// `OutOfMemory`, or what `register` returns. The numbers may have changed then.
+#[tactic(auto, using(crate::proofs::OwnTypes::adding_numbers))]
 pub fn add_one<T: JsonSchema>(
     alloc: Global,
     types: &mut Types,
@@ -119,10 +122,37 @@ pub fn add_one<T: JsonSchema>(
         (Adds (T.says.id ∷ []) types.old numbers.old.items types.new numbers.new.items) }
     ensures known { OnOk result
         (AreKnown types.old numbers.old.items → AreKnown types.new numbers.new.items) }
+    ensures numbers { OnOk result (NumbersAreKnown types.old numbers.old.items
+        → NumbersAreKnown types.new numbers.new.items) }
     ensures follows { OnOk result (KeepsTo (IsIn T.says) types.old types.new) }
     ensures refused { IfErr result (RefusesAs (IsIn T.says) types.old) }
 {
     let n = register::<T>(alloc, types)?;
     numbers.push(n)?;
+    Ok(())
+}
+
+/// Adds the number of a row behind the others. A type that is inside itself adds its own number so,
+/// or that of an option or a list of it.
+///
+/// # Errors
+///
+/// `OutOfMemory`, or `UnknownType` if the table has no such row. The numbers are then unchanged.
+#[tactic(auto, using(crate::proofs::OwnTypes::adding_numbers))]
+pub fn add_number(
+    types: &Types,
+    numbers: &mut Vec<TypeNo>,
+    number: TypeNo,
+) -> Result<(), TypesError>
+    ensures adds { OnOk result (numbers.new.items ≡ numbers.old.items ++ number ∷ []) }
+    ensures numbers { OnOk result (NumbersAreKnown types.now numbers.old.items
+        → NumbersAreKnown types.now numbers.new.items) }
+    ensures unchanged { OnErr result (numbers.new.items ≡ numbers.old.items) }
+    ensures refused { IfErr result (RefusesNumbers types.now (number ∷ [])) }
+{
+    if types.len() <= number {
+        return Err(TypesError::UnknownType(number));
+    }
+    numbers.push(number)?;
     Ok(())
 }

@@ -1,18 +1,13 @@
--- The sink has taken the text and its newline, or a beginning of them.
-use Rattle.std.proofs.Common.{ap, Err}
-use Rattle.schemagen_run.specs.Fault.{fault_of_writing}
+-- What is told of the line that was written, or was not, is told of the answer that has the output.
 use Rattle.schemagen_run.proofs.Results.{passed_on}
-use Rattle.schemagen_run.proofs.Writing.{ended, stopped}
+use Rattle.schemagen_run.proofs.Writing.{as_refused, as_written}
 use Rattle.schemagen_run.proofs.output.write_output.Goals as goal
 
-pub returns-in_err-write_text-clause-written : goal.returns-in_err-write_text-clause-written
-returns-in_err-write_text-clause-written g c =
-    let e = c.in_err-write_text.field-0.0 in
-    let why = c.in_err-write_text.ensures in
+pub returns-in_err-write_line_of-clause-written : goal.returns-in_err-write_line_of-clause-written
+returns-in_err-write_line_of-clause-written g c =
+    let e = c.in_err-write_line_of.field-0.0 in
     let r = c.from_residual.result in
-    stopped _ _ _ _ _ _ e r (passed_on r (fault_of_writing e) c.from_residual.ensures.1) (λ is. why.beginning (ap Err is))
-    (λ is. why.failed (ap Err is)) (λ is. absurd (why.memory (ap Err is)))
+    as_refused r e _ _ (passed_on r e c.from_residual.ensures.1) c.in_err-write_line_of.ensures.written
 
 pub returns-clause-written : goal.returns-clause-written
-returns-clause-written g c =
-    ended _ _ _ _ _ _ _ c.end_line.result c.in_ok-write_text.ensures.written c.end_line.ensures.written c.end_line.ensures.fault
+returns-clause-written g c = as_written _ _ _ _ c.in_ok-write_line_of.ensures.written

@@ -24,7 +24,7 @@ returns-in_err-output g c =
 
 pub returns : goal.returns
 returns g c = record {
-  written = weaker _ _ c.write_output-answer.result _ _ (λ line of. (c.in_ok-output.ensures.accepted, c.in_ok-output.ensures.ok line of))
-      c.write_output-answer.ensures.written;
-  refused = IfErr-weaker c.write_output-answer.result _ _ (λ e told. inl told) c.write_output-answer.ensures.fault;
+  written = weaker _ _ c.write_output.result _ _ (λ line of. (c.in_ok-output.ensures.accepted, c.in_ok-output.ensures.ok line of))
+      c.write_output.ensures.written;
+  refused = IfErr-weaker c.write_output.result _ _ (λ e told. inl told) c.write_output.ensures.fault;
 }

@@ -26,18 +26,18 @@ pub returns-in_err-n-clause-keeps : goal.returns-in_err-n-clause-keeps
 returns-in_err-n-clause-keeps g c = keeps-same _ _ c.in_err-n.ensures.err
 
 pub returns-in_err-entry-clause-keeps : goal.returns-in_err-entry-clause-keeps
-returns-in_err-entry-clause-keeps g c = reserved-then _ _ c.in_ok-n.ensures.ok c.in_err-entry.ensures.keeps.keeps
+returns-in_err-entry-clause-keeps g c = reserved-then _ _ c.in_ok-n.ensures.ok (c.in_err-entry.ensures.keeps.keeps tt)
 
 pub returns-in_err-define-clause-keeps : goal.returns-in_err-define-clause-keeps
 returns-in_err-define-clause-keeps g c =
-    keeps-trans (reserved-then _ _ c.in_ok-n.ensures.ok c.in_ok-entry.ensures.keeps.keeps) (keeps-same _ _ c.in_err-define.ensures.err)
+    keeps-trans (reserved-then _ _ c.in_ok-n.ensures.ok (c.in_ok-entry.ensures.keeps.keeps tt)) (keeps-same _ _ c.in_err-define.ensures.err)
 
 pub returns-then-is_some-clause-keeps : goal.returns-then-is_some-clause-keeps
 returns-then-is_some-clause-keeps g c = reserved-then _ _ c.in_ok-n.ensures.ok (keeps-refl _)
 
 pub returns-clause-keeps : goal.returns-clause-keeps
 returns-clause-keeps g c =
-    keeps-trans (reserved-then _ _ c.in_ok-n.ensures.ok c.in_ok-entry.ensures.keeps.keeps)
+    keeps-trans (reserved-then _ _ c.in_ok-n.ensures.ok (c.in_ok-entry.ensures.keeps.keeps tt))
     (define-keeps _ _ _ _ c.in_ok-define.ensures.refused c.in_ok-define.ensures.ok)
 
 pub returns-then-is_some-clause-added : goal.returns-then-is_some-clause-added
@@ -73,10 +73,10 @@ returns-clause-added g c =
     let kept = define-keeps _ _ _ _ c.in_ok-define.ensures.refused c.in_ok-define.ensures.ok in
     let e : Entry = entry_of c.in_ok-entry.entry in
     let last = c.json_schema.new.types in
-    let placed = place_of-kept t.id c.in_ok-n.n c.in_ok-entry.ensures.keeps.keeps there in
+    let placed = place_of-kept t.id c.in_ok-n.n (c.in_ok-entry.ensures.keeps.keeps tt) there in
     record {
       number = place_of-kept t.id c.in_ok-n.n kept placed;
-      name = λ none. reserved-name t.id t.name c.args.types.now mid _ c.in_ok-n.n mid_is there (keeps-trans c.in_ok-entry.ensures.keeps.keeps kept)
+      name = λ none. reserved-name t.id t.name c.args.types.now mid _ c.in_ok-n.n mid_is there (keeps-trans (c.in_ok-entry.ensures.keeps.keeps tt) kept)
           none;
       described = λ undefined. record {
         entry = record e { inline = t.inline };
@@ -175,7 +175,7 @@ returns-clause-follows g c =
     let there : place_of t.id mid ≡ Some c.in_ok-n.n = ap (λ i. place_of i mid) (sym id_is) ∙ c.in_ok-n.ensures.number in
     let full = ap is_some (sym c.entry.ensures) ∙ is_some-map (λ e. entry_of e.now) c.entry.result ∙ sym c.is_some.ensures in
     registered-follows t c.args.types.now mid c.json_schema.new.types c.in_ok-n.n mid_is there (full ∙ c.if-is_some.false)
-    c.inline_schema.result (entry_of c.in_ok-entry.entry) _ c.inline_schema.ensures c.in_ok-entry.ensures.keeps.keeps
+    c.inline_schema.result (entry_of c.in_ok-entry.entry) _ c.inline_schema.ensures (c.in_ok-entry.ensures.keeps.keeps tt)
     c.in_ok-entry.ensures.follows c.in_ok-entry.ensures.made c.in_ok-define.ensures.ok
     (define-keeps _ _ _ _ c.in_ok-define.ensures.refused c.in_ok-define.ensures.ok)
 
@@ -191,7 +191,7 @@ returns-clause-completes g c =
     let there : place_of t.id mid ≡ Some c.in_ok-n.n = ap (λ i. place_of i mid) (sym id_is) ∙ c.in_ok-n.ensures.number in
     let full = ap is_some (sym c.entry.ensures) ∙ is_some-map (λ e. entry_of e.now) c.entry.result ∙ sym c.is_some.ensures in
     registered-completes t c.args.types.now mid c.json_schema.new.types c.in_ok-n.n mid_is there (full ∙ c.if-is_some.false)
-    c.inline_schema.result (entry_of c.in_ok-entry.entry) _ c.inline_schema.ensures c.in_ok-entry.ensures.keeps.keeps
+    c.inline_schema.result (entry_of c.in_ok-entry.entry) _ c.inline_schema.ensures (c.in_ok-entry.ensures.keeps.keeps tt)
     c.in_ok-entry.ensures.follows c.in_ok-entry.ensures.made c.in_ok-define.ensures.ok
     (define-keeps _ _ _ _ c.in_ok-define.ensures.refused c.in_ok-define.ensures.ok)
 
@@ -228,7 +228,7 @@ returns-in_err-define-clause-refused g c =
       present = λ present.
           absurd (never-present t.id t.name c.args.types.now mid c.in_ok-n.n mid_is there (full ∙ c.if-is_some.false) present);
       as_told = never-refused t c.args.types.now mid c.json_schema.new.types c.in_ok-n.n mid_is there (full ∙ c.if-is_some.false)
-          (record (entry_of c.in_ok-entry.entry) { inline = c.inline_schema.result }) _ c.in_ok-entry.ensures.keeps.keeps
+          (record (entry_of c.in_ok-entry.entry) { inline = c.inline_schema.result }) _ (c.in_ok-entry.ensures.keeps.keeps tt)
           c.in_ok-entry.ensures.follows c.in_ok-entry.ensures.known c.in_err-define.ensures.refused;
     } in
     search rules

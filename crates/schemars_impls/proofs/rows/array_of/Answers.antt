@@ -4,12 +4,14 @@ use Rattle.schemars_types.specs.declared.error.TypesError.TheVariants.{OutOfMemo
 use Rattle.schemars_types.specs.Names.{array_id, array_name}
 use Rattle.schemars_types.specs.Refusals.{Refuses, Registers}
 use Rattle.schemars_types.specs.Rows.{place_of, id_at, name_at}
+use Rattle.schemars_impls.specs.OwnRows.{HasArrayOf}
 use Rattle.schemars_impls.proofs.Keeping.{keeps-same, keeps-trans, reserved_keeps}
 use Rattle.schemars_impls.proofs.Following.{id-there}
-use Rattle.schemars_impls.proofs.OwnRows.{row-made, row-present, made-memory, array-known, row_of_keeps, array_follows}
+use Rattle.schemars_impls.proofs.OwnRows.{row-made, row-present, made-memory, array-known, row_of_keeps, placed_number, array_follows}
 use Rattle.schemars_impls.proofs.rows.array_of.Goals as goal
 
 pub returns-clause-has : goal.returns-clause-has
+unfolding HasArrayOf
 returns-clause-has c =
     let id = c.args.id.now in
     let name = c.args.name.now in
@@ -95,3 +97,28 @@ returns-in-Some-clause-follows c =
     ap (λ i. place_of i mid) (sym (c.as_str.ensures.value ∙ c.in_ok-made.ensures)) ∙ sym c.find.ensures ∙ found in
     array_follows c.args.len id name (row-present id name (array_id id c.args.len) (λ x. array_name x c.args.len) (λ k. in_place (array_of k c.args.len)) c.args.types.now mid c.in_ok-n.n
     c.in_ok-n.ensures.reserves c.in_ok-n.ensures.number c.in-Some.there there)
+
+pub returns-clause-known : goal.returns-clause-known
+returns-clause-known c = placed_number _ c.in_ok-number.ensures.ok.number
+
+pub returns-in-Some-clause-has : goal.returns-in-Some-clause-has
+unfolding HasArrayOf
+returns-in-Some-clause-has c =
+    let id = c.args.id.now in
+    let name = c.args.name.now in
+    let mid = c.reserve.new.types in
+    let found : c.find.result ≡ Some c.in-Some.there = grind arith in
+    let there : place_of (array_id id c.args.len) mid ≡ Some c.in-Some.there =
+    ap (λ i. place_of i mid) (sym (c.as_str.ensures.value ∙ c.in_ok-made.ensures)) ∙ sym c.find.ensures ∙ found in
+    row-present id name (array_id id c.args.len) (λ x. array_name x c.args.len) (λ k. in_place (array_of k c.args.len)) c.args.types.now mid c.in_ok-n.n
+    c.in_ok-n.ensures.reserves c.in_ok-n.ensures.number c.in-Some.there there
+
+pub returns-in-Some-clause-known : goal.returns-in-Some-clause-known
+returns-in-Some-clause-known c =
+    let id = c.args.id.now in
+    let name = c.args.name.now in
+    let mid = c.reserve.new.types in
+    let found : c.find.result ≡ Some c.in-Some.there = grind arith in
+    let there : place_of (array_id id c.args.len) mid ≡ Some c.in-Some.there =
+    ap (λ i. place_of i mid) (sym (c.as_str.ensures.value ∙ c.in_ok-made.ensures)) ∙ sym c.find.ensures ∙ found in
+    placed_number _ there

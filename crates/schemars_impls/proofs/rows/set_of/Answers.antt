@@ -6,7 +6,7 @@ use Rattle.schemars_types.specs.Refusals.{Refuses, Registers}
 use Rattle.schemars_types.specs.Rows.{place_of, id_at, name_at}
 use Rattle.schemars_impls.proofs.Keeping.{keeps-same, keeps-trans, reserved_keeps}
 use Rattle.schemars_impls.proofs.Following.{id-there}
-use Rattle.schemars_impls.proofs.OwnRows.{row-made, row-present, made-memory, known-alone, row_of_keeps, set_follows}
+use Rattle.schemars_impls.proofs.OwnRows.{row-made, row-present, made-memory, known-alone, row_of_keeps, placed_number, set_follows}
 use Rattle.schemars_impls.proofs.rows.set_of.Goals as goal
 
 pub returns-clause-has : goal.returns-clause-has
@@ -95,3 +95,16 @@ returns-in-Some-clause-follows c =
     ap (λ i. place_of i mid) (sym (c.as_str.ensures.value ∙ c.in_ok-made.ensures.ok)) ∙ sym c.find.ensures ∙ found in
     set_follows id name (row-present id name (set_id id) set_name (λ k. in_place (set k)) c.args.types.now mid c.in_ok-n.n
     c.in_ok-n.ensures.reserves c.in_ok-n.ensures.number c.in-Some.there there)
+
+pub returns-clause-known : goal.returns-clause-known
+returns-clause-known c = placed_number _ c.in_ok-number.ensures.ok.number
+
+pub returns-in-Some-clause-known : goal.returns-in-Some-clause-known
+returns-in-Some-clause-known c =
+    let id = c.args.id.now in
+    let name = c.args.name.now in
+    let mid = c.reserve.new.types in
+    let found : c.find.result ≡ Some c.in-Some.there = grind arith in
+    let there : place_of (set_id id) mid ≡ Some c.in-Some.there =
+    ap (λ i. place_of i mid) (sym (c.as_str.ensures.value ∙ c.in_ok-made.ensures.ok)) ∙ sym c.find.ensures ∙ found in
+    placed_number _ there

@@ -1,0 +1,264 @@
+//! Values that attributes give, as JSON text.
+use crate::context::Context;
+use schemaderive_syntax::{Cursor, Fault, Meta, MetaValue, TokenKind};
+use std::alloc::{AllocError, Global};
+
+// How deep values may nest.
+const MAX_DEPTH: usize = 64;
+
+/// Writes a text as a JSON string.
+pub fn push_quoted(alloc: Global, out: &mut String, text: &str) -> Result<(), AllocError> {
+    out.push('"')?;
+    for c in text.chars() {
+        match c {
+            '"' => out.push_str("\\\"")?,
+            '\\' => out.push_str("\\\\")?,
+            '\n' => out.push_str("\\n")?,
+            '\r' => out.push_str("\\r")?,
+            '\t' => out.push_str("\\t")?,
+            c if c < ' ' => {
+                let code = u32::from(c);
+                let escape = format!(in alloc; "\\u{code:04x}")?;
+                out.push_str(escape.as_str())?;
+            }
+            c => out.push(c)?,
+        }
+    }
+    out.push('"')
+}
+
+/// The text that an attribute has behind `=`.
+///
+/// # Errors
+///
+/// It has none, or the text is computed.
+pub fn text_of(context: &Context, meta: &Meta<'_>) -> Result<String, Fault> {
+    match meta.value {
+        MetaValue::Doc(text) => Ok(String::from_str(context.alloc, text)?),
+        MetaValue::Equals(cursor) => match literal_text(context, cursor)? {
+            Some(text) => Ok(text),
+            None => Err(context.refused_meta(meta, "a literal text is wanted here")),
+        },
+        _ => Err(context.refused_meta(meta, "a text is wanted here")),
+    }
+}
+
+/// The text of a literal, or of literals in `concat!`.
+pub fn literal_text(context: &Context, tokens: Cursor<'_>) -> Result<Option<String>, Fault> {
+    let mut cursor = tokens;
+    if cursor.is_word("concat") && cursor.is_symbol(1, '!') {
+        let _ = cursor.advance();
+        let _ = cursor.advance();
+        let inside = cursor.group(context.alloc)?;
+        return joined_text(context, inside);
+    }
+    let _ = cursor.take_symbol('&');
+    match cursor.advance() {
+        Some(token) if token.kind == TokenKind::Text && cursor.is_empty() => Ok(Some(
+            String::from_str(context.alloc, token.text.as_str())?,
+        )),
+        _ => Ok(None),
+    }
+}
+
+// The texts in a list, one behind the other.
+fn joined_text(context: &Context, list: Cursor<'_>) -> Result<Option<String>, Fault> {
+    let mut cursor = list;
+    let mut text = String::new(context.alloc);
+    for _ in 0..list.len() {
+        match cursor.advance() {
+            None => break,
+            Some(token) if token.kind == TokenKind::Text => text.push_str(token.text.as_str())?,
+            Some(_) => return Ok(None),
+        }
+        let _ = cursor.take_symbol(',');
+    }
+    Ok(Some(text))
+}
+
+/// The value that an attribute has behind `=`, as JSON.
+///
+/// # Errors
+///
+/// It has none, or the value is computed.
+pub fn json_of(context: &Context, meta: &Meta<'_>) -> Result<String, Fault> {
+    match meta.value {
+        MetaValue::Equals(cursor) => match json_text(context, cursor)? {
+            Some(json) => Ok(json),
+            None => Err(context.refused_meta(
+                meta,
+                "a literal is wanted here, since what an expression gives is not known",
+            )),
+        },
+        _ => Err(context.refused_meta(meta, "a value is wanted here")),
+    }
+}
+
+// The JSON of all the tokens.
+fn json_text(context: &Context, tokens: Cursor<'_>) -> Result<Option<String>, Fault> {
+    let mut cursor = tokens;
+    let mut out = String::new(context.alloc);
+    let is_read = push_value(context, &mut cursor, &mut out, MAX_DEPTH)?;
+    if is_read && cursor.is_empty() {
+        return Ok(Some(out));
+    }
+    Ok(None)
+}
+
+// Writes the value that comes next; false if it is computed.
+#[cycle(values)]
+fn push_value(
+    context: &Context,
+    cursor: &mut Cursor<'_>,
+    out: &mut String,
+    depth: usize,
+) -> Result<bool, Fault> {
+    let Some(token) = cursor.peek(0) else {
+        return Ok(false);
+    };
+    if depth == 0 {
+        return Err(context.refused(token.place, "nested too deeply"));
+    }
+    match token.kind {
+        TokenKind::Text | TokenKind::Character => {
+            let _ = cursor.advance();
+            push_quoted(context.alloc, out, token.text.as_str())?;
+            Ok(true)
+        }
+        TokenKind::Number => {
+            let _ = cursor.advance();
+            push_number(out, token.text.as_str())
+        }
+        TokenKind::Symbol('-') => {
+            let _ = cursor.advance();
+            out.push('-')?;
+            match cursor.advance() {
+                Some(token) if token.kind == TokenKind::Number => {
+                    push_number(out, token.text.as_str())
+                }
+                _ => Ok(false),
+            }
+        }
+        TokenKind::Symbol('&') => {
+            let _ = cursor.advance();
+            push_value(context, cursor, out, depth - 1)
+        }
+        TokenKind::Symbol('[') => push_list(context, cursor, out, depth - 1),
+        TokenKind::Symbol('{') => push_object(context, cursor, out, depth - 1),
+        TokenKind::Word => push_word(context, cursor, out, depth - 1),
+        _ => Ok(false),
+    }
+}
+
+// Writes a constant, or the value in `json!`.
+#[cycle(values)]
+fn push_word(
+    context: &Context,
+    cursor: &mut Cursor<'_>,
+    out: &mut String,
+    depth: usize,
+) -> Result<bool, Fault> {
+    for word in ["true", "false", "null"] {
+        if cursor.take_word(word) {
+            out.push_str(word)?;
+            return Ok(true);
+        }
+    }
+    if cursor.take_word("serde_json") && !cursor.take_colons() {
+        return Ok(false);
+    }
+    if depth == 0 || !cursor.is_word("json") || !cursor.is_symbol(1, '!') {
+        return Ok(false);
+    }
+    let _ = cursor.advance();
+    let _ = cursor.advance();
+    let mut inside = cursor.group(context.alloc)?;
+    let is_read = push_value(context, &mut inside, out, depth - 1)?;
+    Ok(is_read && inside.is_empty())
+}
+
+#[cycle(values)]
+fn push_list(
+    context: &Context,
+    cursor: &mut Cursor<'_>,
+    out: &mut String,
+    depth: usize,
+) -> Result<bool, Fault> {
+    let mut inside = cursor.group(context.alloc)?;
+    out.push('[')?;
+    for number in 0..inside.len() {
+        if inside.is_empty() {
+            break;
+        }
+        if number > 0 {
+            out.push(',')?;
+        }
+        if depth == 0 || !push_value(context, &mut inside, out, depth - 1)? {
+            return Ok(false);
+        }
+        if !inside.take_symbol(',') && !inside.is_empty() {
+            return Ok(false);
+        }
+    }
+    out.push(']')?;
+    Ok(true)
+}
+
+#[cycle(values)]
+fn push_object(
+    context: &Context,
+    cursor: &mut Cursor<'_>,
+    out: &mut String,
+    depth: usize,
+) -> Result<bool, Fault> {
+    let mut inside = cursor.group(context.alloc)?;
+    out.push('{')?;
+    for number in 0..inside.len() {
+        let Some(token) = inside.advance() else {
+            break;
+        };
+        if token.kind != TokenKind::Text || !inside.take_symbol(':') {
+            return Ok(false);
+        }
+        if number > 0 {
+            out.push(',')?;
+        }
+        push_quoted(context.alloc, out, token.text.as_str())?;
+        out.push(':')?;
+        if depth == 0 || !push_value(context, &mut inside, out, depth - 1)? {
+            return Ok(false);
+        }
+        if !inside.take_symbol(',') && !inside.is_empty() {
+            return Ok(false);
+        }
+    }
+    out.push('}')?;
+    Ok(true)
+}
+
+// Writes a number in decimal digits; false if it is written otherwise.
+fn push_number(out: &mut String, text: &str) -> Result<bool, Fault> {
+    if text.starts_with("0x") || text.starts_with("0b") || text.starts_with("0o") {
+        return Ok(false);
+    }
+    let mut has_digit = false;
+    let mut is_zero = false;
+    for c in text.chars() {
+        match c {
+            'u' | 'i' | 'f' => break,
+            '_' => {}
+            '0' if !has_digit => is_zero = true,
+            c => {
+                if !has_digit && !c.is_ascii_digit() && is_zero {
+                    out.push('0')?;
+                }
+                has_digit = true;
+                out.push(c)?;
+            }
+        }
+    }
+    if !has_digit {
+        out.push('0')?;
+    }
+    Ok(true)
+}

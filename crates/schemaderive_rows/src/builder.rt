@@ -1,0 +1,168 @@
+//! Rows that are being made.
+use crate::row::Row;
+use schemaderive_options::Context;
+use schemaderive_syntax::Source;
+use std::alloc::{AllocError, Global};
+use std::collections::BTreeMap;
+
+/// What a name stands for.
+#[derive(Clone, Copy)]
+pub enum Item {
+    /// the declaration with this number
+    Declaration(usize),
+    /// the alias with this number
+    Alias(usize),
+}
+
+/// What a parameter stands for.
+#[derive(Drop)]
+pub enum Value {
+    /// the type of a row
+    Row(usize),
+    /// a constant, as it is written
+    Constant(String),
+}
+
+/// A parameter, and what it stands for.
+#[derive(Drop)]
+pub struct Binding {
+    /// its name
+    pub name: String,
+    /// what it stands for
+    pub value: Value,
+}
+
+/// Where names are looked up.
+#[derive(Drop)]
+pub struct Scope {
+    /// the path of the module
+    pub module: String,
+    /// the parameters
+    pub bindings: Vec<Binding>,
+    /// the row of `Self`
+    pub this: Option<usize>,
+}
+
+impl Scope {
+    /// The scope of a module.
+    pub fn new(alloc: Global, module: &str) -> Result<Scope, AllocError> {
+        Ok(Scope {
+            module: String::from_str(alloc, module)?,
+            bindings: Vec::new(alloc),
+            this: None,
+        })
+    }
+
+    /// What the parameter with this name stands for.
+    pub fn get(&self, name: &str) -> Option<&Value> {
+        for binding in &self.bindings {
+            if binding.name.as_str() == name {
+                return Some(&binding.value);
+            }
+        }
+        None
+    }
+}
+
+/// A declaration with arguments, whose row is reserved.
+#[derive(Drop)]
+pub struct Instance {
+    /// the row
+    pub row: usize,
+    /// the number of the declaration
+    pub declaration: usize,
+    /// where its names are looked up
+    pub scope: Scope,
+}
+
+/// Rows that are being made of what a source declares.
+#[derive(Drop)]
+pub struct Builder<'a> {
+    /// what attributes are read for, and what is to be said of them
+    pub context: Context,
+    /// what the source declares
+    pub source: &'a Source<'a>,
+    /// what paths stand for
+    pub items: BTreeMap<String, Item>,
+    /// the rows
+    pub rows: Vec<Row>,
+    /// the rows by their ids
+    pub ids: BTreeMap<String, usize>,
+    /// the declarations whose rows are reserved
+    pub instances: Vec<Instance>,
+}
+
+impl<'a> Builder<'a> {
+    /// A builder without rows.
+    pub fn new(context: Context, source: &'a Source<'a>) -> Result<Builder<'a>, AllocError> {
+        let alloc = context.alloc;
+        let mut items = BTreeMap::new(alloc);
+        for (number, declaration) in source.declarations.iter().enumerate() {
+            let path = joined(alloc, declaration.module.as_str(), declaration.name)?;
+            items.insert(path, Item::Declaration(number))?;
+        }
+        for (number, alias) in source.aliases.iter().enumerate() {
+            let path = joined(alloc, alias.module.as_str(), alias.name)?;
+            items.insert(path, Item::Alias(number))?;
+        }
+        Ok(Builder {
+            context,
+            source,
+            items,
+            rows: Vec::new(alloc),
+            ids: BTreeMap::new(alloc),
+            instances: Vec::new(alloc),
+        })
+    }
+
+    /// The allocator.
+    pub fn alloc(&self) -> Global {
+        self.context.alloc
+    }
+
+    /// The row with this id.
+    pub fn row_by_id(&self, id: &str) -> Option<usize> {
+        self.ids.get(id).copied()
+    }
+
+    /// Adds a row, unless there is one with its id, and returns its number.
+    pub fn add(&mut self, row: Row) -> Result<usize, AllocError> {
+        if let Some(number) = self.row_by_id(row.id.as_str()) {
+            return Ok(number);
+        }
+        let number = self.rows.len();
+        let id = String::from_str(self.alloc(), row.id.as_str())?;
+        self.ids.insert(id, number)?;
+        self.rows.push(row)?;
+        Ok(number)
+    }
+
+    /// The row with this number.
+    pub fn row(&self, number: usize) -> Option<&Row> {
+        self.rows.get(number)
+    }
+
+    /// The id of a row.
+    pub fn id(&self, number: usize) -> &str {
+        match self.rows.get(number) {
+            Some(row) => row.id.as_str(),
+            None => "",
+        }
+    }
+
+    /// The name of a row.
+    pub fn name(&self, number: usize) -> &str {
+        match self.rows.get(number) {
+            Some(row) => row.name.as_str(),
+            None => "",
+        }
+    }
+}
+
+/// A path of two.
+pub fn joined(alloc: Global, module: &str, name: &str) -> Result<String, AllocError> {
+    if module.is_empty() {
+        return String::from_str(alloc, name);
+    }
+    format!(in alloc; "{module}::{name}")
+}

@@ -1,0 +1,357 @@
+//! The rows of types as they are written.
+use crate::builder::{Binding, Builder, Item, Scope, Value};
+use crate::defining::{one_field, used_parameters};
+use crate::instances::Standing;
+use crate::known::{Made, made_named, null_row};
+use crate::resolving::Resolved;
+use crate::row::Row;
+use schemaderive_options::{Context, Contract};
+use schemaderive_syntax::{
+    Cursor, Fault, Parameter, Place, Refusal, Source, TypeExpr, read_tokens, read_type,
+};
+use std::alloc::Global;
+
+// How deep types may nest.
+const MAX_DEPTH: usize = 128;
+
+// How many declarations with arguments a table may have.
+const MAX_INSTANCES: usize = 10_000;
+
+/// A table of types.
+#[derive(Drop)]
+pub struct Table {
+    /// its rows
+    pub rows: Vec<Row>,
+    /// the number of the row whose document is wanted
+    pub root: usize,
+    /// what is to be said of the attributes
+    pub warnings: Vec<Refusal>,
+}
+
+/// The table of the types that a type leads to.
+///
+/// # Errors
+///
+/// A type is not known, or an attribute says what a table can't say.
+pub fn table_of<'a>(
+    alloc: Global,
+    source: &'a Source<'a>,
+    root: &str,
+    contract: Contract,
+) -> Result<Table, Fault> {
+    let context = Context::new(alloc, contract);
+    let mut builder = Builder::new(context, source)?;
+    let start = Place { line: 0, column: 0 };
+    let tokens = read_tokens(alloc, root, start)?;
+    let ty = read_type(alloc, Cursor::new(&tokens, start))?;
+    let scope = Scope::new(alloc, "")?;
+    let root = builder.row_of(&ty, &scope, start, MAX_DEPTH)?;
+    builder.define_all()?;
+    Ok(builder.into_table(root))
+}
+
+impl<'a> Builder<'a> {
+    fn into_table(self, root: usize) -> Table {
+        let Builder {
+            context,
+            source: _,
+            items: _,
+            rows,
+            ids: _,
+            instances: _,
+        } = self;
+        let Context {
+            alloc: _,
+            contract: _,
+            warnings,
+        } = context;
+        Table {
+            rows,
+            root,
+            warnings,
+        }
+    }
+
+    // Defines the rows of the declarations that are reserved, and of those that they lead to.
+    fn define_all(&mut self) -> Result<(), Fault> {
+        for number in 0..MAX_INSTANCES {
+            if number >= self.instances.len() {
+                return Ok(());
+            }
+            self.define(number)?;
+        }
+        let place = Place { line: 0, column: 0 };
+        Err(
+            self.context
+                .refused(place, "these are more than 10000 types"),
+        )
+    }
+
+    /// The row of a type.
+    ///
+    /// # Errors
+    ///
+    /// The type is not known, or nests too deeply.
+    #[cycle(rows)]
+    pub fn row_of(
+        &mut self,
+        ty: &TypeExpr,
+        scope: &Scope,
+        place: Place,
+        depth: usize,
+    ) -> Result<usize, Fault> {
+        if depth == 0 {
+            return Err(self.context.refused(place, "this nests too deeply"));
+        }
+        match ty {
+            TypeExpr::Path {
+                segments,
+                arguments,
+                place,
+            } => self.row_of_path(segments, arguments, scope, *place, depth - 1),
+            TypeExpr::Tuple(parts) => self.row_of_tuple(parts, scope, place, depth - 1),
+            TypeExpr::Array(item, length) => {
+                self.row_of_array(item, length.as_str(), scope, place, depth - 1)
+            }
+            TypeExpr::Slice(item) => {
+                let item = self.row_of(item, scope, place, depth - 1)?;
+                Ok(self.list_row(item)?)
+            }
+            TypeExpr::Reference(inner) => self.row_of(inner, scope, place, depth - 1),
+            TypeExpr::Constant(_) => Err(self.context.refused(place, "a constant is no type")),
+            TypeExpr::Other(place) => {
+                let reason = "a type of this form has no schema";
+                Err(self.context.refused(*place, reason))
+            }
+        }
+    }
+
+    // The row of a tuple.
+    #[cycle(rows)]
+    fn row_of_tuple(
+        &mut self,
+        parts: &[TypeExpr],
+        scope: &Scope,
+        place: Place,
+        depth: usize,
+    ) -> Result<usize, Fault> {
+        if parts.is_empty() {
+            let row = null_row(self.alloc())?;
+            return Ok(self.add(row)?);
+        }
+        if depth == 0 {
+            return Err(self.context.refused(place, "this nests too deeply"));
+        }
+        let rows = self.rows_of(parts, parts.len(), scope, place, depth - 1)?;
+        Ok(self.tuple_row(&rows)?)
+    }
+
+    // The row of an array. One without items has no row of them.
+    #[cycle(rows)]
+    fn row_of_array(
+        &mut self,
+        item: &TypeExpr,
+        length: &str,
+        scope: &Scope,
+        place: Place,
+        depth: usize,
+    ) -> Result<usize, Fault> {
+        if depth == 0 {
+            return Err(self.context.refused(place, "this nests too deeply"));
+        }
+        if self.is_empty_length(length, scope, place)? {
+            return Ok(self.empty_array_row()?);
+        }
+        let item = self.row_of(item, scope, place, depth - 1)?;
+        self.row_of_length(item, length, scope, place)
+    }
+
+    // The rows of the first types, as many.
+    #[cycle(rows)]
+    fn rows_of(
+        &mut self,
+        types: &[TypeExpr],
+        count: usize,
+        scope: &Scope,
+        place: Place,
+        depth: usize,
+    ) -> Result<Vec<usize>, Fault> {
+        let mut rows = Vec::new(self.alloc());
+        if depth == 0 {
+            return Err(self.context.refused(place, "this nests too deeply"));
+        }
+        for ty in types.iter().take(count) {
+            let row = self.row_of(ty, scope, place, depth - 1)?;
+            rows.push(row)?;
+        }
+        Ok(rows)
+    }
+
+    // The row of what a path stands for.
+    #[cycle(rows)]
+    fn row_of_path(
+        &mut self,
+        segments: &[String],
+        arguments: &[TypeExpr],
+        scope: &Scope,
+        place: Place,
+        depth: usize,
+    ) -> Result<usize, Fault> {
+        if let Some(row) = self.bound_row(segments, scope, place)? {
+            return Ok(row);
+        }
+        if depth == 0 {
+            return Err(self.context.refused(place, "this nests too deeply"));
+        }
+        match self.resolve(scope.module.as_str(), segments)? {
+            Resolved::Own(Item::Declaration(number)) => {
+                self.row_of_declaration(number, arguments, scope, place, depth - 1)
+            }
+            Resolved::Own(Item::Alias(number)) => {
+                self.row_of_alias(number, arguments, scope, place, depth - 1)
+            }
+            Resolved::Foreign(name, origin) => {
+                match made_named(name.as_str(), origin.as_str()) {
+                    Some(made) => self.row_of_made(made, arguments, scope, place, depth - 1),
+                    None => self.row_of_known(name.as_str(), origin.as_str(), arguments, place),
+                }
+            }
+        }
+    }
+
+    // The row of a type of another crate that is made of its arguments.
+    #[cycle(rows)]
+    fn row_of_made(
+        &mut self,
+        made: Made,
+        arguments: &[TypeExpr],
+        scope: &Scope,
+        place: Place,
+        depth: usize,
+    ) -> Result<usize, Fault> {
+        if depth == 0 {
+            return Err(self.context.refused(place, "this nests too deeply"));
+        }
+        if made == Made::NonZero {
+            return self.row_of_nonzero(arguments, place);
+        }
+        let rows = self.rows_of(arguments, made.arity(), scope, place, depth - 1)?;
+        self.row_of_parts(made, &rows, arguments, scope, place)
+    }
+
+    // The row of what an alias stands for.
+    #[cycle(rows)]
+    fn row_of_alias(
+        &mut self,
+        number: usize,
+        arguments: &[TypeExpr],
+        scope: &Scope,
+        place: Place,
+        depth: usize,
+    ) -> Result<usize, Fault> {
+        let source = self.source;
+        let Some(alias) = source.aliases.get(number) else {
+            return Err(self.context.refused(place, "this alias is not there"));
+        };
+        if depth == 0 {
+            return Err(self.context.refused(place, "this nests too deeply"));
+        }
+        let inner = Scope::new(self.alloc(), alias.module.as_str())?;
+        let parameters = &alias.parameters;
+        let inner = self.bound(inner, parameters, &[], arguments, scope, place, depth - 1)?;
+        self.row_of(&alias.ty, &inner, place, depth - 1)
+    }
+
+    // The row of a declaration. That of one that stands for another type is the row of that.
+    #[cycle(rows)]
+    fn row_of_declaration(
+        &mut self,
+        number: usize,
+        arguments: &[TypeExpr],
+        scope: &Scope,
+        place: Place,
+        depth: usize,
+    ) -> Result<usize, Fault> {
+        let source = self.source;
+        let Some(declaration) = source.declarations.get(number) else {
+            return Err(self.context.refused(place, "this type is not there"));
+        };
+        self.require_derive(declaration, place)?;
+        if depth == 0 {
+            return Err(self.context.refused(place, "this nests too deeply"));
+        }
+        let used = used_parameters(self.alloc(), declaration)?;
+        let inner = Scope::new(self.alloc(), declaration.module.as_str())?;
+        let parameters = &declaration.parameters;
+        let inner = self.bound(inner, parameters, &used, arguments, scope, place, depth - 1)?;
+        match self.standing(declaration)? {
+            Standing::Type(ty) => self.row_of(&ty, &inner, place, depth - 1),
+            Standing::Field => match one_field(&declaration.body) {
+                Some(field) => self.row_of(&field.ty, &inner, field.place, depth - 1),
+                None => Err(self.context.refused(place, "a field is wanted")),
+            },
+            Standing::Itself => self.reserve(number, declaration, inner),
+        }
+    }
+
+    // A scope with what parameters stand for, but for those that are marked as unused.
+    #[cycle(rows)]
+    fn bound(
+        &mut self,
+        inner: Scope,
+        parameters: &[Parameter<'_>],
+        used: &[bool],
+        arguments: &[TypeExpr],
+        scope: &Scope,
+        place: Place,
+        depth: usize,
+    ) -> Result<Scope, Fault> {
+        let mut inner = inner;
+        if depth == 0 {
+            return Err(self.context.refused(place, "this nests too deeply"));
+        }
+        for (number, parameter) in parameters.iter().enumerate() {
+            if used.get(number) == Some(&false) {
+                continue;
+            }
+            let Some(argument) = arguments.get(number) else {
+                return Err(self.context.refused(place, "an argument is missing here"));
+            };
+            let binding = self.binding(parameter, argument, scope, place, depth - 1)?;
+            inner.bindings.push(binding)?;
+        }
+        Ok(inner)
+    }
+
+    // What a parameter stands for.
+    #[cycle(rows)]
+    fn binding(
+        &mut self,
+        parameter: &Parameter<'_>,
+        argument: &TypeExpr,
+        scope: &Scope,
+        place: Place,
+        depth: usize,
+    ) -> Result<Binding, Fault> {
+        let alloc = self.alloc();
+        if depth == 0 {
+            return Err(self.context.refused(place, "this nests too deeply"));
+        }
+        match parameter {
+            Parameter::Type(name) => {
+                let row = self.row_of(argument, scope, place, depth - 1)?;
+                Ok(Binding {
+                    name: String::from_str(alloc, name)?,
+                    value: Value::Row(row),
+                })
+            }
+            Parameter::Constant(name) => {
+                let text = self.constant_in(argument, scope, place)?;
+                Ok(Binding {
+                    name: String::from_str(alloc, name)?,
+                    value: Value::Constant(text),
+                })
+            }
+        }
+    }
+}

@@ -1,0 +1,78 @@
+//! What the program writes.
+use crate::writing::table_json;
+use schemaderive_options::Contract;
+use schemaderive_rows::table_of;
+use schemaderive_syntax::{Fault, Place, Refusal, Source, Token, read_source, read_tokens};
+use std::alloc::{AllocError, Global};
+
+/// What the program writes.
+#[derive(Drop)]
+pub struct Output {
+    /// what goes to standard output
+    pub text: String,
+    /// what goes to standard error, a line each
+    pub warnings: Vec<Refusal>,
+}
+
+/// The table of the types that a type of a source leads to.
+///
+/// # Errors
+///
+/// The source is none of Rust, a type is not known, or an attribute says what a table can't say.
+pub fn derive_table(
+    alloc: Global,
+    text: &str,
+    root: &str,
+    contract: Contract,
+) -> Result<Output, Fault> {
+    let tokens = read_tokens(alloc, text, START)?;
+    table_of_tokens(alloc, &tokens, root, contract)
+}
+
+// The table of the types that a type of a source with these tokens leads to.
+fn table_of_tokens(
+    alloc: Global,
+    tokens: &[Token],
+    root: &str,
+    contract: Contract,
+) -> Result<Output, Fault> {
+    let source = read_source(alloc, tokens, end_of(tokens))?;
+    table_of_source(alloc, &source, root, contract)
+}
+
+// The table of the types that a type of a source leads to.
+fn table_of_source(
+    alloc: Global,
+    source: &Source<'_>,
+    root: &str,
+    contract: Contract,
+) -> Result<Output, Fault> {
+    let table = table_of(alloc, &*source, root, contract)?;
+    let text = table_json(alloc, &table)?;
+    Ok(Output {
+        text,
+        warnings: table.warnings,
+    })
+}
+
+// Where a source begins.
+const START: Place = Place { line: 1, column: 1 };
+
+// The place of the last token.
+fn end_of(tokens: &[Token]) -> Place {
+    match tokens.last() {
+        Some(token) => token.place,
+        None => START,
+    }
+}
+
+/// The line of what is said of a place. Line 0 is what the words of the run say.
+pub fn place_line(alloc: Global, kind: &str, said: &Refusal) -> Result<String, AllocError> {
+    let line = said.place.line;
+    let column = said.place.column;
+    let reason = said.reason.as_str();
+    if line == 0 {
+        return format!(in alloc; "schemaderive: {kind}{reason}");
+    }
+    format!(in alloc; "schemaderive: {kind}{line}:{column}: {reason}")
+}

@@ -1,0 +1,2 @@
+-- What implementations of `JsonSchema` cite.
+pub mod Words

@@ -1,0 +1,27 @@
+-- What belongs to a row is accepted.
+use Rattle.std.proofs.Common.{◌≡◌, ◌≤◌, ℕ, List, ap, ◌∙◌}
+use Rattle.serde_json.specs.Data.{Data}
+use Rattle.schemars_schema.specs.Json.{IsJson}
+use Rattle.schemars_schema.specs.Acceptance.{Dialect, Patterns, accepts, bound}
+use Rattle.schemars_schema.specs.Verdict.{verdict, Yes}
+use Rattle.schemars_types.specs.Meaning.{belongs}
+use Rattle.schemars_types.specs.declared.contract.Contract.TheVariants.{Serialize}
+use Rattle.schemars_headline.specs.State.{State, path_of, HasOwnDefinitions}
+use Rattle.schemars_headline.specs.Headline.{RootHeadline, IsDraftPath, IsPlainFor}
+use Rattle.schemars_types.specs.Rows.{Row}
+use Rattle.schemars_written.specs.Writes.{Belongs}
+use Rattle.schemars_accepted.specs.Accepted.{IsAccepted}
+
+pub accepted : (rows : List Row) (n : ℕ) (v : Data) → Belongs rows n v → IsJson v → IsAccepted rows n v
+accepted rows n v belongs json dialect path document means patterns followed bounded =
+    means.accepts_its_values patterns v json followed bounded ∙ ap verdict (belongs patterns)
+
+-- a root document with the headline accepts what belongs to its row
+pub root_accepted : (dialect : Dialect) (s : State) (n : ℕ) (document v : Data) → RootHeadline dialect s n document → HasOwnDefinitions s
+    → IsDraftPath (path_of s) → IsPlainFor dialect s.settings.contract s.rows → s.settings.contract ≡ Serialize → Belongs s.rows n v → IsJson v
+    → (patterns : Patterns) (followed : ℕ) → bound (path_of s) document v ≤ followed
+    → accepts dialect document patterns followed document v ≡ Yes
+root_accepted dialect s n document v headline own path plain contract belongs_to json patterns followed bounded =
+    let means = headline own path plain in
+    means.accepts_its_values patterns v json followed bounded
+    ∙ ap verdict (ap (λ c. belongs s.rows c patterns n v) contract ∙ belongs_to patterns)

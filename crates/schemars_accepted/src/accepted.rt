@@ -1,0 +1,33 @@
+//! What is written for a value, and that documents accept it.
+ghost use Rattle.std.specs.Prelude.{◌<◌, length, IfOk};
+ghost use Rattle.serde_json.specs.View.{view};
+ghost use Rattle.schemars_types.specs.Faults.{IsChecked};
+ghost use Rattle.schemars_accepted.specs.Accepted.{IsAccepted};
+
+use crate::json::look;
+use schemars_agreement::{Agrees, to_member_value};
+use schemars_types::{TypeNo, Types};
+use serde_json::{Error, Value};
+use std::alloc::Global;
+
+/// Returns what serde writes for a value, as `serde_json::to_value` does. Each root document of row
+/// `n` for what is written accepts it.
+///
+/// # Errors
+///
+/// Those of `serde_json::to_value`.
+pub fn to_accepted_value<T: Agrees>(
+    alloc: Global,
+    types: &Types,
+    n: TypeNo,
+    value: &T,
+) -> Result<Value, Error>
+    requires checked { IsChecked types.now }
+    requires known { n < length types.now }
+    requires row { T.is_row types.now n }
+    ensures { IfOk result (λ v. IsAccepted types.now n (view v)) }
+{
+    let written = to_member_value(alloc, types, n, value)?;
+    look(&written);
+    Ok(written)
+}

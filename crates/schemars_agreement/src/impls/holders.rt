@@ -1,0 +1,230 @@
+//! What holds other values.
+ghost use Rattle.std.specs.Prelude.{◌≡◌, ◌∷◌, [], ℕ, All, length};
+ghost use Rattle.schemars_shapes.specs.Shape.{Shape as shape};
+ghost use Rattle.schemars_written.specs.Fits.{HasShape, OfSome};
+ghost use Rattle.schemars_written.proofs.Laws.{option_law, vec_law, array_law};
+ghost use Rattle.schemars_written.proofs.Laws.{single_law, pair_law, triple_law, quadruple_law};
+
+use crate::law::Agrees;
+use crate::row::shape_at;
+use schemars_types::{Shape, TypeNo, Types};
+use std::collections::VecDeque;
+
+impl<T: Agrees> Agrees for Box<T> {
+    ghost valid = { λ b. T.valid b.value };
+
+    ghost is_row = { T.is_row };
+
+    ghost agrees = { λ rows n b checked row valid. T.agrees rows n b.value checked row valid };
+
+    fn has_row(types: &Types, n: TypeNo) -> bool {
+        T::has_row(types, n)
+    }
+
+    fn look(&self) {
+        (**self).look();
+    }
+}
+
+impl<T: Agrees> Agrees for Option<T> {
+    ghost valid = { OfSome T.valid };
+
+    ghost is_row = { λ rows n. (m : ℕ) × HasShape rows n (shape.option m) × T.is_row rows m };
+
+    ghost agrees = { λ rows n x checked row valid. option_law rows checked n T.writes T.valid T.is_row
+        (λ m y r v. T.agrees rows m y checked r v) row x valid };
+
+    fn has_row(types: &Types, n: TypeNo) -> bool {
+        match shape_at(types, n) {
+            Some(Shape::Option(m)) => T::has_row(types, *m),
+            _ => false,
+        }
+    }
+
+    fn look(&self) {
+        if let Some(value) = self {
+            value.look();
+        }
+    }
+}
+
+impl<T: Agrees> Agrees for Vec<T> {
+    ghost valid = { λ v. All T.valid v.items };
+
+    ghost is_row = { λ rows n. (m : ℕ) × HasShape rows n (shape.seq m) × T.is_row rows m };
+
+    ghost agrees = { λ rows n x checked row valid. vec_law rows checked n T.writes T.valid T.is_row
+        (λ m y r v. T.agrees rows m y checked r v) row x.items valid };
+
+    fn has_row(types: &Types, n: TypeNo) -> bool {
+        match shape_at(types, n) {
+            Some(Shape::Seq(m)) => T::has_row(types, *m),
+            _ => false,
+        }
+    }
+
+    fn look(&self) {
+        for item in self {
+            item.look();
+        }
+    }
+}
+
+impl<T: Agrees> Agrees for VecDeque<T> {
+    ghost valid = { λ v. All T.valid v.items };
+
+    ghost is_row = { λ rows n. (m : ℕ) × HasShape rows n (shape.seq m) × T.is_row rows m };
+
+    ghost agrees = { λ rows n x checked row valid. vec_law rows checked n T.writes T.valid T.is_row
+        (λ m y r v. T.agrees rows m y checked r v) row x.items valid };
+
+    fn has_row(types: &Types, n: TypeNo) -> bool {
+        match shape_at(types, n) {
+            Some(Shape::Seq(m)) => T::has_row(types, *m),
+            _ => false,
+        }
+    }
+
+    fn look(&self) {
+        for item in self {
+            item.look();
+        }
+    }
+}
+
+/// The row of an array of no items is another, and no promise is made of it.
+impl<T: Agrees, const N: usize> Agrees for [T; N] {
+    ghost valid = { λ xs. (length xs ≡ N) × All T.valid xs };
+
+    ghost is_row = { λ rows n. (m : ℕ) × HasShape rows n (shape.array m N) × T.is_row rows m };
+
+    ghost agrees = { λ rows n xs checked row valid. array_law rows checked n N T.writes T.valid T.is_row
+        (λ m y r v. T.agrees rows m y checked r v) row xs valid };
+
+    fn has_row(types: &Types, n: TypeNo) -> bool {
+        match shape_at(types, n) {
+            Some(Shape::Array(m, len)) => *len == N as u64 && T::has_row(types, *m),
+            _ => false,
+        }
+    }
+
+    fn look(&self) {
+        for item in self.iter() {
+            item.look();
+        }
+    }
+}
+
+impl<A: Agrees, B: Agrees> Agrees for (A, B) {
+    ghost valid = { λ p. A.valid p.0 × B.valid p.1 };
+
+    ghost is_row = { λ rows n. (a b : ℕ) × HasShape rows n (shape.tuple (a ∷ b ∷ []))
+        × A.is_row rows a × B.is_row rows b };
+
+    ghost agrees = { λ rows n p checked row valid. pair_law rows checked n A.writes B.writes
+        A.valid B.valid A.is_row B.is_row (λ m y r v. A.agrees rows m y checked r v)
+        (λ m y r v. B.agrees rows m y checked r v) row p.0 p.1 valid };
+
+    fn has_row(types: &Types, n: TypeNo) -> bool {
+        match shape_at(types, n) {
+            Some(Shape::Tuple(parts)) => match parts.as_slice() {
+                [a, b] => A::has_row(types, *a) && B::has_row(types, *b),
+                _ => false,
+            },
+            _ => false,
+        }
+    }
+
+    fn look(&self) {
+        self.0.look();
+        self.1.look();
+    }
+}
+
+impl<A: Agrees> Agrees for (A,) {
+    ghost valid = { λ p. A.valid p.0 };
+
+    ghost is_row = { λ rows n. (a : ℕ) × HasShape rows n (shape.tuple (a ∷ [])) × A.is_row rows a };
+
+    ghost agrees = { λ rows n p checked row valid. single_law rows checked n A.writes A.valid
+        A.is_row (λ m y r v. A.agrees rows m y checked r v) row p.0 valid };
+
+    fn has_row(types: &Types, n: TypeNo) -> bool {
+        match shape_at(types, n) {
+            Some(Shape::Tuple(parts)) => match parts.as_slice() {
+                [a] => A::has_row(types, *a),
+                _ => false,
+            },
+            _ => false,
+        }
+    }
+
+    fn look(&self) {
+        self.0.look();
+    }
+}
+
+impl<A: Agrees, B: Agrees, C: Agrees> Agrees for (A, B, C) {
+    ghost valid = { λ p. A.valid p.0 × B.valid p.1 × C.valid p.2 };
+
+    ghost is_row = { λ rows n. (a b c : ℕ) × HasShape rows n (shape.tuple (a ∷ b ∷ c ∷ []))
+        × A.is_row rows a × B.is_row rows b × C.is_row rows c };
+
+    ghost agrees = { λ rows n p checked row valid. triple_law rows checked n A.writes B.writes C.writes
+        A.valid B.valid C.valid A.is_row B.is_row C.is_row
+        (λ m y r v. A.agrees rows m y checked r v) (λ m y r v. B.agrees rows m y checked r v)
+        (λ m y r v. C.agrees rows m y checked r v) row p.0 p.1 p.2 valid };
+
+    fn has_row(types: &Types, n: TypeNo) -> bool {
+        match shape_at(types, n) {
+            Some(Shape::Tuple(parts)) => match parts.as_slice() {
+                [a, b, c] => {
+                    A::has_row(types, *a) && B::has_row(types, *b) && C::has_row(types, *c)
+                }
+                _ => false,
+            },
+            _ => false,
+        }
+    }
+
+    fn look(&self) {
+        self.0.look();
+        self.1.look();
+        self.2.look();
+    }
+}
+
+impl<A: Agrees, B: Agrees, C: Agrees, D: Agrees> Agrees for (A, B, C, D) {
+    ghost valid = { λ p. A.valid p.0 × B.valid p.1 × C.valid p.2 × D.valid p.3 };
+
+    ghost is_row = { λ rows n. (a b c d : ℕ) × HasShape rows n (shape.tuple (a ∷ b ∷ c ∷ d ∷ []))
+        × A.is_row rows a × B.is_row rows b × C.is_row rows c × D.is_row rows d };
+
+    ghost agrees = { λ rows n p checked row valid. quadruple_law rows checked n A.writes B.writes C.writes
+        D.writes A.valid B.valid C.valid D.valid A.is_row B.is_row C.is_row D.is_row
+        (λ m y r v. A.agrees rows m y checked r v) (λ m y r v. B.agrees rows m y checked r v)
+        (λ m y r v. C.agrees rows m y checked r v) (λ m y r v. D.agrees rows m y checked r v)
+        row p.0 p.1 p.2 p.3 valid };
+
+    fn has_row(types: &Types, n: TypeNo) -> bool {
+        match shape_at(types, n) {
+            Some(Shape::Tuple(parts)) => match parts.as_slice() {
+                [a, b, c, d] => {
+                    A::has_row(types, *a)
+                        && B::has_row(types, *b)
+                        && C::has_row(types, *c)
+                        && D::has_row(types, *d)
+                }
+                _ => false,
+            },
+            _ => false,
+        }
+    }
+
+    fn look(&self) {
+        self.0.look();
+        self.1.look();
+        self.2.look();
+        self.3.look();
+    }
+}

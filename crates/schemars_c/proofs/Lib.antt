@@ -1,0 +1,3 @@
+-- The lemmas.
+mod Lines
+mod Numbers

@@ -1,0 +1,166 @@
+-- The laws of implementations, in the form in which they are cited.
+use Rattle.std.proofs.Common.{◌≡◌, ℕ, zero, suc, ◌+◌, ◌<◌, ◌≤◌, ◌^◌, ℤ, pos, negsuc, List, [], ◌∷◌, length, Bool, true, false, Option, refl, arith}
+use Rattle.std.specs.Prelude.{All, FitsSigned}
+use Rattle.std.specs.Int.{w8, w16, w32, w64}
+use Rattle.std.proofs.lemmas.Grind.{common_steps}
+use Rattle.std.proofs.lemmas.Int.{ints}
+use Rattle.std.proofs.lemmas.Bool.Decides.{nat_tests}
+use Rattle.json.specs.Json as json
+use Rattle.serde.specs.Event as event
+use Rattle.serde.specs.Event.{Log, Logs, WritesSeq, WritesOption, WritesMap, InSeq, Then}
+use Rattle.schemars_schema.specs.Json.{Text}
+use Rattle.schemars_shapes.specs.Shape as shape
+use Rattle.schemars_shapes.specs.Shape.{Field}
+use Rattle.schemars_shapes.specs.declared.shape.IntKind.{IntKind}
+use Rattle.schemars_shapes.specs.declared.shape.IntKind.TheVariants.{U8, U16, U32, U64, Usize, I8, I16, I32, I64, Isize}
+use Rattle.schemars_types.specs.Rows.{Row}
+use Rattle.schemars_types.specs.Faults.{IsChecked}
+use Rattle.schemars_types.specs.Meaning.{is_of_kind}
+use Rattle.schemars_written.specs.Gives as gives
+use Rattle.schemars_written.specs.Gives.{Gives, GivesMembers, Done, Struct, NoMembers, IsArray}
+use Rattle.schemars_written.specs.Fits.{HasShape, HasFields, NextField, LastField, Means, OfSome}
+use Rattle.schemars_written.proofs.Atoms.{weaker, IsSigned64, unsigned_agrees, signed_agrees, bool_agrees, unit_agrees, text_agrees, char_agrees}
+use Rattle.schemars_written.proofs.Lists.{option_agrees, seq_agrees, array_agrees, pair_agrees, Of, tuple_means, in_seq_gives, then_give, last_gives}
+use Rattle.schemars_written.proofs.Objects.{Matches, struct_agrees, field_gives, done_gives, map_agrees}
+
+-- ---- whole numbers
+
+abbrev Unsigned : IntKind → ℕ → Type 0
+Unsigned kind bits = (rows : List Row) (n v : ℕ) → IsChecked rows → HasShape rows n (shape.int kind) → v < 2 ^ bits
+    → Gives (λ old new. Logs old new (event.unsigned v)) (Means rows n)
+
+pub u8_law : Unsigned U8 8
+u8_law rows n v checked row valid = unsigned_agrees rows n v U8 row (omega arith) (grind (arith, nat_tests))
+
+pub u16_law : Unsigned U16 16
+u16_law rows n v checked row valid = unsigned_agrees rows n v U16 row (omega arith) (grind (arith, nat_tests))
+
+pub u32_law : Unsigned U32 32
+u32_law rows n v checked row valid = unsigned_agrees rows n v U32 row (omega arith) (grind (arith, nat_tests))
+
+pub u64_law : Unsigned U64 64
+u64_law rows n v checked row valid = unsigned_agrees rows n v U64 row valid (grind (arith, nat_tests))
+
+pub usize_law : Unsigned Usize 64
+usize_law rows n v checked row valid = unsigned_agrees rows n v Usize row valid (grind (arith, nat_tests))
+
+within : (w : _) (z : ℤ) → FitsSigned w z → FitsSigned w64 z → IsSigned64 z
+within w (pos v) fits wide = omega (arith, ints)
+within w (negsuc v) fits wide = omega (arith, ints)
+
+pub i8_law : (rows : List Row) (n : ℕ) (z : ℤ) → IsChecked rows → HasShape rows n (shape.int I8) → FitsSigned w8 z
+    → Gives (λ old new. Logs old new (event.signed z)) (Means rows n)
+i8_law rows n z checked row valid = signed_agrees rows n z I8 row (within w8 z valid (omega (arith, ints))) (grind (arith, ints))
+
+pub i16_law : (rows : List Row) (n : ℕ) (z : ℤ) → IsChecked rows → HasShape rows n (shape.int I16) → FitsSigned w16 z
+    → Gives (λ old new. Logs old new (event.signed z)) (Means rows n)
+i16_law rows n z checked row valid = signed_agrees rows n z I16 row (within w16 z valid (omega (arith, ints))) (grind (arith, ints))
+
+pub i32_law : (rows : List Row) (n : ℕ) (z : ℤ) → IsChecked rows → HasShape rows n (shape.int I32) → FitsSigned w32 z
+    → Gives (λ old new. Logs old new (event.signed z)) (Means rows n)
+i32_law rows n z checked row valid = signed_agrees rows n z I32 row (within w32 z valid (omega (arith, ints))) refl
+
+pub i64_law : (rows : List Row) (n : ℕ) (z : ℤ) → IsChecked rows → HasShape rows n (shape.int I64) → FitsSigned w64 z
+    → Gives (λ old new. Logs old new (event.signed z)) (Means rows n)
+i64_law rows n z checked row valid = signed_agrees rows n z I64 row (within w64 z valid valid) refl
+
+pub isize_law : (rows : List Row) (n : ℕ) (z : ℤ) → IsChecked rows → HasShape rows n (shape.int Isize) → FitsSigned w64 z
+    → Gives (λ old new. Logs old new (event.signed z)) (Means rows n)
+isize_law rows n z checked row valid = signed_agrees rows n z Isize row (within w64 z valid valid) refl
+
+-- ---- holders
+
+-- `R` says which rows are a part's
+abbrev pub Part : {A : Type 0} → List Row → (A → Log → Log → Type 0) → (A → Type 0) → (List Row → ℕ → Type 0) → Type 0
+Part {A} rows w V R = (m : ℕ) (x : A) → R rows m → V x → Gives (w x) (Means rows m)
+
+pub option_law : {A : Type 0} (rows : List Row) → IsChecked rows → (n : ℕ) (w : A → Log → Log → Type 0) (V : A → Type 0) (R : List Row → ℕ → Type 0)
+    → Part rows w V R → (m : ℕ) × HasShape rows n (shape.option m) × R rows m
+    → (x : Option A) → OfSome V x → Gives (WritesOption w x) (Means rows n)
+option_law {A = A} rows checked n w V R given row x valid = option_agrees rows checked n row.0 row.1 w x (inside x valid)
+  where
+    inside : (y : Option A) → OfSome V y → OfSome (λ a. Gives (w a) (Means rows row.0)) y
+    inside Option.None h = tt
+    inside (Option.Some a) h = given row.0 a row.2 h
+
+pub vec_law : {A : Type 0} (rows : List Row) → IsChecked rows → (n : ℕ) (w : A → Log → Log → Type 0) (V : A → Type 0) (R : List Row → ℕ → Type 0)
+    → Part rows w V R → (m : ℕ) × HasShape rows n (shape.seq m) × R rows m
+    → (xs : List A) → All V xs → Gives (WritesSeq w xs) (Means rows n)
+vec_law rows checked n w V R given row xs valid =
+    seq_agrees rows checked n row.0 row.1 w V (λ x v. given row.0 x row.2 v) xs valid
+
+pub array_law : {A : Type 0} (rows : List Row) → IsChecked rows → (n len : ℕ) (w : A → Log → Log → Type 0) (V : A → Type 0) (R : List Row → ℕ → Type 0)
+    → Part rows w V R → (m : ℕ) × HasShape rows n (shape.array m len) × R rows m
+    → (xs : List A) → (length xs ≡ len) × All V xs → Gives (WritesSeq w xs) (Means rows n)
+array_law rows checked n len w V R given row xs valid =
+    array_agrees rows checked n row.0 len row.1 w V (λ x v. given row.0 x row.2 v) xs valid.0 valid.1
+
+pub pair_law : {A B : Type 0} (rows : List Row) → IsChecked rows → (n : ℕ) (v : A → Log → Log → Type 0) (w : B → Log → Log → Type 0)
+    (V : A → Type 0) (W : B → Type 0) (R S : List Row → ℕ → Type 0) → Part rows v V R → Part rows w W S
+    → (a b : ℕ) × HasShape rows n (shape.tuple (a ∷ b ∷ [])) × R rows a × S rows b
+    → (x : A) (y : B) → V x × W y → Gives (InSeq 2 (Then (v x) (w y))) (Means rows n)
+pair_law rows checked n v w V W R S first second row x y valid =
+    pair_agrees rows checked n row.0 row.1 row.2 (v x) (w y) (first row.0 x row.3 valid.0) (second row.1 y row.4 valid.1)
+
+pub map_law : {K A : Type 0} (rows : List Row) → IsChecked rows → (n : ℕ) (bytes : K → Text) (w : A → Log → Log → Type 0) (V : A → Type 0)
+    (R : List Row → ℕ → Type 0) → Part rows w V R
+    → (key m : ℕ) × HasShape rows n (shape.map_from key m) × HasShape rows key shape.text × R rows m
+    → (es : List (K × A)) → All (λ e. V e.1) es
+    → Gives (WritesMap (λ k old new. Logs old new (event.text (bytes k))) w es) (Means rows n)
+map_law rows checked n bytes w V R given row es valid =
+    map_agrees rows checked n row.0 row.1 row.2 row.3 bytes w V (λ x v. given row.1 x row.4 v) es valid
+
+-- ---- structs
+
+-- of fields that are these, the struct sends the members that belong to them
+abbrev pub FieldsAgree : List Row → (List Field → Type 0) → (Log → Log → Type 0) → Type 0
+FieldsAgree rows fields sends = (list : List Field) → fields list → GivesMembers sends (Matches rows list)
+
+pub last_field : (rows : List Row) → FieldsAgree rows LastField Done
+last_field rows [] is = done_gives
+last_field rows (f ∷ fs) is = absurd is
+
+pub next_field : (rows : List Row) (name : Text) (R : ℕ → Type 0) (others : List Field → Type 0) (w ws : Log → Log → Type 0)
+    → ((m : ℕ) → R m → Gives w (Means rows m)) → FieldsAgree rows others ws → FieldsAgree rows (NextField name R others) (gives.Field name w ws)
+next_field rows name R others w ws value more [] is = absurd is
+next_field rows name R others w ws value more (f ∷ fs) is = field_gives rows name f fs w ws is.0 (value f.ty is.1) (more fs is.2)
+
+pub struct_law : (rows : List Row) → IsChecked rows → (n count : ℕ) (fields : List Field → Type 0) (w : Log → Log → Type 0)
+    → HasFields rows n fields → FieldsAgree rows fields w → Gives (Struct count w) (Means rows n)
+struct_law rows checked n count fields w row agree = struct_agrees rows checked n row.0 row.1 row.2 count w (agree row.0 row.3)
+
+-- ---- other tuples
+
+pub single_law : {A : Type 0} (rows : List Row) → IsChecked rows → (n : ℕ) (v : A → Log → Log → Type 0) (V : A → Type 0) (R : List Row → ℕ → Type 0)
+    → Part rows v V R → (a : ℕ) × HasShape rows n (shape.tuple (a ∷ [])) × R rows a → (x : A) → V x → Gives (InSeq 1 (v x)) (Means rows n)
+single_law rows checked n v V R first row x valid =
+    weaker (InSeq 1 (v x)) (IsArray (Of rows (row.0 ∷ []))) (Means rows n) (tuple_means rows checked n (row.0 ∷ []) row.1)
+    (in_seq_gives 1 (v x) (Of rows (row.0 ∷ [])) (last_gives (v x) (Means rows row.0) (first row.0 x row.2 valid)))
+
+pub triple_law : {A B C : Type 0} (rows : List Row) → IsChecked rows → (n : ℕ) (u : A → Log → Log → Type 0) (v : B → Log → Log → Type 0)
+    (w : C → Log → Log → Type 0) (U : A → Type 0) (V : B → Type 0) (W : C → Type 0) (Q R S : List Row → ℕ → Type 0)
+    → Part rows u U Q → Part rows v V R → Part rows w W S
+    → (a b c : ℕ) × HasShape rows n (shape.tuple (a ∷ b ∷ c ∷ [])) × Q rows a × R rows b × S rows c
+    → (x : A) (y : B) (z : C) → U x × V y × W z → Gives (InSeq 3 (Then (u x) (Then (v y) (w z)))) (Means rows n)
+triple_law rows checked n u v w U V W Q R S first second third row x y z valid =
+    let ns = row.0 ∷ row.1 ∷ row.2 ∷ [] in
+    weaker (InSeq 3 (Then (u x) (Then (v y) (w z)))) (IsArray (Of rows ns)) (Means rows n) (tuple_means rows checked n ns row.3)
+    (in_seq_gives 3 (Then (u x) (Then (v y) (w z))) (Of rows ns)
+    (then_give (u x) (Then (v y) (w z)) (Means rows row.0) (Of rows (row.1 ∷ row.2 ∷ [])) (first row.0 x row.4 valid.0)
+    (then_give (v y) (w z) (Means rows row.1) (Of rows (row.2 ∷ [])) (second row.1 y row.5 valid.1)
+    (last_gives (w z) (Means rows row.2) (third row.2 z row.6 valid.2)))))
+
+pub quadruple_law : {A B C D : Type 0} (rows : List Row) → IsChecked rows → (n : ℕ) (t : A → Log → Log → Type 0) (u : B → Log → Log → Type 0)
+    (v : C → Log → Log → Type 0) (w : D → Log → Log → Type 0) (T : A → Type 0) (U : B → Type 0) (V : C → Type 0) (W : D → Type 0)
+    (P Q R S : List Row → ℕ → Type 0) → Part rows t T P → Part rows u U Q → Part rows v V R → Part rows w W S
+    → (a b c d : ℕ) × HasShape rows n (shape.tuple (a ∷ b ∷ c ∷ d ∷ [])) × P rows a × Q rows b × R rows c × S rows d
+    → (k : A) (x : B) (y : C) (z : D) → T k × U x × V y × W z
+    → Gives (InSeq 4 (Then (t k) (Then (u x) (Then (v y) (w z))))) (Means rows n)
+quadruple_law rows checked n t u v w T U V W P Q R S first second third fourth row k x y z valid =
+    let ns = row.0 ∷ row.1 ∷ row.2 ∷ row.3 ∷ [] in
+    weaker (InSeq 4 (Then (t k) (Then (u x) (Then (v y) (w z))))) (IsArray (Of rows ns)) (Means rows n) (tuple_means rows checked n ns row.4)
+    (in_seq_gives 4 (Then (t k) (Then (u x) (Then (v y) (w z)))) (Of rows ns)
+    (then_give (t k) (Then (u x) (Then (v y) (w z))) (Means rows row.0) (Of rows (row.1 ∷ row.2 ∷ row.3 ∷ [])) (first row.0 k row.5 valid.0)
+    (then_give (u x) (Then (v y) (w z)) (Means rows row.1) (Of rows (row.2 ∷ row.3 ∷ [])) (second row.1 x row.6 valid.1)
+    (then_give (v y) (w z) (Means rows row.2) (Of rows (row.3 ∷ [])) (third row.2 y row.7 valid.2)
+    (last_gives (w z) (Means rows row.3) (fourth row.3 z row.8 valid.3))))))

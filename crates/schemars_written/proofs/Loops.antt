@@ -1,0 +1,96 @@
+-- A loop over the entries of a map, and what calls give.
+use Rattle.std.proofs.Common.{◌≡◌, ℕ, zero, suc, ◌<◌, ◌≤◌, get_or, drop, List, [], ◌∷◌, ◌++◌, length, Bool, true, false, Some, Result, Ok, Err, IfOk, refl, sym, ap, ◌∙◌, subst, append_assoc, append-nil, arith}
+use Rattle.std.specs.Prelude.{All, map, string_bytes, String}
+use Rattle.std.specs.declared.alloc.Global.{Global}
+use Rattle.std.proofs.lemmas.List.Elements.{All-push}
+use Rattle.json.specs.Lex.{tokens}
+use Rattle.serde.specs.Event.{Log}
+use Rattle.serde_json.specs.Read.{read}
+use Rattle.serde_json.specs.Sent.{AreTokensOf, IsTextOf}
+use Rattle.serde_json.specs.View.{view}
+use Rattle.serde_json.specs.declared.value.Value.{Value}
+use Rattle.schemars_schema.specs.Json.{Text}
+use Rattle.schemars_shapes.specs.Shape as shape
+use Rattle.schemars_shapes.specs.Shape.{Field, fields_of, field_of, flattened_of}
+use Rattle.schemars_shapes.specs.declared.shape.Field as src-field
+use Rattle.schemars_shapes.specs.declared.shape.Fields as src-fields
+use Rattle.schemars_shapes.specs.declared.shape.Flattened as src-flattened
+use Rattle.schemars_types.specs.Rows.{Row}
+use Rattle.schemars_types.specs.Faults.{IsChecked}
+use Rattle.schemars_written.specs.Gives.{Gives}
+use Rattle.schemars_written.specs.Fits.{Means, HasShape, HasList, HasFields, NextField, LastField}
+use Rattle.schemars_written.specs.Writes.{Belongs, BelongsAsRead}
+use Rattle.schemars_written.proofs.Final.{as_read}
+
+-- of all, P holds of those before the rest
+abbrev pub AllUpTo : {A : Type 0} → (A → Type 0) → List A → List A → Type 0
+AllUpTo {A} P all rest = (done : List A) × (all ≡ done ++ rest) × All P done
+
+pub AllUpTo-start : {A : Type 0} (P : A → Type 0) (all rest : List A) → rest ≡ all → AllUpTo P all rest
+AllUpTo-start P all rest same = ([], sym same, λ k d low. absurd (omega arith))
+
+pub AllUpTo-more : {A : Type 0} (P : A → Type 0) (all rest left : List A) (x : A) → AllUpTo P all rest → rest ≡ x ∷ left → P x → AllUpTo P all left
+AllUpTo-more P all rest left x h step p =
+    (h.0 ++ x ∷ [], h.1 ∙ ap (λ ys. h.0 ++ ys) step ∙ sym (append_assoc h.0 (x ∷ []) left), All-push P h.0 x h.2 p)
+
+pub AllUpTo-all : {A : Type 0} (P : A → Type 0) (all rest : List A) → AllUpTo P all rest → rest ≡ [] → All P all
+AllUpTo-all P all rest h none = subst (λ ys. All P ys) (sym (h.1 ∙ ap (λ ys. h.0 ++ ys) none ∙ append-nil h.0)) h.2
+
+-- ---- rows
+
+no_rows : (ps : List src-flattened.Flattened) → length ps ≡ 0 → map flattened_of ps ≡ []
+no_rows [] h = refl
+no_rows (p ∷ ps) h = absurd (omega arith)
+
+pub has_list : (rows : List Row) (n : ℕ) (x : src-fields.Fields) → HasShape rows n (shape.struct (fields_of x)) → length x.flatten.items ≡ 0
+    → (list : List src-field.Field) → list ≡ x.list.items → HasList rows n (map field_of list)
+has_list rows n x is none list same = (
+  x.closed,
+  (
+    is.0,
+    is.1,
+    is.2 ∙ ap (λ ps. shape.struct (record { list = map field_of x.list.items; flatten = ps; closed = x.closed })) (no_rows x.flatten.items none)
+        ∙ ap (λ fs. shape.struct (record { list = map field_of fs; flatten = []; closed = x.closed })) (sym same),
+  ),
+)
+
+-- ---- results
+
+pub value_belongs : {E : Type 0} (rows : List Row) → IsChecked rows → (n : ℕ) → n < length rows → (sends : Log → Log → Type 0) → Gives sends (Means rows n)
+    → (r : Result Value E) → IfOk r (λ v. (log : Log) × (text : List ℕ) × sends (Some []) log × AreTokensOf true log (tokens text) × (read text ≡ Some (view v)))
+    → IfOk r (λ v. Belongs rows n (view v))
+value_belongs rows checked n low sends given (Ok v) h = as_read true rows checked n low sends given h.0 h.1 h.2 h.3 (view v) h.4
+value_belongs rows checked n low sends given (Err e) h = h
+
+pub text_belongs : {E : Type 0} (rows : List Row) → IsChecked rows → (n : ℕ) → n < length rows → (sends : Log → Log → Type 0) → Gives sends (Means rows n)
+    → (r : Result (String Global) E) → IfOk r (λ s. (log : Log) × sends (Some []) log × IsTextOf log (string_bytes s))
+    → IfOk r (λ s. BelongsAsRead rows n (string_bytes s))
+text_belongs rows checked n low sends given (Ok s) h = as_read false rows checked n low sends given h.0 (string_bytes s) h.1 h.2.0
+text_belongs rows checked n low sends given (Err e) h = h
+
+-- ---- the fields of a row, by their places
+
+drop_at : {A : Type 0} (xs : List A) (i : ℕ) (a : A) → i < length xs → a ≡ get_or xs i a → drop i xs ≡ a ∷ drop (suc i) xs
+drop_at [] i a low is = absurd (omega arith)
+drop_at (x ∷ xs) zero a low is = ap (λ y. y ∷ xs) (sym is)
+drop_at (x ∷ xs) (suc i) a low is = drop_at xs i a (omega arith) is
+
+none_left : {A : Type 0} (xs : List A) (i : ℕ) → length xs ≤ i → drop i xs ≡ []
+none_left [] zero all = refl
+none_left [] (suc i) all = refl
+none_left (x ∷ xs) zero all = absurd (omega arith)
+none_left (x ∷ xs) (suc i) all = none_left xs i (omega arith)
+
+-- the field at place i, and those after it
+pub field_at : (name : Text) (R : ℕ → Type 0) (others : List Field → Type 0) (xs : List src-field.Field) (i : ℕ) (a : src-field.Field)
+    → a ≡ get_or xs i a → i < length xs → string_bytes a.name ≡ name → R a.ty → others (map field_of (drop (suc i) xs))
+    → NextField name R others (map field_of (drop i xs))
+field_at name R others xs i a is low named row more =
+    subst (λ (ys : List src-field.Field). NextField name R others (map field_of ys)) (sym (drop_at xs i a low is)) (named, row, more)
+
+pub last_at : (xs : List src-field.Field) (i : ℕ) → length xs ≤ i → LastField (map field_of (drop i xs))
+last_at xs i all = subst (λ (ys : List src-field.Field). LastField (map field_of ys)) (sym (none_left xs i all)) tt
+
+pub to_fields : (rows : List Row) (n : ℕ) (P : List Field → Type 0) (xs : List src-field.Field) → HasList rows n (map field_of xs)
+    → P (map field_of (drop 0 xs)) → HasFields rows n P
+to_fields rows n P xs is p = (map field_of xs, is.0, is.1, p)
