@@ -8,11 +8,11 @@ ghost use Rattle.schemagen_input.specs.Texts.{IsAcceptedText};
 ghost use Rattle.schemalint_run.specs.Lint.{AreLines, IsPlainText, IsTextPlainUnder, Judges};
 ghost use Rattle.schemalint_run.specs.Lint.{IsVerdictOf, is_under, verdict_for, verdict_line};
 
+use crate::as_text::add_lines;
 use crate::faults::{add_refusal, add_row_fault};
 use crate::findings::Finding;
 use crate::members::add_repeated_members;
 use crate::reasons::add_reasons;
-use crate::text::add_lines;
 use crate::warnings::add_warnings;
 use json::Scratch;
 use schemagen_input::{TextError, read_table};

@@ -1,11 +1,12 @@
 //! What is to be said of the text of a table: its fault, or warnings and whether it is plain.
 #![tactic(auto)]
 
+mod as_json;
+mod as_text;
 mod faults;
 mod findings;
 mod forms;
 mod hidden;
-mod json;
 mod judging;
 mod keys;
 mod members;
@@ -13,7 +14,6 @@ mod owners;
 mod places;
 mod reach;
 mod reasons;
-mod text;
 mod values;
 mod variants;
 mod warnings;
