@@ -1,4 +1,5 @@
 -- Tables of plain parts.
+-- This file is trusted: the theorem is stated in its words.
 use Rattle.std.specs.Prelude.{◌≡◌, ℕ, List, [], ◌∷◌, ◌++◌, map, Option, Some, None, Bool, true, false, not, is_some, ◌&&◌, bytes_eq}
 use Rattle.schemars_schema.specs.Json.{Text}
 use Rattle.schemars_text.specs.OrderedText.{is_listed}

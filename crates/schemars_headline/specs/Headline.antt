@@ -1,4 +1,5 @@
 -- What a generated document promises: it accepts exactly the values that belong to its type.
+-- This file is trusted: the theorem is stated in its words.
 use Rattle.std.specs.Prelude.{◌≡◌, ◌≤◌, ◌⊎◌, ℕ, List, [], Contains, true, false, Option, Some, None, codes}
 use Rattle.serde_json.specs.Data.{Data, object, Members, no_members, member}
 use Rattle.serde_json.specs.Find.{get_member, pointer}

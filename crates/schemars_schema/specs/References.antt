@@ -1,4 +1,5 @@
 -- The references of a document: the values of `$ref` in the schemas inside it.
+-- This file is trusted: the theorem is stated in its words.
 use Rattle.std.specs.Prelude.{◌≡◌, ◌&&◌, List, [], ◌∷◌, ◌++◌, Bool, true, if◌then◌else◌, is_some, option_and_then, codes, bytes_eq}
 use Rattle.serde_json.specs.Data.{Data, null, boolean, number, string, array, object, Items, no_items, item, Members, no_members, member}
 use Rattle.serde_json.specs.Find.{as_str}

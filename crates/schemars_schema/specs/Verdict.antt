@@ -1,4 +1,5 @@
 -- What a schema says of a value.
+-- This file is trusted: the theorem is stated in its words.
 use Rattle.std.specs.Prelude.{Bool, true, false, List, [], ◌∷◌}
 
 -- the value fits, it doesn't, or that hangs on a reference which was not followed

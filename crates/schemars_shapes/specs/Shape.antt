@@ -1,4 +1,5 @@
 -- What an entry of a table says: a row's shape, whether it is written in place, and its notes.
+-- This file is trusted: the theorem is stated in its words.
 use Rattle.std.specs.Prelude.{ℕ, ◌==◌, if◌then◌else◌, List, [], ◌∷◌, ◌++◌, map, Bool, true, Option, Some, None, string_bytes}
 use Rattle.serde_json.specs.Data.{Data, Members, no_members}
 use Rattle.serde_json.specs.View.{members_view}

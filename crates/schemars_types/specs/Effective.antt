@@ -1,4 +1,5 @@
 -- The fields of a struct together with those of the structs that are flattened into it, and the enums among its members.
+-- This file is trusted: the theorem is stated in its words.
 use Rattle.std.specs.Prelude.{ℕ, zero, suc, List, [], ◌∷◌, ◌++◌, map, length, true, Some, None, is_some, ◌&&◌, if◌then◌else◌}
 use Rattle.std.specs.Option.{option_map_or}
 use Rattle.schemars_shapes.specs.Shape.{Required, Field, Flattened, Fields, Shape, struct, external, untagged, internal, adjacent}

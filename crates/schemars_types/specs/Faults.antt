@@ -1,4 +1,5 @@
 -- The faults of a table, which of them is reported, and what a table without faults offers.
+-- This file is trusted: the theorem is stated in its words.
 use Rattle.std.specs.Prelude.{◌<◌, ◌≤◌, ℕ, List, length, IsSome, string_bytes}
 use Rattle.schemars_schema.specs.Json.{Text}
 use Rattle.schemars_types.specs.Rows.{Row, entry_at}

@@ -1,4 +1,5 @@
 -- Which JSON values belong to a type of a table, up to equality of numbers: 1.0 is the whole number 1.
+-- This file is trusted: the theorem is stated in its words.
 use Rattle.std.specs.Prelude.{ℕ, zero, suc, ◌+◌, ◌*◌, ◌&&◌, ◌||◌, ◌==◌, ℤ, pos, negsuc, List, [], ◌∷◌, length, map, find}
 use Rattle.std.specs.Prelude.{Bool, true, false, not, int_le, nat_le, Option, Some, None, is_some, bytes_eq, if◌then◌else◌, codes}
 use Rattle.std.specs.List.{list_all, list_any}
