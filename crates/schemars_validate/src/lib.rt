@@ -13,7 +13,8 @@ mod scalars;
 mod verdict;
 
 pub use dialect::Dialect;
-pub use document::{is_valid, validate, validate_document};
+pub use document::{bound, depth, is_valid, validate, validate_document};
+pub use found::resolved;
 pub use numbers::{is_whole, numbers_le};
 pub use patterns::{PatternList, Patterns};
 pub use verdict::Verdict;
