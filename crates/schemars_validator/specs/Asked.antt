@@ -60,7 +60,3 @@ is_no Open = false
 
 abbrev pub has_some : {X : Type 0} → List X → Bool
 has_some xs = nat_lt 0 (length xs)
-
--- there are failures if and only if such a verdict is no
-abbrev pub Explains : {X : Type 0} → Validator → Data → List X → Type 0
-Explains v value failures = (says : Verdict) × Says v value says × (has_some failures ≡ is_no says)

@@ -6,6 +6,7 @@ use crate::keywords::BY_ITSELF;
 use crate::places::{item_place, member_place};
 use crate::reading::Reading;
 use crate::sentences::{Choice, sentence_about, sentence_of_choice};
+use schemars_schema::Schema;
 use schemars_validate::{Dialect, Patterns, Verdict, resolved, validate};
 use serde_json::{Map, Value};
 use std::alloc::{AllocError, Global};
@@ -135,6 +136,7 @@ fn explain_object(
     at: &At<'_>,
     failures: &mut Vec<Failure>,
 ) -> Result<(), AllocError> {
+    let before = failures.len();
     explain_itself(asked, keywords, at, failures)?;
     explain_required(asked, keywords, at, failures)?;
     explain_reference(asked, left, keywords, at, failures)?;
@@ -142,7 +144,12 @@ fn explain_object(
     explain_items(asked, left, keywords, at, failures)?;
     explain_all(asked, left, keywords, at, failures)?;
     explain_choices(asked, keywords, at, failures)?;
-    explain_unevaluated(asked, keywords, at, failures)
+    if failures.len() == before {
+        // what remains denies members that no keyword judges
+        let error = "has a member that no keyword allows";
+        add(asked, at, "unevaluatedProperties", error, failures)?;
+    }
+    Ok(())
 }
 
 // ---- keywords that judge a value by itself
@@ -402,52 +409,33 @@ fn explain_choices(
     failures: &mut Vec<Failure>,
 ) -> Result<(), AllocError> {
     for choice in [Choice::AnyOf, Choice::OneOf, Choice::Not] {
-        let keyword = choice.keyword();
-        let alone = with_keywords(asked.alloc, keywords, &[keyword])?;
-        if is_denied(asked, &alone, at.value)? {
-            let fitting = fitting(asked, keywords.get(keyword), at.value)?;
-            let error = sentence_of_choice(asked.alloc, choice, fitting)?;
-            add(asked, at, keyword, error.as_str(), failures)?;
+        let Some(schemas) = keywords.get(choice.keyword()) else {
+            continue;
+        };
+        if let Some(fitting) = fitting(asked, schemas, at.value)? {
+            if !choice.is_met(fitting) {
+                let error = sentence_of_choice(asked.alloc, choice, fitting)?;
+                add(asked, at, choice.keyword(), error.as_str(), failures)?;
+            }
         }
     }
     Ok(())
 }
 
-// How many of the schemas of a list a value fits.
-fn fitting(asked: &Asked<'_>, schemas: Option<&Value>, value: &Value) -> Result<usize, AllocError> {
-    let Some(Value::Array(schemas)) = schemas else {
-        return Ok(0);
+// How many of the schemas under a keyword a value fits; none where these are no schemas.
+fn fitting(asked: &Asked<'_>, schemas: &Value, value: &Value) -> Result<Option<usize>, AllocError> {
+    let Value::Array(schemas) = schemas else {
+        let denied = is_denied(asked, schemas, value)?;
+        return Ok(Some(if denied { 0 } else { 1 }));
     };
     let mut count: usize = 0;
     for schema in schemas {
+        if !Schema::is_schema(schema) {
+            return Ok(None);
+        }
         if !is_denied(asked, schema, value)? {
             count = count.saturating_add(1);
         }
     }
-    Ok(count)
-}
-
-// Adds the members that no keyword judges, where `unevaluatedProperties` denies them.
-fn explain_unevaluated(
-    asked: &Asked<'_>,
-    keywords: &Map<String, Value>,
-    at: &At<'_>,
-    failures: &mut Vec<Failure>,
-) -> Result<(), AllocError> {
-    if keywords.get("unevaluatedProperties").is_none() {
-        return Ok(());
-    }
-    let mut others = keywords.clone()?;
-    drop(others.remove("unevaluatedProperties"));
-    let whole = Value::Object(keywords.clone()?);
-    if is_denied(asked, &whole, at.value)? && !is_denied(asked, &Value::Object(others), at.value)? {
-        add(
-            asked,
-            at,
-            "unevaluatedProperties",
-            "has a member that no keyword allows",
-            failures,
-        )?;
-    }
-    Ok(())
+    Ok(Some(count))
 }

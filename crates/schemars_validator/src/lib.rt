@@ -18,4 +18,4 @@ pub use failures::Failure;
 pub use reading::Reading;
 pub use refusal::{Refusal, Unread};
 pub use schemars_validate::Verdict;
-pub use validator::Validator;
+pub use validator::{Examined, Validator};

@@ -18,6 +18,15 @@ impl Choice {
             Choice::Not => "not",
         }
     }
+
+    /// Whether the keyword is met by a value that fits so many of its schemas.
+    pub fn is_met(self, fitting: usize) -> bool {
+        match self {
+            Choice::AnyOf => fitting != 0,
+            Choice::OneOf => fitting == 1,
+            Choice::Not => fitting == 0,
+        }
+    }
 }
 
 /// What is wrong where a keyword that judges a value by itself is not met.

@@ -4,19 +4,26 @@ ghost use Rattle.serde_json.specs.View.{view};
 ghost use Rattle.schemars_schema.specs.SchemaData.{is_schema};
 ghost use Rattle.schemars_schema.specs.Acceptance.{bound};
 ghost use Rattle.schemars_validate.specs.Meant.{meant};
-ghost use Rattle.schemars_validator.specs.Asked.{Accepts, Explains, IsOf, Says, path_of};
+ghost use Rattle.schemars_validator.specs.Asked.{Accepts, IsOf, Says, has_some, is_no, path_of};
 
 use crate::draft::Draft;
 use crate::expressions::{Expression, expressions_in};
 use crate::failures::{Failure, failures_of};
 use crate::places::{Place, schemas_in};
-use crate::reading::read;
+use crate::reading::{Reading, read};
 use crate::refusal::Refusal;
 use crate::unread::unread_in;
 use schemars_schema::Schema;
 use schemars_validate::{Verdict, bound, depth, validate};
 use serde_json::Value;
 use std::alloc::{AllocError, Global};
+
+/// What a document says of a value, and each keyword that the value does not meet.
+#[derive(Debug, Drop)]
+pub struct Examined {
+    pub verdict: Verdict,
+    pub failures: Vec<Failure>,
+}
 
 /// A document that was read once, and is asked about values.
 #[derive(Drop)]
@@ -61,16 +68,7 @@ impl<'d> Validator<'d> {
     {
         let reading = read(alloc, &self.expressions, value)?;
         let references = self.references_for(value)?;
-        let dialect = self.draft.dialect();
-        validate(
-            alloc,
-            dialect,
-            self.document,
-            &reading,
-            references,
-            self.document,
-            value,
-        )
+        self.judge(alloc, &reading, references, value)
     }
 
     /// Whether the document accepts a value.
@@ -80,19 +78,44 @@ impl<'d> Validator<'d> {
         Ok(self.validate(alloc, value)? == Verdict::Yes)
     }
 
-    /// Why the document does not accept a value. The list is empty if and only if the document does not
-    /// deny the value.
-    pub fn failures(&self, alloc: Global, value: &Value) -> Result<Vec<Failure>, AllocError>
-        ensures { IfOk result (λ failures. Explains self.now (view value.now) failures.items) }
+    /// What the document says of a value, and why it denies the value. There are failures if and only if it
+    /// does.
+    pub fn examine(&self, alloc: Global, value: &Value) -> Result<Examined, AllocError>
+        ensures says { IfOk result (λ e. Says self.now (view value.now) (meant e.verdict)) }
+        ensures explains { IfOk result (λ e. has_some e.failures.items ≡ is_no (meant e.verdict)) }
     {
-        if self.validate(alloc, value)? != Verdict::No {
-            return Ok(Vec::new(alloc));
-        }
         let reading = read(alloc, &self.expressions, value)?;
         let references = self.references_for(value)?;
+        let verdict = self.judge(alloc, &reading, references, value)?;
+        let failures = if verdict == Verdict::No {
+            let dialect = self.draft.dialect();
+            failures_of(alloc, dialect, self.document, &reading, references, value)?
+        } else {
+            Vec::new(alloc)
+        };
+        Ok(Examined { verdict, failures })
+    }
+
+    fn judge(
+        &self,
+        alloc: Global,
+        reading: &Reading,
+        references: u64,
+        value: &Value,
+    ) -> Result<Verdict, AllocError>
+        requires { bound (path_of self.now.draft) (view self.now.document.now) (view value.now) ≤ references }
+        ensures { IfOk result (λ says. Says self.now (view value.now) (meant says)) }
+    {
         let dialect = self.draft.dialect();
-        let failures = failures_of(alloc, dialect, self.document, &reading, references, value)?;
-        Ok(failures)
+        validate(
+            alloc,
+            dialect,
+            self.document,
+            reading,
+            references,
+            self.document,
+            value,
+        )
     }
 
     // As many references as may have to be followed within one another.

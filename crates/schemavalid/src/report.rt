@@ -116,9 +116,9 @@ fn judged(
     validator: &Validator<'_>,
     value: &Value,
 ) -> Result<(bool, Vec<Failure>), AllocError> {
-    match validator.validate(alloc, value)? {
-        Verdict::Yes => Ok((true, Vec::new(alloc))),
-        Verdict::No => Ok((false, validator.failures(alloc, value)?)),
+    let examined = validator.examine(alloc, value)?;
+    match examined.verdict {
+        Verdict::Yes | Verdict::No => Ok((examined.verdict == Verdict::Yes, examined.failures)),
         Verdict::Open => {
             let error = String::from_str(alloc, "is not decided: references lead in a circle")?;
             Ok((false, lone(alloc, error)?))
