@@ -143,7 +143,7 @@ fn explain_object(
     explain_members(asked, left, keywords, at, failures)?;
     explain_items(asked, left, keywords, at, failures)?;
     explain_all(asked, left, keywords, at, failures)?;
-    explain_choices(asked, keywords, at, failures)?;
+    explain_choices(asked, left, keywords, at, failures)?;
     if failures.len() == before {
         // what remains denies members that no keyword judges
         let error = "has a member that no keyword allows";
@@ -402,8 +402,10 @@ fn explain_all(
     Ok(())
 }
 
+#[cycle(explain)]
 fn explain_choices(
     asked: &Asked<'_>,
+    left: u32,
     keywords: &Map<String, Value>,
     at: &At<'_>,
     failures: &mut Vec<Failure>,
@@ -416,10 +418,50 @@ fn explain_choices(
             if !choice.is_met(fitting) {
                 let error = sentence_of_choice(asked.alloc, choice, fitting)?;
                 add(asked, at, choice.keyword(), error.as_str(), failures)?;
+                if fitting == 0 {
+                    explain_each(asked, left, schemas, at, choice.keyword(), failures)?;
+                }
             }
         }
     }
     Ok(())
+}
+
+// Adds the failures of each schema of a list that has the value's type.
+#[cycle(explain)]
+fn explain_each(
+    asked: &Asked<'_>,
+    left: u32,
+    schemas: &Value,
+    at: &At<'_>,
+    keyword: &str,
+    failures: &mut Vec<Failure>,
+) -> Result<(), AllocError> {
+    let Value::Array(schemas) = schemas else {
+        return Ok(());
+    };
+    for (n, schema) in schemas.iter().enumerate() {
+        let place = format!(in asked.alloc; "{n}")?;
+        let mut own = Vec::new(asked.alloc);
+        explain_named(asked, left, schema, at, keyword, place.as_str(), &mut own)?;
+        if !has_other_type(&own, at.instance) {
+            for failure in own {
+                failures.push(failure)?;
+            }
+        }
+    }
+    Ok(())
+}
+
+// Whether a failure is that the value at this place has another type.
+fn has_other_type(failures: &[Failure], instance: &str) -> bool {
+    for failure in failures {
+        let keyword = failure.keyword_location.as_str();
+        if failure.instance_location.as_str() == instance && keyword.ends_with("/type") {
+            return true;
+        }
+    }
+    false
 }
 
 // How many of the schemas under a keyword a value fits; none where these are no schemas.

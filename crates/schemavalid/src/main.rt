@@ -2,13 +2,15 @@
 #![tactic(auto)]
 
 mod report;
+mod sources;
 mod values;
 mod words;
 
 use crate::report::{Report, Status};
+use crate::sources::{document_of_table, schema_in};
 use crate::values::{Entry, entries_in};
-use crate::words::{Asked, Words, words_of};
-use schemars_validator::Validator;
+use crate::words::{Asked, Judge, Words, words_of};
+use schemars_validator::{Draft, Validator};
 use serde_json::Value;
 use std::alloc::{Alloc, AllocError, Global};
 use std::env::Env;
@@ -21,13 +23,15 @@ const VERSION: &str = "1.0.0";
 
 const HELP: &str = "\
 usage: schemavalid [--json] DIALECT SCHEMA [FILE..]
+       schemavalid [--json] [--serialize] --table TABLE [FILE..]
 
-Reports whether JSON values are accepted by the document SCHEMA. DIALECT is 2020-12, 2019-09, draft-07 or openapi3.
-A file has one value, or one value on each line. Standard input is read for `-` or without a file.
+Reports whether JSON values are accepted by the document SCHEMA, or belong to the root of the table TABLE.
+DIALECT is 2020-12, 2019-09, draft-07 or openapi3. A file has one value, or one value on each line. Standard input is read for `-` or without a file.
 
-  --json     writes a line of JSON for each value
-  --help     writes this text
-  --version  writes the version
+  --json       writes a line of JSON for each value
+  --serialize  the table's values are those that are written, not those that are read
+  --help       writes this text
+  --version    writes the version
 
 The status is 0 if each value is accepted, 1 if one is not, and 2 if the document cannot be used.
 ";
@@ -87,37 +91,39 @@ fn judge_all<R: Alloc<A = Global> + Files + Input + Print + Eprint>(
     rt: &R,
     words: &Words,
 ) -> Result<Status, Stop> {
-    let schema = words.schema.as_str();
-    let Some(document) = document_in(rt, schema)? else {
-        return Ok(Status::Unusable);
+    let source = words.source.as_str();
+    let (document, draft) = match document_in(rt, words)? {
+        Ok(found) => found,
+        Err(fault) => {
+            let fault = fault.as_str();
+            let _ = eprintln!(rt; "schemavalid: {source}: {fault}");
+            return Ok(Status::Unusable);
+        }
     };
-    match Validator::new(rt.alloc(), words.draft, &document) {
+    match Validator::new(rt.alloc(), draft, &document) {
         Ok(validator) => judge_files(rt, words, &validator),
         Err(refusal) => {
-            let _ = eprintln!(rt; "schemavalid: {schema}: {refusal}");
+            let _ = eprintln!(rt; "schemavalid: {source}: {refusal}");
             Ok(Status::Unusable)
         }
     }
 }
 
-fn document_in<R: Alloc<A = Global> + Files + Eprint>(
+// The document that judges the values, and its dialect; or why there is none.
+fn document_in<R: Alloc<A = Global> + Files>(
     rt: &R,
-    schema: &str,
-) -> Result<Option<Value>, Stop> {
-    let bytes = match fs::read(rt, schema) {
+    words: &Words,
+) -> Result<Result<(Value, Draft), String>, Stop> {
+    let alloc = rt.alloc();
+    let bytes = match fs::read(rt, words.source.as_str()) {
         Ok(bytes) => bytes,
-        Err(error) => {
-            let _ = eprintln!(rt; "schemavalid: {schema}: {error}");
-            return Ok(None);
-        }
+        Err(error) => return Ok(Err(format!(in alloc; "{error}")?)),
     };
-    match Value::from_slice(rt.alloc(), &bytes) {
-        Ok(document) => Ok(Some(document)),
-        Err(error) => {
-            let _ = eprintln!(rt; "schemavalid: {schema}: {error}");
-            Ok(None)
-        }
-    }
+    let found = match words.judge {
+        Judge::Schema(draft) => schema_in(alloc, &bytes, draft)?,
+        Judge::Table(contract) => document_of_table(alloc, &bytes, contract)?,
+    };
+    Ok(found)
 }
 
 fn judge_files<R: Alloc<A = Global> + Files + Input + Print + Eprint>(

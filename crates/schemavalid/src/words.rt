@@ -1,4 +1,5 @@
 //! The words behind the program's name.
+use schemars_types::Contract;
 use schemars_validator::Draft;
 use std::alloc::{Alloc, AllocError, Global};
 use std::env::Env;
@@ -14,20 +15,42 @@ pub enum Asked {
     Values(Words),
 }
 
-/// By which document to judge which values.
+/// What judges the values.
+#[derive(Clone, Copy, Debug, PartialEq, Eq)]
+pub enum Judge {
+    /// The document of a dialect that a file has.
+    Schema(Draft),
+    /// The root of the table that a file has, for the values of a contract.
+    Table(Contract),
+}
+
+/// By what to judge which values.
 #[derive(Drop)]
 pub struct Words {
     pub json: bool,
-    pub draft: Draft,
-    pub schema: String,
+    pub judge: Judge,
+    /// The file of the document or the table.
+    pub source: String,
     /// `-` is standard input.
     pub files: Vec<String>,
+}
+
+// The options that were read so far.
+#[derive(Clone, Copy)]
+struct Options {
+    json: bool,
+    table: bool,
+    contract: Contract,
 }
 
 /// Reads the words. Behind `--` none is an option.
 pub fn words_of<R: Env + Alloc<A = Global>>(rt: &R) -> io::Result<Asked> {
     let alloc = rt.alloc();
-    let mut json = false;
+    let mut options = Options {
+        json: false,
+        table: false,
+        contract: Contract::Deserialize,
+    };
     let mut others = Vec::new(alloc);
     let mut others_alone = false;
     for word in env::args(rt)?.skip(1) {
@@ -37,26 +60,34 @@ pub fn words_of<R: Env + Alloc<A = Global>>(rt: &R) -> io::Result<Asked> {
         }
         match word.as_str() {
             "--" => others_alone = true,
-            "--json" => json = true,
+            "--json" => options.json = true,
+            "--table" => options.table = true,
+            "--serialize" => options.contract = Contract::Serialize,
             "--help" | "-h" => return Ok(Asked::Help),
             "--version" | "-V" => return Ok(Asked::Version),
             option => return Ok(wrong(alloc, option, "is no option")?),
         }
     }
-    Ok(values_asked(alloc, json, others)?)
+    Ok(values_asked(alloc, options, others)?)
 }
 
 // What is asked for by the words that are no options.
-fn values_asked(alloc: Global, json: bool, words: Vec<String>) -> Result<Asked, AllocError> {
+fn values_asked(alloc: Global, options: Options, words: Vec<String>) -> Result<Asked, AllocError> {
     let mut words = words.into_iter();
-    let Some(dialect) = words.next() else {
-        return wrong(alloc, "DIALECT", "is missing");
+    let judge = if options.table {
+        Judge::Table(options.contract)
+    } else {
+        let Some(dialect) = words.next() else {
+            return wrong(alloc, "DIALECT", "is missing");
+        };
+        let Some(draft) = Draft::named(dialect.as_str()) else {
+            return wrong(alloc, dialect.as_str(), "is no dialect");
+        };
+        Judge::Schema(draft)
     };
-    let Some(draft) = Draft::named(dialect.as_str()) else {
-        return wrong(alloc, dialect.as_str(), "is no dialect");
-    };
-    let Some(schema) = words.next() else {
-        return wrong(alloc, "SCHEMA", "is missing");
+    let Some(source) = words.next() else {
+        let missing = if options.table { "TABLE" } else { "SCHEMA" };
+        return wrong(alloc, missing, "is missing");
     };
     let mut files = Vec::new(alloc);
     for word in words {
@@ -66,9 +97,9 @@ fn values_asked(alloc: Global, json: bool, words: Vec<String>) -> Result<Asked, 
         files.push(String::from_str(alloc, "-")?)?;
     }
     Ok(Asked::Values(Words {
-        json,
-        draft,
-        schema,
+        json: options.json,
+        judge,
+        source,
         files,
     }))
 }

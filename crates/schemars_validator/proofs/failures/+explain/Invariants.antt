@@ -31,3 +31,9 @@ decreases-explain_named l = l.left * 8 + 4
 
 abbrev pub decreases-explain_same : goal.decreases-explain_same
 decreases-explain_same l = l.left * 8 + 3
+
+abbrev pub decreases-explain_choices : goal.decreases-explain_choices
+decreases-explain_choices l = l.left * 8 + 6
+
+abbrev pub decreases-explain_each : goal.decreases-explain_each
+decreases-explain_each l = l.left * 8 + 5
