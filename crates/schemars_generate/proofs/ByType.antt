@@ -28,7 +28,7 @@ use Rattle.schemars_generate.specs.Refusals.{error_of}
 use Rattle.schemars_generate.specs.declared.error.GenerateError.{GenerateError}
 use Rattle.schemars_generate.specs.declared.error.GenerateError.TheVariants.{OutOfMemory}
 use Rattle.schemars_generate.specs.Generator.{Transforms}
-use Rattle.schemars_generate.specs.Settings.{ApplyInOrder}
+use Rattle.schemars_transform.specs.Member.{ApplyInOrder}
 use Rattle.schemars_generate.specs.Through.{IsThrough, IsTransformed, IsRootMade, IsUntransformedCall}
 use Rattle.schemars_generate.proofs.Answered.{subschema_for, keeps}
 use Rattle.schemars_generate.proofs.BuiltIns.{transformed, promised}
