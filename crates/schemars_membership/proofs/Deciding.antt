@@ -18,7 +18,7 @@ settled false = refl
 
 pub decided : (validator : Validator) (rows : List Row) (contract : Contract) (n : ℕ) (v : Data) (answer : Bool)
     → IsOfType validator rows contract n → IsJson v → Accepts validator v answer → Belongs rows contract n v answer
-decided validator rows contract n v answer means json (says, (patterns, followed, enough, is), answers) =
+decided validator rows contract n v answer means json (says, (patterns, read, followed, enough, is), answers) =
     (patterns, answers ∙ ap is_yes is ∙ ap is_yes (means.accepts_its_values patterns v json followed enough) ∙ settled _)
 
 -- the headline of a generator whose table, contract and path are these

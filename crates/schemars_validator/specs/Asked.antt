@@ -10,6 +10,7 @@ use Rattle.schemars_schema.specs.Acceptance.{Dialect, Patterns, draft2020_12, dr
 use Rattle.schemars_validator.specs.declared.draft.Draft as named
 use Rattle.schemars_validator.specs.declared.reading.Matched.{Matched}
 use Rattle.schemars_validator.specs.declared.validator.Validator.{Validator}
+use Rattle.schemars_validator.specs.Texts.{IsReadBy}
 
 abbrev pub dialect_of : named.Draft → Dialect
 dialect_of named.TheVariants.Draft07 = draft07
@@ -43,10 +44,11 @@ some_has (m ∷ ms) pattern text = has_pair m pattern text || some_has ms patter
 abbrev pub IsOf : named.Draft → Data → Validator → Type 0
 IsOf draft document v = (v.draft ≡ draft) × (view v.document.now ≡ document)
 
--- a verdict is that of the validator's document under some reading of patterns, with at least as many references followed within one
--- another as the bound says
+-- a verdict is that of the validator's document, where a text matches a pattern as its expressions answer, with at least as many
+-- references followed within one another as the bound says
 abbrev pub Says : Validator → Data → Verdict → Type 0
-Says v value says = (patterns : Patterns) × (n : ℕ) × (bound (path_of v.draft) (view v.document.now) value ≤ n)
+Says v value says = (patterns : Patterns) × IsReadBy v.expressions.items value patterns
+    × (n : ℕ) × (bound (path_of v.draft) (view v.document.now) value ≤ n)
     × (says ≡ accepts (dialect_of v.draft) (view v.document.now) patterns n (view v.document.now) value)
 
 -- valid is whether such a verdict is yes

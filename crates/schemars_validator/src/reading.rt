@@ -1,9 +1,14 @@
 //! What the expressions of a document answer about the texts of a value.
-ghost use Rattle.std.specs.Prelude.{◌≡◌};
+ghost use Rattle.std.specs.Prelude.{◌≡◌, ◌++◌, ◌&&◌, ◌||◌, IfOk, OnOk, map};
+ghost use Rattle.std.specs.Prelude.{bytes_eq, string_bytes};
+ghost use Rattle.std.specs.List.{list_any};
+ghost use Rattle.serde_json.specs.View.{view, items_view, members_view};
+ghost use Rattle.schemars_schema.specs.Json.{Text};
 ghost use Rattle.schemars_validator.specs.Asked.{has_pair, pairs_of, some_has};
+ghost use Rattle.schemars_validator.specs.Texts.{texts_of, texts_in_items, texts_in_members};
+ghost use Rattle.schemars_validator.specs.Texts.{answers, IsReadBy};
 
 use crate::expressions::Expression;
-use regex::Matcher;
 use schemars_validate::Patterns;
 use serde_json::{Map, Value};
 use std::alloc::{AllocError, Global};
@@ -50,72 +55,99 @@ fn has_pair(matched: &Matched, pattern: &str, text: &str) -> bool
 }
 
 /// Asks each expression about each text of a value: its texts, and the names of its members.
-pub fn read(
-    alloc: Global,
-    expressions: &[Expression],
-    value: &Value,
-) -> Result<Reading, AllocError> {
+pub fn read(alloc: Global, expressions: &[Expression], value: &Value) -> Result<Reading, AllocError>
+    ensures { IfOk result (λ r. IsReadBy expressions.now (view value.now) (pairs_of r.matched.items)) }
+{
+    let texts = texts_in(alloc, value)?;
     let mut matched = Vec::with_capacity(alloc, expressions.len())?;
     for expression in expressions {
-        let mut matcher = expression.regex.matcher(alloc)?;
-        let mut texts = HashSet::new(alloc);
-        add_texts(alloc, &mut matcher, value, &mut texts)?;
-        let pattern = String::from_str(alloc, expression.pattern.as_str())?;
-        matched.push(Matched { pattern, texts })?;
+        matched.push(matched_by(alloc, expression, &texts)?)?;
     }
     Ok(Reading { matched })
 }
 
-#[cycle(texts)]
-fn add_texts(
+// The texts that match an expression.
+
+fn matched_by(alloc: Global, expression: &Expression, texts: &[&str]) -> Result<Matched, AllocError>
+    ensures { IfOk result (λ m. (pattern text : Text) → has_pair m pattern text
+        ≡ answers expression.now (map (λ t. t.now) texts.now) pattern text) }
+{
+    let mut matcher = expression.regex.matcher(alloc)?;
+    let mut found = HashSet::new(alloc);
+    for text in texts {
+        let matches = matcher.is_match(text);
+        add_if(alloc, matches, text, &mut found)?;
+    }
+    Ok(Matched {
+        pattern: String::from_str(alloc, expression.pattern.as_str())?,
+        texts: found,
+    })
+}
+
+// Adds a text, if it is wanted.
+#[tactic(auto, using(crate::proofs::Pairs::put_none))]
+fn add_if(
     alloc: Global,
-    matcher: &mut Matcher<'_>,
-    value: &Value,
-    texts: &mut HashSet<String>,
-) -> Result<(), AllocError> {
+    wanted: bool,
+    text: &str,
+    found: &mut HashSet<String>,
+) -> Result<(), AllocError>
+    ensures { OnOk result ((t : Text) → list_any (λ k. bytes_eq t (string_bytes k)) found.new.keys
+        ≡ (list_any (λ k. bytes_eq t (string_bytes k)) found.old.keys || (bytes_eq t text.now && wanted))) }
+{
+    if wanted {
+        found.insert(String::from_str(alloc, text)?)?;
+    }
+    Ok(())
+}
+
+// The texts of a value, and the names of its members.
+fn texts_in(alloc: Global, value: &Value) -> Result<Vec<&str>, AllocError>
+    ensures { IfOk result (λ texts. map (λ t. t.now) texts.items ≡ texts_of (view value.now)) }
+{
+    let mut texts = Vec::new(alloc);
+    add_texts(value, &mut texts)?;
+    Ok(texts)
+}
+
+#[cycle(texts)]
+#[tactic(auto, unfolding(crate::specs::Texts::texts_of))]
+fn add_texts<'v>(value: &'v Value, texts: &mut Vec<&'v str>) -> Result<(), AllocError>
+    ensures { OnOk result (map (λ t. t.now) texts.new.items
+        ≡ map (λ t. t.now) texts.old.items ++ texts_of (view value.now)) }
+{
     match value {
         Value::Null | Value::Bool(_) | Value::Number(_) => Ok(()),
-        Value::String(text) => add_text(alloc, matcher, text.as_str(), texts),
-        Value::Array(items) => add_in_items(alloc, matcher, items, texts),
-        Value::Object(members) => add_in_members(alloc, matcher, members, texts),
+        Value::String(text) => Ok(texts.push(text.as_str())?),
+        Value::Array(items) => add_in_items(items, texts),
+        Value::Object(members) => add_in_members(members, texts),
     }
 }
 
 #[cycle(texts)]
-fn add_in_items(
-    alloc: Global,
-    matcher: &mut Matcher<'_>,
-    items: &Vec<Value>,
-    texts: &mut HashSet<String>,
-) -> Result<(), AllocError> {
+#[tactic(auto, unfolding(crate::specs::Texts::texts_in_items))]
+fn add_in_items<'v>(items: &'v Vec<Value>, texts: &mut Vec<&'v str>) -> Result<(), AllocError>
+    ensures { OnOk result (map (λ t. t.now) texts.new.items
+        ≡ map (λ t. t.now) texts.old.items ++ texts_in_items (items_view items.now.items)) }
+{
     for item in items {
-        add_texts(alloc, matcher, item, texts)?;
+        add_texts(item, texts)?;
     }
     Ok(())
 }
 
 #[cycle(texts)]
-fn add_in_members(
-    alloc: Global,
-    matcher: &mut Matcher<'_>,
-    members: &Map<String, Value>,
-    texts: &mut HashSet<String>,
-) -> Result<(), AllocError> {
+#[tactic(auto, unfolding(crate::specs::Texts::texts_in_members))]
+fn add_in_members<'v>(
+    members: &'v Map<String, Value>,
+    texts: &mut Vec<&'v str>,
+) -> Result<(), AllocError>
+    ensures { OnOk result (map (λ t. t.now) texts.new.items
+        ≡ map (λ t. t.now) texts.old.items ++ texts_in_members (members_view members.now.entries)) }
+{
     for (name, member) in members.iter() {
-        add_text(alloc, matcher, name.as_str(), texts)?;
-        add_texts(alloc, matcher, member, texts)?;
-    }
-    Ok(())
-}
-
-fn add_text(
-    alloc: Global,
-    matcher: &mut Matcher<'_>,
-    text: &str,
-    texts: &mut HashSet<String>,
-) -> Result<(), AllocError> {
-    if !texts.contains(text) && matcher.is_match(text) {
-        texts.insert(String::from_str(alloc, text)?)?;
+        texts.push(name.as_str())?;
+        add_texts(member, texts)?;
     }
     Ok(())
 }

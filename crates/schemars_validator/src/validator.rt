@@ -4,7 +4,8 @@ ghost use Rattle.serde_json.specs.View.{view};
 ghost use Rattle.schemars_schema.specs.SchemaData.{is_schema};
 ghost use Rattle.schemars_schema.specs.Acceptance.{bound};
 ghost use Rattle.schemars_validate.specs.Meant.{meant};
-ghost use Rattle.schemars_validator.specs.Asked.{Accepts, IsOf, Says, has_some, is_no, path_of};
+ghost use Rattle.schemars_validator.specs.Asked.{Accepts, IsOf, Says, has_some, is_no, pairs_of, path_of};
+ghost use Rattle.schemars_validator.specs.Texts.{IsReadBy};
 
 use crate::draft::Draft;
 use crate::expressions::{Expression, expressions_in};
@@ -103,7 +104,8 @@ impl<'d> Validator<'d> {
         references: u64,
         value: &Value,
     ) -> Result<Verdict, AllocError>
-        requires { bound (path_of self.now.draft) (view self.now.document.now) (view value.now) ≤ references }
+        requires read { IsReadBy self.now.expressions.items (view value.now) (pairs_of reading.now.matched.items) }
+        requires enough { bound (path_of self.now.draft) (view self.now.document.now) (view value.now) ≤ references }
         ensures { IfOk result (λ says. Says self.now (view value.now) (meant says)) }
     {
         let dialect = self.draft.dialect();
