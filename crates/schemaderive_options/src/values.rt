@@ -143,8 +143,8 @@ fn push_value(
             let _ = cursor.advance();
             push_value(context, cursor, out, depth - 1)
         }
-        TokenKind::Symbol('[') => push_list(context, cursor, out, depth - 1),
-        TokenKind::Symbol('{') => push_object(context, cursor, out, depth - 1),
+        TokenKind::Symbol('[') => push_group(context, cursor, out, false, depth - 1),
+        TokenKind::Symbol('{') => push_group(context, cursor, out, true, depth - 1),
         TokenKind::Word => push_word(context, cursor, out, depth - 1),
         _ => Ok(false),
     }
@@ -177,15 +177,17 @@ fn push_word(
     Ok(is_read && inside.is_empty())
 }
 
+// Writes a list, or an object, whose values have keys; false if one of them is computed.
 #[cycle(values)]
-fn push_list(
+fn push_group(
     context: &Context,
     cursor: &mut Cursor<'_>,
     out: &mut String,
+    is_object: bool,
     depth: usize,
 ) -> Result<bool, Fault> {
     let mut inside = cursor.group(context.alloc)?;
-    out.push('[')?;
+    out.push(if is_object { '{' } else { '[' })?;
     for number in 0..inside.len() {
         if inside.is_empty() {
             break;
@@ -193,6 +195,9 @@ fn push_list(
         if number > 0 {
             out.push(',')?;
         }
+        if is_object && !push_key(context, &mut inside, out)? {
+            return Ok(false);
+        }
         if depth == 0 || !push_value(context, &mut inside, out, depth - 1)? {
             return Ok(false);
         }
@@ -200,40 +205,20 @@ fn push_list(
             return Ok(false);
         }
     }
-    out.push(']')?;
+    out.push(if is_object { '}' } else { ']' })?;
     Ok(true)
 }
 
-#[cycle(values)]
-fn push_object(
-    context: &Context,
-    cursor: &mut Cursor<'_>,
-    out: &mut String,
-    depth: usize,
-) -> Result<bool, Fault> {
-    let mut inside = cursor.group(context.alloc)?;
-    out.push('{')?;
-    for number in 0..inside.len() {
-        let Some(token) = inside.advance() else {
-            break;
-        };
-        if token.kind != TokenKind::Text || !inside.take_symbol(':') {
-            return Ok(false);
+// Writes the key that comes next; false if there is none.
+fn push_key(context: &Context, cursor: &mut Cursor<'_>, out: &mut String) -> Result<bool, Fault> {
+    match cursor.advance() {
+        Some(token) if token.kind == TokenKind::Text && cursor.take_symbol(':') => {
+            push_quoted(context.alloc, out, token.text.as_str())?;
+            out.push(':')?;
+            Ok(true)
         }
-        if number > 0 {
-            out.push(',')?;
-        }
-        push_quoted(context.alloc, out, token.text.as_str())?;
-        out.push(':')?;
-        if depth == 0 || !push_value(context, &mut inside, out, depth - 1)? {
-            return Ok(false);
-        }
-        if !inside.take_symbol(',') && !inside.is_empty() {
-            return Ok(false);
-        }
+        _ => Ok(false),
     }
-    out.push('}')?;
-    Ok(true)
 }
 
 // Writes a number in decimal digits; false if it is written otherwise.

@@ -1,5 +1,5 @@
 //! Rows that are being made.
-use crate::row::Row;
+use schemaderive_known::Row;
 use schemaderive_options::Context;
 use schemaderive_syntax::Source;
 use std::alloc::{AllocError, Global};
@@ -90,6 +90,8 @@ pub struct Builder<'a> {
     pub ids: BTreeMap<String, usize>,
     /// the declarations whose rows are reserved
     pub instances: Vec<Instance>,
+    /// the path of the module of the source, by which its types are named; none if they are not
+    pub home: Option<String>,
 }
 
 impl<'a> Builder<'a> {
@@ -112,6 +114,7 @@ impl<'a> Builder<'a> {
             rows: Vec::new(alloc),
             ids: BTreeMap::new(alloc),
             instances: Vec::new(alloc),
+            home: None,
         })
     }
 
@@ -125,16 +128,31 @@ impl<'a> Builder<'a> {
         self.ids.get(id).copied()
     }
 
-    /// Adds a row, unless there is one with its id, and returns its number.
+    /// Adds a row, unless there is one with its id, and returns its number. What is made of a type
+    /// without an implementation has none.
     pub fn add(&mut self, row: Row) -> Result<usize, AllocError> {
+        let mut row = row;
         if let Some(number) = self.row_by_id(row.id.as_str()) {
             return Ok(number);
         }
         let number = self.rows.len();
         let id = String::from_str(self.alloc(), row.id.as_str())?;
         self.ids.insert(id, number)?;
+        if self.lack_types(&row.parts) {
+            row.ty.clear();
+        }
         self.rows.push(row)?;
         Ok(number)
+    }
+
+    // Whether one of these rows has no type.
+    fn lack_types(&self, rows: &[usize]) -> bool {
+        for row in rows {
+            if self.ty(*row).is_empty() {
+                return true;
+            }
+        }
+        false
     }
 
     /// The row with this number.
@@ -146,6 +164,14 @@ impl<'a> Builder<'a> {
     pub fn id(&self, number: usize) -> &str {
         match self.rows.get(number) {
             Some(row) => row.id.as_str(),
+            None => "",
+        }
+    }
+
+    /// The type of a row.
+    pub fn ty(&self, number: usize) -> &str {
+        match self.rows.get(number) {
+            Some(row) => row.ty.as_str(),
             None => "",
         }
     }
@@ -163,6 +189,9 @@ impl<'a> Builder<'a> {
 pub fn joined(alloc: Global, module: &str, name: &str) -> Result<String, AllocError> {
     if module.is_empty() {
         return String::from_str(alloc, name);
+    }
+    if name.is_empty() {
+        return String::from_str(alloc, module);
     }
     format!(in alloc; "{module}::{name}")
 }

@@ -1,8 +1,6 @@
 //! The rows of the types of other crates, and of constants.
 use crate::builder::{Builder, Scope, Value};
-use crate::known::{Made, known_row};
-use crate::numbers::nonzero_name;
-use crate::row::Row;
+use schemaderive_known::{Made, Makeup, Row, known_row, nonzero_name, path_of};
 use schemaderive_options::Contract;
 use schemaderive_syntax::{Fault, Place, TypeExpr};
 
@@ -73,6 +71,7 @@ impl<'a> Builder<'a> {
     pub fn row_of_parts(
         &mut self,
         made: Made,
+        name: &str,
         rows: &[usize],
         arguments: &[TypeExpr],
         scope: &Scope,
@@ -82,8 +81,8 @@ impl<'a> Builder<'a> {
             return self.row_of_small(rows, place);
         }
         let found = match self.length_in(arguments, scope, place)? {
-            Some(length) => self.made_row(made, rows, Some(length.as_str()))?,
-            None => self.made_row(made, rows, None)?,
+            Some(length) => self.made_row(made, path_of(name), rows, Some(length.as_str()))?,
+            None => self.made_row(made, path_of(name), rows, None)?,
         };
         match found {
             Some(row) => Ok(row),
@@ -133,6 +132,46 @@ impl<'a> Builder<'a> {
         }
     }
 
+    /// Whether this is the name of a type of another crate that has a row here.
+    ///
+    /// # Errors
+    ///
+    /// Memory runs out.
+    pub fn is_known(&self, name: &str, origin: &str, has_arguments: bool) -> Result<bool, Fault> {
+        let is_listed = known_row(self.alloc(), name, origin, has_arguments)?.is_some();
+        Ok(is_listed || is_special(name, origin))
+    }
+
+    /// The row of a type that is declared elsewhere, with these arguments. What it is made of is not
+    /// known.
+    ///
+    /// # Errors
+    ///
+    /// It has no path, by which it could be named elsewhere.
+    pub fn row_of_elsewhere(
+        &mut self,
+        path: &str,
+        rows: &[usize],
+        place: Place,
+    ) -> Result<usize, Fault> {
+        let alloc = self.alloc();
+        if !path.contains("::") {
+            return Err(self.unknown_type(path, place)?);
+        }
+        let ty = if rows.is_empty() {
+            String::from_str(alloc, path)?
+        } else {
+            self.applied(path, rows)?
+        };
+        let mut row = Row::new(alloc, ty.as_str(), path, String::new(alloc))?;
+        row.is_inline = false;
+        row.makeup = Makeup::Other;
+        for part in rows {
+            row.parts.push(*part)?;
+        }
+        Ok(self.add(row.typed(alloc, ty.as_str())?)?)
+    }
+
     fn unknown_type(&self, name: &str, place: Place) -> Result<Fault, Fault> {
         let alloc = self.alloc();
         let reason = format!(in alloc;
@@ -158,7 +197,7 @@ impl<'a> Builder<'a> {
         )?;
         let mut row = Row::new(alloc, id.as_str(), name, shape)?;
         row.is_inline = false;
-        Ok(self.add(row)?)
+        Ok(self.add(row.typed(alloc, id.as_str())?)?)
     }
 
     // The row of decimals, which are read from numbers too.
@@ -291,5 +330,15 @@ impl<'a> Builder<'a> {
             },
             _ => Err(self.context.refused(place, "a constant is wanted here")),
         }
+    }
+}
+
+// Whether a type has a row of its own kind, beside those that are listed.
+fn is_special(name: &str, origin: &str) -> bool {
+    match name {
+        "Decimal" | "BigDecimal" => true,
+        "Duration" => origin == "" || origin == "std" || origin == "core" || origin == "chrono",
+        "SystemTime" => origin == "" || origin == "std",
+        _ => false,
     }
 }

@@ -1,7 +1,7 @@
 //! The rows of declarations with arguments, which are reserved and defined later.
 use crate::builder::{Builder, Instance, Scope, Value, joined};
-use crate::defining::one_field;
-use crate::row::Row;
+use crate::parameters::one_field;
+use schemaderive_known::{Makeup, Row};
 use schemaderive_options::{
     Cases, ContainerOptions, container_options, derives, field_options, name_of,
 };
@@ -86,7 +86,7 @@ impl<'a> Builder<'a> {
         if let Some(row) = self.row_by_id(id.as_str()) {
             return Ok(row);
         }
-        let number_of_row = self.reserved(declaration, id.as_str(), &scope)?;
+        let number_of_row = self.reserved(number, declaration, id.as_str(), &scope)?;
         let mut scope = scope;
         scope.this = Some(number_of_row);
         self.instances.push(Instance {
@@ -100,6 +100,7 @@ impl<'a> Builder<'a> {
     // A row of a declaration, without a shape.
     fn reserved(
         &mut self,
+        number: usize,
         declaration: &Declaration<'_>,
         id: &str,
         scope: &Scope,
@@ -109,7 +110,53 @@ impl<'a> Builder<'a> {
         let name = self.instance_name(declaration, &options, scope)?;
         let mut row = Row::new(alloc, id, name.as_str(), String::new(alloc))?;
         row.is_inline = options.is_inline;
+        row.makeup = Makeup::Declared(number);
+        for binding in &scope.bindings {
+            if let Value::Row(part) = &binding.value {
+                row.parts.push(*part)?;
+            }
+        }
+        row.ty = self.declared_type(declaration, scope)?;
         Ok(self.add(row)?)
+    }
+
+    /// The whole path of a declaration.
+    ///
+    /// # Errors
+    ///
+    /// Memory runs out.
+    pub fn path_to(&self, declaration: &Declaration<'_>) -> Result<String, AllocError> {
+        let alloc = self.alloc();
+        let home = match &self.home {
+            Some(home) => home.as_str(),
+            None => "",
+        };
+        let module = joined(alloc, home, declaration.module.as_str())?;
+        joined(alloc, module.as_str(), declaration.name)
+    }
+
+    // The type of a declaration with these arguments; none if one of its parameters has none.
+    fn declared_type(
+        &self,
+        declaration: &Declaration<'_>,
+        scope: &Scope,
+    ) -> Result<String, AllocError> {
+        let alloc = self.alloc();
+        if declaration.parameters.len() != scope.bindings.len() {
+            return Ok(String::new(alloc));
+        }
+        let mut ty = self.path_to(declaration)?;
+        for (number, binding) in scope.bindings.iter().enumerate() {
+            ty.push_str(if number == 0 { "<" } else { ", " })?;
+            match &binding.value {
+                Value::Row(row) => ty.push_str(self.ty(*row))?,
+                Value::Constant(text) => ty.push_str(text.as_str())?,
+            }
+        }
+        if !scope.bindings.is_empty() {
+            ty.push('>')?;
+        }
+        Ok(ty)
     }
 
     fn instance_id(&self, declaration: &Declaration<'_>, scope: &Scope) -> Result<String, Fault> {

@@ -1,23 +1,15 @@
-//! The rows of the types that a source declares.
+//! The rows of types as a source has them: those that it declares, and what is made of others.
 #![tactic(auto)]
 
 mod builder;
-mod choices;
 mod containers;
-mod defaults;
-mod defining;
-mod fields;
 mod foreign;
 mod instances;
-mod known;
-mod numbers;
+mod parameters;
 mod resolving;
-mod row;
-mod rules;
-mod tables;
+mod types;
 
-pub use builder::{Builder, Item, Scope};
-pub use known::{Made, made_named};
+pub use builder::{Binding, Builder, Instance, Item, Scope, Value};
+pub use instances::Standing;
+pub use parameters::one_field;
 pub use resolving::Resolved;
-pub use row::{Kind, Row};
-pub use tables::{Table, table_of};

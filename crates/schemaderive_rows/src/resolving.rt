@@ -1,6 +1,6 @@
 //! What paths stand for.
 use crate::builder::{Builder, Item, joined};
-use crate::known::{known_row, made_named};
+use schemaderive_known::{known_row, made_named};
 use std::alloc::{AllocError, Global};
 
 /// What a path stands for.
@@ -40,6 +40,41 @@ impl<'a> Builder<'a> {
             }
         }
         self.by_name(segments)
+    }
+
+    /// The whole path of a name that is declared elsewhere; the name alone if no `use` has it.
+    ///
+    /// # Errors
+    ///
+    /// Memory runs out.
+    pub fn path_elsewhere(&self, module: &str, segments: &[String]) -> Result<String, AllocError> {
+        for import in &self.source.uses.imports {
+            if is_named(&import.name, segments) && is_around(import.module.as_str(), module) {
+                let path = replaced(self.alloc(), &import.path, segments)?;
+                return self.whole_path(import.module.as_str(), &path);
+            }
+        }
+        self.whole_path(module, segments)
+    }
+
+    // A path as it is outside of this module of the source.
+    fn whole_path(&self, module: &str, segments: &[String]) -> Result<String, AllocError> {
+        let alloc = self.alloc();
+        let home = match &self.home {
+            Some(home) => home.as_str(),
+            None => "",
+        };
+        let around = joined(alloc, home, module)?;
+        let mut path = String::new(alloc);
+        for segment in segments {
+            path = match segment.as_str() {
+                "self" if path.is_empty() => String::from_str(alloc, around.as_str())?,
+                "super" if path.is_empty() => parent(alloc, around.as_str())?,
+                "super" => parent(alloc, path.as_str())?,
+                name => joined(alloc, path.as_str(), name)?,
+            };
+        }
+        Ok(path)
     }
 
     // A type of another crate, or else the one type of this name.

@@ -1,7 +1,7 @@
 //! What the program writes.
 use crate::writing::table_json;
+use schemaderive_definitions::table_of;
 use schemaderive_options::Contract;
-use schemaderive_rows::table_of;
 use schemaderive_syntax::{Fault, Place, Refusal, Source, Token, read_source, read_tokens};
 use std::alloc::{AllocError, Global};
 

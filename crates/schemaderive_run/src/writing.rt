@@ -1,6 +1,7 @@
 //! Tables as JSON.
+use schemaderive_definitions::Table;
+use schemaderive_known::Row;
 use schemaderive_options::push_quoted;
-use schemaderive_rows::{Row, Table};
 use std::alloc::{AllocError, Global};
 
 /// The JSON of a table, with a line for each row.

@@ -7,8 +7,5 @@ decreases-push_value l = l.depth
 abbrev pub decreases-push_word : goal.decreases-push_word
 decreases-push_word l = l.depth
 
-abbrev pub decreases-push_list : goal.decreases-push_list
-decreases-push_list l = l.depth
-
-abbrev pub decreases-push_object : goal.decreases-push_object
-decreases-push_object l = l.depth
+abbrev pub decreases-push_group : goal.decreases-push_group
+decreases-push_group l = l.depth

@@ -1,92 +1,13 @@
 //! The rows of types as they are written.
 use crate::builder::{Binding, Builder, Item, Scope, Value};
-use crate::defining::{one_field, used_parameters};
 use crate::instances::Standing;
-use crate::known::{Made, made_named, null_row};
+use crate::parameters::{one_field, used_parameters};
 use crate::resolving::Resolved;
-use crate::row::Row;
-use schemaderive_options::{Context, Contract};
-use schemaderive_syntax::{
-    Cursor, Fault, Parameter, Place, Refusal, Source, TypeExpr, read_tokens, read_type,
-};
-use std::alloc::Global;
-
-// How deep types may nest.
-const MAX_DEPTH: usize = 128;
-
-// How many declarations with arguments a table may have.
-const MAX_INSTANCES: usize = 10_000;
-
-/// A table of types.
-#[derive(Drop)]
-pub struct Table {
-    /// its rows
-    pub rows: Vec<Row>,
-    /// the number of the row whose document is wanted
-    pub root: usize,
-    /// what is to be said of the attributes
-    pub warnings: Vec<Refusal>,
-}
-
-/// The table of the types that a type leads to.
-///
-/// # Errors
-///
-/// A type is not known, or an attribute says what a table can't say.
-pub fn table_of<'a>(
-    alloc: Global,
-    source: &'a Source<'a>,
-    root: &str,
-    contract: Contract,
-) -> Result<Table, Fault> {
-    let context = Context::new(alloc, contract);
-    let mut builder = Builder::new(context, source)?;
-    let start = Place { line: 0, column: 0 };
-    let tokens = read_tokens(alloc, root, start)?;
-    let ty = read_type(alloc, Cursor::new(&tokens, start))?;
-    let scope = Scope::new(alloc, "")?;
-    let root = builder.row_of(&ty, &scope, start, MAX_DEPTH)?;
-    builder.define_all()?;
-    Ok(builder.into_table(root))
-}
+use schemaderive_known::{Made, made_named, null_row};
+use schemaderive_options::derives;
+use schemaderive_syntax::{Fault, Parameter, Place, TypeExpr};
 
 impl<'a> Builder<'a> {
-    fn into_table(self, root: usize) -> Table {
-        let Builder {
-            context,
-            source: _,
-            items: _,
-            rows,
-            ids: _,
-            instances: _,
-        } = self;
-        let Context {
-            alloc: _,
-            contract: _,
-            warnings,
-        } = context;
-        Table {
-            rows,
-            root,
-            warnings,
-        }
-    }
-
-    // Defines the rows of the declarations that are reserved, and of those that they lead to.
-    fn define_all(&mut self) -> Result<(), Fault> {
-        for number in 0..MAX_INSTANCES {
-            if number >= self.instances.len() {
-                return Ok(());
-            }
-            self.define(number)?;
-        }
-        let place = Place { line: 0, column: 0 };
-        Err(
-            self.context
-                .refused(place, "these are more than 10000 types"),
-        )
-    }
-
     /// The row of a type.
     ///
     /// # Errors
@@ -211,9 +132,28 @@ impl<'a> Builder<'a> {
                 self.row_of_alias(number, arguments, scope, place, depth - 1)
             }
             Resolved::Foreign(name, origin) => {
-                match made_named(name.as_str(), origin.as_str()) {
-                    Some(made) => self.row_of_made(made, arguments, scope, place, depth - 1),
-                    None => self.row_of_known(name.as_str(), origin.as_str(), arguments, place),
+                let name = name.as_str();
+                let origin = origin.as_str();
+                match made_named(name, origin) {
+                    Some(made) => {
+                        self.row_of_made(made, name, arguments, scope, place, depth - 1)
+                    }
+                    None
+                        if self.home.is_none()
+                            || self.is_known(name, origin, !arguments.is_empty())? => {
+                        self.row_of_known(name, origin, arguments, place)
+                    }
+                    None => {
+                        let rows = self.rows_of(
+                            arguments,
+                            arguments.len(),
+                            scope,
+                            place,
+                            depth - 1,
+                        )?;
+                        let path = self.path_elsewhere(scope.module.as_str(), segments)?;
+                        self.row_of_elsewhere(path.as_str(), &rows, place)
+                    }
                 }
             }
         }
@@ -224,6 +164,7 @@ impl<'a> Builder<'a> {
     fn row_of_made(
         &mut self,
         made: Made,
+        name: &str,
         arguments: &[TypeExpr],
         scope: &Scope,
         place: Place,
@@ -236,7 +177,7 @@ impl<'a> Builder<'a> {
             return self.row_of_nonzero(arguments, place);
         }
         let rows = self.rows_of(arguments, made.arity(), scope, place, depth - 1)?;
-        self.row_of_parts(made, &rows, arguments, scope, place)
+        self.row_of_parts(made, name, &rows, arguments, scope, place)
     }
 
     // The row of what an alias stands for.
@@ -276,10 +217,15 @@ impl<'a> Builder<'a> {
         let Some(declaration) = source.declarations.get(number) else {
             return Err(self.context.refused(place, "this type is not there"));
         };
-        self.require_derive(declaration, place)?;
         if depth == 0 {
             return Err(self.context.refused(place, "this nests too deeply"));
         }
+        if self.home.is_some() && !derives(self.alloc(), &declaration.attributes)? {
+            let rows = self.rows_of(arguments, arguments.len(), scope, place, depth - 1)?;
+            let path = self.path_to(declaration)?;
+            return self.row_of_elsewhere(path.as_str(), &rows, place);
+        }
+        self.require_derive(declaration, place)?;
         let used = used_parameters(self.alloc(), declaration)?;
         let inner = Scope::new(self.alloc(), declaration.module.as_str())?;
         let parameters = &declaration.parameters;

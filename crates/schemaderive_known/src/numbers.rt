@@ -116,8 +116,8 @@ pub fn number_row(alloc: Global, name: &str) -> Result<Option<Row>, AllocError> 
         return Ok(Some(whole_row(alloc, &whole)?));
     }
     match name {
-        "f32" => Ok(Some(float_row(alloc, "float")?)),
-        "f64" => Ok(Some(float_row(alloc, "double")?)),
+        "f32" => Ok(Some(float_row(alloc, "float")?.typed(alloc, name)?)),
+        "f64" => Ok(Some(float_row(alloc, "double")?.typed(alloc, name)?)),
         _ => Ok(None),
     }
 }
@@ -131,7 +131,7 @@ fn whole_row(alloc: Global, whole: &Whole) -> Result<Row, AllocError> {
     row.keywords.put_text(alloc, "format", whole.format)?;
     put_bound(alloc, &mut row, "minimum", whole.minimum)?;
     put_bound(alloc, &mut row, "maximum", whole.maximum)?;
-    Ok(row)
+    row.typed(alloc, whole.kind)
 }
 
 fn put_bound(alloc: Global, row: &mut Row, key: &str, bound: &str) -> Result<(), AllocError> {
@@ -179,7 +179,7 @@ pub fn nonzero_row(alloc: Global, name: &str) -> Result<Option<Row>, AllocError>
             .put(alloc, "not", String::from_str(alloc, "{\"const\":0}")?)?;
     }
     put_bound(alloc, &mut row, "maximum", whole.maximum)?;
-    Ok(Some(row))
+    Ok(Some(row.typed(alloc, id.as_str())?))
 }
 
 /// The name of the type without 0 of this kind of whole numbers.

@@ -42,6 +42,14 @@ impl Made {
     }
 }
 
+// The first name of a path.
+fn crate_of(path: &str) -> &str {
+    match path.split_once("::") {
+        Some((first, _)) => first,
+        None => path,
+    }
+}
+
 // Types with arguments: their names, the crates that have them, and what they are made of.
 const MADE: [(&str, &str, Made); 31] = [
     ("Box", "std", Made::Same),
@@ -77,6 +85,18 @@ const MADE: [(&str, &str, Made); 31] = [
     ("Either", "either", Made::Either),
 ];
 
+/// The path of a map or a set with this name.
+pub fn path_of(name: &str) -> &'static str {
+    match name {
+        "BTreeSet" => "std::collections::BTreeSet",
+        "HashSet" => "std::collections::HashSet",
+        "IndexSet" => "indexmap::IndexSet",
+        "HashMap" => "std::collections::HashMap",
+        "IndexMap" => "indexmap::IndexMap",
+        _ => "std::collections::BTreeMap",
+    }
+}
+
 /// What the type with this name is made of its arguments, if it comes from a crate that has it.
 pub fn made_named(name: &str, origin: &str) -> Option<Made> {
     for (known, home, made) in &MADE {
@@ -96,8 +116,8 @@ fn is_from(home: &str, origin: &str) -> bool {
     }
 }
 
-// A type without arguments whose values are texts: the name that it has in a source, the crate that
-// has it, its id, its name and its format.
+// A type without arguments whose values are texts: the name that it has in a source; its path, or its
+// crate alone if it has no implementation; its id, its name and its format.
 type Formatted = (
     &'static str,
     &'static str,
@@ -107,32 +127,44 @@ type Formatted = (
 );
 
 const FORMATTED: [Formatted; 16] = [
-    ("Ipv4Addr", "std", "ipv4", "ipv4", "ipv4"),
-    ("Ipv6Addr", "std", "ipv6", "ipv6", "ipv6"),
-    ("IpAddr", "std", "ip", "ip", "ip"),
-    ("Uuid", "uuid", "uuid::Uuid", "Uuid", "uuid"),
-    ("Url", "url", "url::Url", "Url", "uri"),
+    ("Ipv4Addr", "std::net::Ipv4Addr", "ipv4", "ipv4", "ipv4"),
+    ("Ipv6Addr", "std::net::Ipv6Addr", "ipv6", "ipv6", "ipv6"),
+    ("IpAddr", "std::net::IpAddr", "ip", "ip", "ip"),
+    ("Uuid", "uuid::Uuid", "uuid::Uuid", "Uuid", "uuid"),
+    ("Url", "url::Url", "url::Url", "Url", "uri"),
     (
         "Timestamp",
-        "jiff",
+        "jiff::Timestamp",
         "jiff::Timestamp",
         "Timestamp",
         "date-time",
     ),
-    ("Zoned", "jiff", "jiff::Zoned", "Zoned", "zoned-date-time"),
+    (
+        "Zoned",
+        "jiff::Zoned<'static>",
+        "jiff::Zoned",
+        "Zoned",
+        "zoned-date-time",
+    ),
     (
         "SignedDuration",
-        "jiff",
+        "jiff::SignedDuration",
         "jiff::SignedDuration",
         "SignedDuration",
         "duration",
     ),
-    ("Span", "jiff", "jiff::Span", "Span", "duration"),
-    ("Date", "jiff", "jiff::Date", "Date", "date"),
-    ("Time", "jiff", "jiff::Time", "Time", "partial-time"),
+    ("Span", "jiff::Span", "jiff::Span", "Span", "duration"),
+    ("Date", "jiff::civil::Date", "jiff::Date", "Date", "date"),
+    (
+        "Time",
+        "jiff::civil::Time",
+        "jiff::Time",
+        "Time",
+        "partial-time",
+    ),
     (
         "DateTime",
-        "jiff",
+        "jiff::civil::DateTime",
         "jiff::DateTime",
         "DateTime",
         "partial-date-time",
@@ -185,12 +217,15 @@ fn formatted_under(name: &str) -> Option<Formatted> {
 }
 
 fn formatted_row(alloc: Global, ty: Formatted) -> Result<Row, AllocError> {
-    let (_, _, id, name, format) = ty;
+    let (_, path, id, name, format) = ty;
     let shape = format!(in alloc; "{{\"format\":\"{format}\"}}")?;
     let mut row = Row::new(alloc, id, name, shape)?;
     row.kind = Kind::Text;
     row.keywords.put_text(alloc, "type", "string")?;
     row.keywords.put_text(alloc, "format", format)?;
+    if path.contains("::") {
+        return row.typed(alloc, path);
+    }
     Ok(row)
 }
 
@@ -202,7 +237,7 @@ pub fn known_row(
     has_arguments: bool,
 ) -> Result<Option<Row>, AllocError> {
     if let Some(ty) = formatted_named(name, origin, has_arguments) {
-        if is_from(ty.1, origin) {
+        if is_from(crate_of(ty.1), origin) {
             return Ok(Some(formatted_row(alloc, ty)?));
         }
         return Ok(None);
@@ -241,12 +276,35 @@ fn home_of(name: &str) -> &'static str {
 }
 
 fn known_value(alloc: Global, name: &str) -> Result<Option<Row>, AllocError> {
-    if let Some(row) = number_row(alloc, name)? {
-        return Ok(Some(row));
+    match unnumbered(alloc, name)? {
+        Some(row) => Ok(Some(row.typed(alloc, implemented(name))?)),
+        None => numbered(alloc, name),
     }
-    if let Some(row) = nonzero_row(alloc, name)? {
-        return Ok(Some(row));
+}
+
+// The path of a type that has an implementation; of a text, the one that has its row.
+fn implemented(name: &str) -> &str {
+    match name {
+        "bool" | "char" => name,
+        "PhantomData" => "()",
+        "Value" => "serde_json::Value",
+        "Number" => "serde_json::Number",
+        "Version" => "semver::Version",
+        "Bytes" | "BytesMut" => "bytes::Bytes",
+        "Schema" => "schemars::Schema",
+        "Weekday" | "TimeDelta" => "",
+        _ => "String",
     }
+}
+
+fn numbered(alloc: Global, name: &str) -> Result<Option<Row>, AllocError> {
+    match number_row(alloc, name)? {
+        Some(row) => Ok(Some(row)),
+        None => nonzero_row(alloc, name),
+    }
+}
+
+fn unnumbered(alloc: Global, name: &str) -> Result<Option<Row>, AllocError> {
     if is_text(name) {
         return Ok(Some(text_row(alloc)?));
     }
@@ -319,7 +377,7 @@ pub fn text_row(alloc: Global) -> Result<Row, AllocError> {
 pub fn null_row(alloc: Global) -> Result<Row, AllocError> {
     let mut row = plain_row(alloc, "null", "null", "\"null\"", Kind::Other)?;
     row.default = Some(String::from_str(alloc, "null")?);
-    Ok(row)
+    row.typed(alloc, "()")
 }
 
 fn bool_row(alloc: Global) -> Result<Row, AllocError> {

@@ -15,6 +15,27 @@ pub enum Kind {
     Other,
 }
 
+/// What the type of a row is made of.
+#[derive(Clone, Copy, Debug, PartialEq, Eq)]
+pub enum Makeup {
+    /// nothing
+    Plain,
+    /// what the source declares
+    Declared(usize),
+    /// an Option of its part
+    Optional,
+    /// a list of its part
+    List,
+    /// a list of its part, whose items differ
+    Set,
+    /// a list of its part, as long as the row's length says
+    Array,
+    /// a map from its first part to its second
+    Map,
+    /// its parts in another way
+    Other,
+}
+
 /// A row of a table.
 #[derive(Drop)]
 pub struct Row {
@@ -38,6 +59,14 @@ pub struct Row {
     pub item: Option<usize>,
     /// the default of the type, as JSON
     pub default: Option<String>,
+    /// the type, with whole paths; empty if it has no implementation
+    pub ty: String,
+    /// what the type is made of
+    pub makeup: Makeup,
+    /// the rows of the types that it is made of
+    pub parts: Vec<usize>,
+    /// of an array, its length
+    pub length: String,
 }
 
 impl Row {
@@ -54,6 +83,17 @@ impl Row {
             inner: None,
             item: None,
             default: None,
+            ty: String::new(alloc),
+            makeup: Makeup::Plain,
+            parts: Vec::new(alloc),
+            length: String::new(alloc),
         })
+    }
+
+    /// The row with its type.
+    pub fn typed(self, alloc: Global, ty: &str) -> Result<Row, AllocError> {
+        let mut row = self;
+        row.ty = String::from_str(alloc, ty)?;
+        Ok(row)
     }
 }
