@@ -1,5 +1,5 @@
 # On a machine with the Rattle kit. `make help` lists the targets.
-.PHONY: help run lint program library install wheel node page openapi-example test test-bindings
+.PHONY: help run lint validate program library install wheel node page openapi-example test test-bindings
 
 TABLE = examples/vec-option-u8.json
 DIALECT = 2020-12
@@ -8,6 +8,7 @@ PREFIX = /usr/local
 program = crates/schemagen
 built = $(program)/out/schemagen
 linter = crates/schemalint/out/schemalint
+validator = crates/schemavalid/out/schemavalid
 deriver = crates/schemaderive/out/schemaderive
 retries = crates/schemars_retries/out/schemars_retries
 library = out/library
@@ -17,6 +18,7 @@ libraries = $(shell sed -n '/^schemagen:/q; s/^\([a-z_]*\):.*/\1/p' crates.txt) 
 help:
 	@echo 'make run [TABLE="FILE.."] [DIALECT=..] [FLAGS=..] prints the document of each table, without proofs'
 	@echo 'make lint [TABLE="FILE.."]                      tells what is wrong with each table, and whether it is plain'
+	@echo 'make validate SCHEMA=FILE VALUES=FILE [DIALECT=..] tells which values the document accepts, and why not the others'
 	@echo 'make program                                    proves everything below the programs, and builds them'
 	@echo 'make library [PREFIX=/usr/local]                builds the C library of what is proved, in out/library'
 	@echo 'make install [PREFIX=/usr/local]                copies the programs, the C library and their manual pages'
@@ -40,6 +42,11 @@ run:
 lint:
 	$(call try,crates/schemalint,)
 
+# Which values of a file a document accepts.
+validate:
+	@echo 'a checked run without proofs: a minute or two; `make program` proves and builds once' >&2
+	@cd crates/schemavalid && rt try --data schema.json=$(abspath $(SCHEMA)) < $(abspath $(VALUES)) -- $(DIALECT) schema.json
+
 # Proves the libraries, which takes about an hour on two cores, and builds the programs.
 program:
 	@started=$$(date +%s); done=0; all=$(words $(libraries)); \
@@ -48,15 +55,17 @@ program:
 	    echo "proving $$crate ($$done of $$all, $$(( ($$(date +%s) - started) / 60 )) minutes so far)" >&2; \
 	    (cd crates/$$crate && rt check >/dev/null) || exit 1; \
 	done
+	@cd crates/schemavalid && rt run < stdin -- 2020-12 data/schema.json >/dev/null || [ $$? = 1 ]
 	@cd $(program) && rt run < ../../examples/vec-option-u8.json -- types 2020-12 >/dev/null
 	@cd crates/schemalint && rt run < ../../examples/linked-list.json >/dev/null
 	@cd crates/schemaderive && rt run < stdin -- --table Config >/dev/null
 	@echo 'built: $(built) types 2020-12 < TABLE' >&2
 	@echo 'built: $(linter) TABLE' >&2
+	@echo 'built: $(validator) 2020-12 SCHEMA VALUES' >&2
 	@echo 'built: $(deriver) --table ROOT SOURCE' >&2
 
 # If the programs are not built, they are built first.
-$(built) $(linter) $(deriver):
+$(built) $(linter) $(validator) $(deriver):
 	@$(MAKE) --no-print-directory program
 
 # The C library, of what is proved: an archive, a shared library, a header, a pkg-config file and a manual page.
@@ -69,15 +78,15 @@ $(library)/libschemars.so.1:
 	@$(MAKE) --no-print-directory library
 
 # Copies the programs, the C library and their manual pages.
-install: $(built) $(linter) $(deriver) $(library)/libschemars.so.1
+install: $(built) $(linter) $(validator) $(deriver) $(library)/libschemars.so.1
 	install -d $(DESTDIR)$(PREFIX)/bin $(DESTDIR)$(PREFIX)/lib/pkgconfig $(DESTDIR)$(PREFIX)/include
 	install -d $(DESTDIR)$(PREFIX)/share/man/man1 $(DESTDIR)$(PREFIX)/share/man/man3
-	install $(built) $(linter) $(deriver) $(DESTDIR)$(PREFIX)/bin
+	install $(built) $(linter) $(validator) $(deriver) $(DESTDIR)$(PREFIX)/bin
 	install -m 644 $(library)/libschemars.a $(library)/libschemars.so.1 $(DESTDIR)$(PREFIX)/lib
 	ln -sf libschemars.so.1 $(DESTDIR)$(PREFIX)/lib/libschemars.so
 	install -m 644 $(library)/schemars.h $(DESTDIR)$(PREFIX)/include
 	sed 's#^prefix=.*#prefix=$(PREFIX)#' $(library)/schemars.pc >$(DESTDIR)$(PREFIX)/lib/pkgconfig/schemars.pc
-	install -m 644 docs/schemagen.1 docs/schemalint.1 docs/schemaderive.1 $(DESTDIR)$(PREFIX)/share/man/man1
+	install -m 644 docs/schemagen.1 docs/schemalint.1 docs/schemavalid.1 docs/schemaderive.1 $(DESTDIR)$(PREFIX)/share/man/man1
 	install -m 644 docs/schemars.3 $(DESTDIR)$(PREFIX)/share/man/man3
 
 # The packages for Python and node, and the page as one file. `bindings/node/build` says how WebAssembly is made.

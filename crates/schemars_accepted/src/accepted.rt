@@ -4,9 +4,9 @@ ghost use Rattle.serde_json.specs.View.{view};
 ghost use Rattle.schemars_types.specs.Faults.{IsChecked};
 ghost use Rattle.schemars_accepted.specs.Accepted.{IsAccepted};
 
-use crate::json::look;
 use schemars_agreement::{Agrees, to_member_value};
 use schemars_types::{TypeNo, Types};
+use schemars_validate::look;
 use serde_json::{Error, Value};
 use std::alloc::Global;
 

@@ -2,11 +2,11 @@
 //! whatever calls were before.
 #![tactic(auto)]
 
-ghost use Rattle.std.specs.Prelude.{◌≡◌, ℕ, Some, IfOk, OnOk};
-ghost use Rattle.schemars_types.specs.Rows.{place_of};
-ghost use Rattle.schemars_headline.specs.Drafts.{Draft, dialect_of};
-ghost use Rattle.schemars_headline.specs.Headline.{Headline, IsDraftPath, SubschemaHeadline};
+ghost use Rattle.std.specs.Prelude.{◌≡◌, IfOk, OnOk};
+ghost use Rattle.schemars_headline.specs.Drafts.{Draft};
+ghost use Rattle.schemars_headline.specs.Headline.{IsDraftPath};
 ghost use Rattle.schemars_headline.specs.State.{HasOwnDefinitions, path_of};
+ghost use Rattle.schemars_generate.specs.ByType.{MeansType, MeansTypeIn};
 ghost use Rattle.schemars_generate.specs.Generator.{state, transforms_of};
 ghost use Rattle.schemars_generate.specs.Settings.{transforms_for};
 
@@ -52,9 +52,8 @@ pub fn subschema_behind<A: JsonSchema, B: JsonSchema, C: JsonSchema, O: Transfor
     generator: &mut SchemaGenerator<O>,
     types: Types,
 ) -> Result<Schema, GenerateError>
-    ensures means { HasOwnDefinitions (state generator.old) → IfOk result (λ d. (n : ℕ)
-        × (place_of C.says.id generator.new.rows ≡ Some n)
-        × SubschemaHeadline (state generator.new) n d) }
+    ensures means { HasOwnDefinitions (state generator.old)
+        → IfOk result (MeansTypeIn C.says (state generator.new)) }
 {
     call_before::<A, B, O>(alloc, generator, types)?;
     let schema = generator.subschema_for::<C>(alloc)?;
@@ -73,9 +72,8 @@ pub fn root_behind<A: JsonSchema, B: JsonSchema, C: JsonSchema, O: Transform + D
 ) -> Result<Schema, GenerateError>
     ensures headline { (draft : Draft) → transforms_of generator.old ≡ transforms_for draft
         → HasOwnDefinitions (state generator.old) → IsDraftPath (path_of (state generator.old))
-        → IfOk result (λ d. (n : ℕ) × (place_of C.says.id generator.new.rows ≡ Some n)
-        × Headline (dialect_of draft) generator.new.rows generator.old.settings.contract
-        (path_of (state generator.old)) n d) }
+        → IfOk result
+        (MeansType draft C.says (state generator.old).settings generator.new.rows) }
 {
     call_before::<A, B, O>(alloc, generator, types)?;
     let document = generator.root_schema_for::<C>(alloc)?;

@@ -17,18 +17,19 @@ use Rattle.schemars_build.specs.Work.{Work}
 use Rattle.schemars_walk.specs.Walk.{TransformStep}
 use Rattle.schemars_headline.specs.Calls.{IsRootCall}
 use Rattle.schemars_headline.specs.Drafts.{DraftHeadlines, dialect_of}
-use Rattle.schemars_headline.specs.Headline.{RootHeadline}
-use Rattle.schemars_headline.specs.State.{State, HasOwnDefinitions}
+use Rattle.schemars_headline.specs.Headline.{RootHeadline, Headline, IsDraftPath}
+use Rattle.schemars_headline.specs.State.{State, Settings, HasOwnDefinitions, stripped}
 use Rattle.schemars_headline.proofs.Calls.{part_own, after_root_own}
 use Rattle.schemars_headline.proofs.Larger.{more_types_own}
 use Rattle.schemars_generate.specs.Answers.{IsAnswerFor, IsSubschemaFor, KeepsDefinitions}
 use Rattle.schemars_headline.proofs.InlinedDrafts.{root_needs_none}
-use Rattle.schemars_generate.specs.ByType.{IsRegistered, IsTypeRefusal, IsRootInTable, with_rows}
+use Rattle.schemars_generate.specs.ByType.{IsRegistered, IsJoined, MeansTypeIn, MeansType, IsSubschemaOfType, IsRootOfType}
+use Rattle.schemars_generate.specs.ByType.{IsTypeRefusal, IsRootInTable, with_rows}
 use Rattle.schemars_generate.specs.Refusals.{error_of}
 use Rattle.schemars_generate.specs.declared.error.GenerateError.{GenerateError}
 use Rattle.schemars_generate.specs.declared.error.GenerateError.TheVariants.{OutOfMemory}
 use Rattle.schemars_generate.specs.Generator.{Transforms}
-use Rattle.schemars_generate.specs.Settings.{ApplyInOrder}
+use Rattle.schemars_transform.specs.Member.{ApplyInOrder}
 use Rattle.schemars_generate.specs.Through.{IsThrough, IsTransformed, IsRootMade, IsUntransformedCall}
 use Rattle.schemars_generate.proofs.Answered.{subschema_for, keeps}
 use Rattle.schemars_generate.proofs.BuiltIns.{transformed, promised}
@@ -117,6 +118,40 @@ module _ {O : Type 0} (Q : TransformStep O) (ts us : Transforms O) (s : State) (
       let call = (h.made.through).1.1 in
       keeps s new (root_own new d h)
       (λ all none. ap (λ x. x.definitions) call.2 ∙ root_needs_none s n call.0 _ call.1 all none)
+
+-- ---- documents of a type that has joined the table
+
+pub subschema_joined : (t : TypeRow) (old new : State) (n : ℕ) (d : Data) → IsChecked old.rows → IsJoined t old.rows new.rows n
+    → IsSubschemaFor (with_rows new.rows old) new n d → IsSubschemaOfType t old new d
+unfolding MeansTypeIn
+subschema_joined t old new n d checked joined is = record {
+  n = n;
+  joined = joined;
+  is = is;
+  means = λ own. record {
+    n = n;
+    number = joined.registered.added.number;
+    means = is.means (more_types_own old new.rows checked joined.registered.begins own);
+  };
+}
+
+pub root_joined : {O : Type 0} (Q : TransformStep O) (ts us : Transforms O) (t : TypeRow) (old new : State) (n : ℕ) (d : Data)
+    → IsChecked old.rows → IsJoined t old.rows new.rows n
+    → IsRootInTable Q ts us (with_rows new.rows old) n (IsUntransformedCall (with_rows new.rows old) n new) d
+    → IsRootOfType Q ts us t old new d
+unfolding MeansType
+root_joined Q ts us t old new n d checked joined is = record {
+  n = n;
+  joined = joined;
+  is = is;
+  means = λ draft settings same transforms own path. record {
+    n = n;
+    number = joined.registered.added.number;
+    headline = subst (λ (s : Settings). IsDraftPath (stripped s.definitions_path)
+        → Headline (dialect_of draft) new.rows s.contract (stripped s.definitions_path) n d) same
+        (λ p. is.headline draft transforms (more_types_own old new.rows checked joined.registered.begins own) p) path;
+  };
+}
 
 -- ---- refusals
 

@@ -1,7 +1,7 @@
 -- What a call by type makes of a table, what it answers, and what it refuses.
-use Rattle.std.specs.Prelude.{◌≡◌, ◌⊎◌, ℕ, List, IsSome, take, length}
+use Rattle.std.specs.Prelude.{◌≡◌, ◌⊎◌, ℕ, List, Some, IsSome, take, length}
 use Rattle.serde_json.specs.Data.{Data}
-use Rattle.schemars_types.specs.Rows.{Row, HasDistinctIds}
+use Rattle.schemars_types.specs.Rows.{Row, HasDistinctIds, place_of}
 use Rattle.schemars_types.specs.Faults.{IsAccepted, IsChecked, Refusal}
 use Rattle.schemars_types.specs.declared.error.TypesError.{TypesError}
 use Rattle.schemars_impls.specs.Describes.{entry_under}
@@ -10,12 +10,13 @@ use Rattle.schemars_build.specs.Naming.{IsOneToOne}
 use Rattle.schemars_build.specs.Work.{Work}
 use Rattle.schemars_walk.specs.Walk.{TransformStep}
 use Rattle.schemars_headline.specs.Drafts.{Draft, dialect_of}
-use Rattle.schemars_headline.specs.Headline.{RootHeadline}
-use Rattle.schemars_headline.specs.State.{State}
+use Rattle.schemars_headline.specs.Headline.{RootHeadline, Headline, IsDraftPath, SubschemaHeadline}
+use Rattle.schemars_headline.specs.State.{State, Settings, HasOwnDefinitions, stripped}
 use Rattle.schemars_generate.specs.Refusals.{error_of}
 use Rattle.schemars_generate.specs.Generator.{Transforms, held_work}
 use Rattle.schemars_generate.specs.Settings.{transforms_for}
-use Rattle.schemars_generate.specs.Through.{IsTransformed, IsRootRefusal}
+use Rattle.schemars_generate.specs.Answers.{IsSubschemaFor}
+use Rattle.schemars_generate.specs.Through.{IsTransformed, IsRootRefusal, IsUntransformedCall}
 use Rattle.schemars_generate.specs.declared.error.GenerateError.{GenerateError}
 use Rattle.schemars_generate.specs.declared.error.GenerateError.TheVariants.{OutOfMemory}
 
@@ -49,6 +50,44 @@ pub record IsRootInTable {O : Type 0} (Q : TransformStep O) (ts us : Transforms 
     : Type 0 where
   pub made : IsTransformed Q ts us R d
   pub headline : (draft : Draft) → ts.items ≡ transforms_for draft → RootHeadline (dialect_of draft) s n d
+
+-- ---- what documents of types mean
+
+-- the type has a row, which the schema means in each document that holds the definitions
+pub record HasMeaningIn (t : TypeRow) (s : State) (d : Data) : Type 0 where
+  pub n : ℕ
+  pub number : place_of t.id s.rows ≡ Some n
+  pub means : SubschemaHeadline s n d
+
+-- the type has a row, which the root document means under the draft
+pub record HasMeaning (draft : Draft) (t : TypeRow) (s : Settings) (rows : List Row) (d : Data) : Type 0 where
+  pub n : ℕ
+  pub number : place_of t.id rows ≡ Some n
+  pub headline : Headline (dialect_of draft) rows s.contract (stripped s.definitions_path) n d
+
+-- the same, each as one fact, into which search does not look
+unfoldable pub MeansTypeIn : TypeRow → State → Data → Type 0
+MeansTypeIn t s d = HasMeaningIn t s d
+
+unfoldable pub MeansType : Draft → TypeRow → Settings → List Row → Data → Type 0
+MeansType draft t s rows d = HasMeaning draft t s rows d
+
+-- The type has joined the table, and this is the schema of its row in it. It means the type if the definitions before were the
+-- generator's own.
+pub record IsSubschemaOfType (t : TypeRow) (old new : State) (d : Data) : Type 0 where
+  pub n : ℕ
+  pub joined : IsJoined t old.rows new.rows n
+  pub is : IsSubschemaFor (with_rows new.rows old) new n d
+  pub means : HasOwnDefinitions old → MeansTypeIn t new d
+
+-- The type has joined the table, and this is the root document of its row in it. With the transforms of a draft it means the type, if
+-- the definitions before were the generator's own. (The settings may be those of an earlier state that has the same.)
+pub record IsRootOfType {O : Type 0} (Q : TransformStep O) (ts us : Transforms O) (t : TypeRow) (old new : State) (d : Data) : Type 0 where
+  pub n : ℕ
+  pub joined : IsJoined t old.rows new.rows n
+  pub is : IsRootInTable Q ts us (with_rows new.rows old) n (IsUntransformedCall (with_rows new.rows old) n new) d
+  pub means : (draft : Draft) (s : Settings) → old.settings ≡ s → ts.items ≡ transforms_for draft → HasOwnDefinitions old
+      → IsDraftPath (stripped s.definitions_path) → MeansType draft t s new.rows d
 
 -- ---- refusals
 

@@ -1,5 +1,5 @@
 -- What lists of transforms do.
-use Rattle.std.proofs.Common.{◌≡◌, ◌⊎◌, inl, inr, List, [], ◌∷◌, Vec, Global, false, Ok, Err, refl, sym, ap, ◌∙◌, subst}
+use Rattle.std.proofs.Common.{◌≡◌, inl, inr, List, [], ◌∷◌, Vec, Global, false, Ok, Err, refl, sym, ap, ◌∙◌, subst}
 use Rattle.std.proofs.lemmas.Bool.{or_parts}
 use Rattle.std.specs.Prelude.{MatchResult}
 use Rattle.serde_json.specs.Data.{Data, null, boolean, number, string, array, object, Members, no_members, member}
@@ -115,3 +115,15 @@ module _ {O : Type 0} (Q : TransformStep O) where
       each_wants_memory w u ms fs r (ap some_own (at_value Q t w d e (Ok x) none one).0 ∙ none) rest
   each_wants_memory t u (member k d ms) taken r none (Err x, w, e, one, (is, stays)) =
       subst (λ a. MatchResult a (λ _. Unit {0}) (λ e. e ≡ Memory)) (sym is) (at_value Q t w d e (Err x) none one).1
+
+  -- built-in ones stay as they are
+  pub each_stays : (t u : Vec (GenTransform O) Global) (ms taken : Members) (r : Answer) → some_own t.items ≡ false
+      → EachMember (λ k. AtSchema (All Q)) t ms r u taken → u.items ≡ t.items
+  each_stays t u no_members taken r none h = ap (λ w. w.items) h.1
+  each_stays t u (member k d ms) taken r none (Ok x, w, e, one, inl (memory, stays)) =
+      ap (λ y. y.items) stays ∙ (at_value Q t w d e (Ok x) none one).0
+  each_stays t u (member k d ms) taken r none (Ok x, w, e, one, inr (fs, rest, same)) =
+      let here = (at_value Q t w d e (Ok x) none one).0 in
+      each_stays w u ms fs r (ap some_own here ∙ none) rest ∙ here
+  each_stays t u (member k d ms) taken r none (Err x, w, e, one, (is, stays)) =
+      ap (λ y. y.items) stays ∙ (at_value Q t w d e (Err x) none one).0

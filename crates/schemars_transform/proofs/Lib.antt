@@ -9,3 +9,11 @@ pub mod Items
 pub mod Texts
 pub mod Lists
 pub mod Laws
+pub mod Asking
+pub mod Idle
+pub mod IdleTransforms
+pub mod Seen
+pub mod Replaced
+pub mod Turns
+pub mod Parted
+pub mod Taken

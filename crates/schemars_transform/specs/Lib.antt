@@ -6,3 +6,5 @@ pub mod Formats
 pub mod Inner
 pub mod Member
 pub mod BuiltIn
+pub mod Needs
+pub mod Apart

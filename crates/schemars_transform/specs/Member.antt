@@ -1,7 +1,9 @@
 -- What a transform of any kind does, and what its copies are.
-use Rattle.std.specs.Prelude.{◌≡◌, List, Bool, true, false, map, string_bytes}
+use Rattle.std.specs.Prelude.{◌≡◌, List, Vec, Bool, true, false, map, string_bytes}
+use Rattle.std.specs.Global.{Global}
 use Rattle.std.specs.List.{AllZip, list_any}
 use Rattle.schemars_walk.specs.Walk.{TransformStep}
+use Rattle.schemars_walk.specs.Order.{InOrder}
 use Rattle.schemars_transform.specs.Built.{Changes, replace_bool_schemas, remove_ref_siblings, set_single_example}
 use Rattle.schemars_transform.specs.Built.{replace_const_value, replace_prefix_items}
 use Rattle.schemars_transform.specs.Nullable.{add_nullable}
@@ -24,6 +26,10 @@ OfMember Q (AddNullable t) s r u v = Changes (add_nullable t) (AddNullable t) s 
 OfMember Q (ReplaceUnevaluatedProperties t) s r u v = Changes replace_unevaluated_properties (ReplaceUnevaluatedProperties t) s r u v
 OfMember Q (RestrictFormats t) s r u v = Changes (restrict_formats t) (RestrictFormats t) s r u v
 OfMember {O} Q (Own t) s r u v = (w : O) × Q t s r w v × (u ≡ Own w)
+
+-- transforms in a list, one after another
+abbrev pub ApplyInOrder : {O : Type 0} → TransformStep O → TransformStep (Vec (GenTransform O) Global)
+ApplyInOrder Q ts s r us v = InOrder (OfMember Q) ts.items s r us.items v
 
 abbrev pub is_own : {O : Type 0} → GenTransform O → Bool
 is_own (ReplaceBoolSchemas t) = false

@@ -26,6 +26,15 @@ nulls_in (Some (string s)) = if bytes_eq s (codes "null") then Alone else Missin
 nulls_in (Some (array ds)) = if holds_text (codes "null") ds then if all_null ds then Alone else Among else Missing
 nulls_in (Some (object ms)) = Missing
 
+-- whether a `type` holds null
+abbrev pub has_null : Data → Bool
+has_null null = false
+has_null (boolean b) = false
+has_null (number n) = false
+has_null (string s) = bytes_eq s (codes "null")
+has_null (array ds) = holds_text (codes "null") ds
+has_null (object ms) = false
+
 abbrev pub without_null : Items → Items
 without_null no_items = no_items
 without_null (item d ds) = if is_null_name d then without_null ds else item d (without_null ds)

@@ -1,12 +1,15 @@
 //! The built-in transforms, and the list of transforms that settings hold.
 #![tactic(auto)]
 
+mod apply;
 mod built_in;
 mod copies;
 mod error;
 mod gen_transform;
+mod needs;
 mod no_transform;
 
+pub use apply::{apply_all, apply_to_members};
 pub use built_in::bool_schemas::ReplaceBoolSchemas;
 pub use built_in::const_value::ReplaceConstValue;
 pub use built_in::formats::RestrictFormats;

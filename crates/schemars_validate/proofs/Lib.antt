@@ -10,3 +10,4 @@ pub mod Judging
 pub mod Joining
 pub mod Measures
 pub mod Stepping
+pub mod Held

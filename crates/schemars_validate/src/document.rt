@@ -77,8 +77,8 @@ pub fn is_valid<P: Patterns>(
     Ok(says == Verdict::Yes)
 }
 
-// So many references suffice, if the number fits.
-fn bound(definitions: &str, document: &Value, value: &Value) -> Option<u64>
+/// So many references suffice, if the number fits.
+pub fn bound(definitions: &str, document: &Value, value: &Value) -> Option<u64>
     ensures { IfSome result (λ n. n ≡ bound definitions.now (view document.now) (view value.now)) }
 {
     let deep = depth(value)?.checked_add(1)?;
@@ -99,8 +99,9 @@ fn count_of_definitions(definitions: &str, document: &Value) -> u64
     }
 }
 
+/// The height of a value: 0 for scalars, else one more than the greatest height inside.
 #[cycle(depth)]
-fn depth(value: &Value) -> Option<u64>
+pub fn depth(value: &Value) -> Option<u64>
     ensures { IfSome result (λ n. n ≡ depth (view value.now)) }
 {
     match value {

@@ -5,6 +5,7 @@ mod dialect;
 mod document;
 mod found;
 mod joined;
+mod json;
 mod judge;
 mod marks;
 mod numbers;
@@ -13,7 +14,9 @@ mod scalars;
 mod verdict;
 
 pub use dialect::Dialect;
-pub use document::{is_valid, validate, validate_document};
+pub use document::{bound, depth, is_valid, validate, validate_document};
+pub use found::resolved;
+pub use json::look;
 pub use numbers::{is_whole, numbers_le};
 pub use patterns::{PatternList, Patterns};
 pub use verdict::Verdict;

@@ -55,7 +55,7 @@ pub enum Actor {
 }
 
 impl JsonSchema for Actor {
-    ghost says = { own (codes "Actor") (λ d. IsIn ⟦<User as JsonSchema>⟧.says d × IsIn ⟦<String as JsonSchema>⟧.says d × IsIn ⟦<u32 as JsonSchema>⟧.says d × IsIn ⟦<String as JsonSchema>⟧.says d) };
+    ghost says = { own (codes "Actor") (λ d. IsIn ⟦<User as JsonSchema>⟧.says d × IsIn ⟦<String as JsonSchema>⟧.says d × IsIn ⟦<u32 as JsonSchema>⟧.says d × IsIn ⟦<Option<String> as JsonSchema>⟧.says d) };
 
     fn inline_schema() -> bool {
         false
@@ -77,7 +77,8 @@ impl JsonSchema for Actor {
         add_one::<u32>(alloc, types, &mut program)?;
         add_tuple(alloc, &mut variants, "program", program)?;
         let mut guest = Vec::new(alloc);
-        add_field::<String>(alloc, types, &mut guest, "mail", REQUIRED)?;
+        add_field::<String>(alloc, types, &mut guest, "name", REQUIRED)?;
+        add_field::<Option<String>>(alloc, types, &mut guest, "mail", OPTIONAL)?;
         add_struct(alloc, &mut variants, "guest", guest, false)?;
         Ok(external_entry(alloc, variants))
     }

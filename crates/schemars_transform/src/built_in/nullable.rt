@@ -5,7 +5,8 @@ ghost use Rattle.serde_json.specs.Find.{get};
 ghost use Rattle.serde_json.specs.View.{view, items_view};
 ghost use Rattle.schemars_schema.specs.SchemaData.{inserted};
 ghost use Rattle.schemars_schema.specs.Edits.{holds_text};
-ghost use Rattle.schemars_transform.specs.Nullable.{is_null_name, all_null, nulls_in, without_null};
+ghost use Rattle.schemars_transform.specs.Nullable.{is_null_name, all_null, nulls_in, has_null};
+ghost use Rattle.schemars_transform.specs.Nullable.{without_null};
 ghost use Rattle.schemars_transform.specs.Nullable.{one_or_list};
 ghost use Rattle.schemars_transform.specs.Nullable.{type_without_null, null_taken_out, null_alone};
 ghost use Rattle.schemars_transform.specs.Nullable.{null_among};
@@ -138,6 +139,17 @@ fn nulls_of(types: &Value) -> Nulls
         }
         Value::Array(names) => nulls_among(names),
         _ => Nulls::Missing,
+    }
+}
+
+/// Whether a `type` holds null.
+pub fn has_null(types: &Value) -> bool
+    ensures { result ≡ has_null (view types.now) }
+{
+    match types {
+        Value::String(name) => name.as_str() == "null",
+        Value::Array(names) => holds_null(names),
+        _ => false,
     }
 }
 

@@ -3,7 +3,7 @@ use Rattle.schemars_build.specs.Work.{Work}
 use Rattle.schemars_documents.specs.Template.{part}
 use Rattle.schemars_generate.specs.Answers.{IsAnswerFor}
 use Rattle.schemars_generate.specs.Generator.{state_of}
-use Rattle.schemars_generate.proofs.ByType.{subschema_in_table}
+use Rattle.schemars_generate.proofs.ByType.{subschema_in_table, subschema_joined}
 use Rattle.schemars_generate.proofs.Answered.{keeps_answer}
 use Rattle.schemars_headline.proofs.Larger.{more_types_own}
 use Rattle.schemars_generate.proofs.by_type.subschema_of.Goals as goal
@@ -14,12 +14,10 @@ returns-clause-subschema g c =
     let d = c.in_ok-schema.schema in
     let old = state_of c.args.settings.now c.args.types.now c.args.work.now in
     let new = state_of c.args.settings.now c.join.new.types c.answer_of.new.work in
-    let P : Work → Type 0 = λ w. IsAnswerFor (state_of c.args.settings.now c.join.new.types w) new (part n) d in (
-      n,
-      c.in_ok-n.ensures.joined,
-      subschema_in_table old new n d refl c.in_ok-n.ensures.checked c.in_ok-schema.ensures.one_to_one
-          (subst P c.extend.ensures c.in_ok-schema.ensures.answer),
-    )
+    let P : Work → Type 0 = λ w. IsAnswerFor (state_of c.args.settings.now c.join.new.types w) new (part n) d in
+    subschema_joined g.T.JsonSchema.says old new n d c.requires.checked.1 c.in_ok-n.ensures.joined
+    (subschema_in_table old new n d refl c.in_ok-n.ensures.checked c.in_ok-schema.ensures.one_to_one
+    (subst P c.extend.ensures c.in_ok-schema.ensures.answer))
 
 pub returns-clause-own : goal.returns-clause-own
 returns-clause-own g c =

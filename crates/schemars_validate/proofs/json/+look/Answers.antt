@@ -4,8 +4,8 @@ use Rattle.std.specs.Map.{values_of}
 use Rattle.serde_json.specs.View.{view, items_view}
 use Rattle.schemars_schema.specs.Json.{IsJson, AreJson}
 use Rattle.schemars_definitions.proofs.Restored.{sorted-entries}
-use Rattle.schemars_accepted.proofs.Held.{text-json, entries-json}
-use Rattle.schemars_accepted.proofs.json.+look.Goals as goal
+use Rattle.schemars_validate.proofs.Held.{text-json, entries-json}
+use Rattle.schemars_validate.proofs.json.+look.Goals as goal
 
 pub look-returns-in-String : goal.look-returns-in-String
 look-returns-in-String t c = subst (λ v. IsJson (view v)) (sym c.in-String.is) (text-json c.in-String.field-0)

@@ -3,7 +3,7 @@ use Rattle.std.proofs.Common.{drop}
 use Rattle.std.specs.Map.{values_of}
 use Rattle.serde_json.specs.View.{items_view}
 use Rattle.schemars_schema.specs.Json.{AreJson}
-use Rattle.schemars_accepted.proofs.json.+look.Given as goal
+use Rattle.schemars_validate.proofs.json.+look.Given as goal
 
 abbrev pub invariant-look_at_items-loop-item : goal.invariant-look_at_items-loop-item
 invariant-look_at_items-loop-item l = AreJson (items_view (drop l.item-index l.items.items)) → AreJson (items_view l.items.items)

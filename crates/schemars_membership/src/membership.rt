@@ -1,0 +1,78 @@
+//! The document of a type, and the values that belong to the type by it.
+ghost use Rattle.std.specs.Prelude.{ℕ, List, IfOk, codes};
+ghost use Rattle.serde_json.specs.View.{view};
+ghost use Rattle.schemars_schema.specs.Acceptance.{draft2020_12};
+ghost use Rattle.schemars_types.specs.Rows.{Row};
+ghost use Rattle.schemars_types.specs.declared.contract.Contract.{Contract as Which};
+ghost use Rattle.schemars_headline.specs.Headline.{Headline, IsPlainFor};
+ghost use Rattle.schemars_membership.specs.Membership.{Belongs, IsOfType};
+
+use crate::error::MembershipError;
+use schemars_generate::{GenerateError, SchemaGenerator, SchemaSettings};
+use schemars_schema::Schema;
+use schemars_transform::NoTransform;
+use schemars_types::{Contract, TypeNo, Types};
+use schemars_validate::look;
+use schemars_validator::{Draft, Validator};
+use serde_json::Value;
+use std::alloc::{AllocError, Global};
+
+/// The document of row `n` under a contract, in JSON Schema 2020-12.
+///
+/// # Errors
+///
+/// Those of `SchemaGenerator::with_types` and `into_root_schema_for_type`.
+pub fn type_document(
+    alloc: Global,
+    types: Types,
+    n: TypeNo,
+    contract: Contract,
+) -> Result<Schema, GenerateError>
+    ensures { IfOk result (Headline draft2020_12 types contract (codes "/$defs") n) }
+{
+    let mut settings = SchemaSettings::<NoTransform>::draft2020_12(alloc);
+    settings.contract = contract;
+    let generator = SchemaGenerator::with_types(alloc, settings, types)?;
+    let document = generator.into_root_schema_for_type(alloc, n)?;
+    Ok(document)
+}
+
+/// Whether a value belongs to the type whose document the validator has.
+///
+/// # Errors
+///
+/// Only where memory runs out.
+#[tactic(auto, using(crate::proofs::Deciding::decided))]
+pub fn is_member(
+    alloc: Global,
+    validator: &Validator<'_>,
+    value: &Value,
+) -> Result<bool, AllocError>
+    ensures { (rows : List Row) (contract : Which) (n : ℕ) → IsOfType validator.now rows contract n
+        → IfOk result (Belongs rows contract n (view value.now)) }
+{
+    look(value);
+    validator.is_valid(alloc, value)
+}
+
+/// Whether a value belongs to row `n` of a table under a contract.
+///
+/// # Errors
+///
+/// Where the table has a fault, or its document has a pattern that is no expression, and where memory
+/// runs out.
+pub fn belongs(
+    alloc: Global,
+    types: Types,
+    n: TypeNo,
+    contract: Contract,
+    value: &Value,
+) -> Result<bool, MembershipError>
+    ensures { IsPlainFor draft2020_12 contract types
+        → IfOk result (Belongs types contract n (view value.now)) }
+{
+    let document = type_document(alloc, types, n, contract)?;
+    let validator = Validator::new(alloc, Draft::Draft2020_12, document.as_value())?;
+    let answer = is_member(alloc, &validator, value)?;
+    Ok(answer)
+}

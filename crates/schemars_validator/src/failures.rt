@@ -1,0 +1,483 @@
+//! Why a value is not accepted, keyword by keyword.
+ghost use Rattle.std.specs.Prelude.{◌≡◌, IfOk, IsTrue, OnOk};
+ghost use Rattle.schemars_validator.specs.Asked.{has_some};
+
+use crate::keywords::BY_ITSELF;
+use crate::places::{item_place, member_place};
+use crate::reading::Reading;
+use crate::sentences::{Choice, sentence_about, sentence_of_choice};
+use schemars_schema::Schema;
+use schemars_validate::{Dialect, Patterns, Verdict, resolved, validate};
+use serde_json::{Map, Value};
+use std::alloc::{AllocError, Global};
+
+/// A keyword that a value does not meet (JSON Schema core 2020-12, 12.4.2: the basic output).
+#[derive(Debug, Drop)]
+pub struct Failure {
+    /// The way to the keyword through the document and its references, as a JSON Pointer.
+    pub keyword_location: String,
+    /// The place in the value, as a JSON Pointer.
+    pub instance_location: String,
+    /// What is wrong, for a reader.
+    pub error: String,
+}
+
+// What stays the same at each place.
+#[derive(Clone, Copy)]
+struct Asked<'a> {
+    alloc: Global,
+    dialect: Dialect,
+    document: &'a Value,
+    reading: &'a Reading,
+    references: u64,
+}
+
+// A part of the value, and the way to the schema that judges it.
+#[derive(Clone, Copy)]
+struct At<'a> {
+    instance: &'a str,
+    keywords: &'a str,
+    value: &'a Value,
+}
+
+/// The failures of a value that the document does not accept: at least one.
+pub fn failures_of(
+    alloc: Global,
+    dialect: Dialect,
+    document: &Value,
+    reading: &Reading,
+    references: u64,
+    value: &Value,
+) -> Result<Vec<Failure>, AllocError>
+    ensures { IfOk result (λ failures. IsTrue (has_some failures.items)) }
+{
+    let asked = Asked {
+        alloc,
+        dialect,
+        document,
+        reading,
+        references,
+    };
+    let at = At {
+        instance: "",
+        keywords: "",
+        value,
+    };
+    let mut failures = Vec::new(alloc);
+    explain(&asked, DEEPEST, document, &at, &mut failures)?;
+    if failures.is_empty() {
+        add(&asked, &at, "", "is not accepted", &mut failures)?;
+    }
+    Ok(failures)
+}
+
+// How deep schemas within one another are explained.
+const DEEPEST: u32 = 1000;
+
+fn add(
+    asked: &Asked<'_>,
+    at: &At<'_>,
+    keyword: &str,
+    error: &str,
+    failures: &mut Vec<Failure>,
+) -> Result<(), AllocError>
+    ensures { OnOk result (IsTrue (has_some failures.new.items)) }
+{
+    let alloc = asked.alloc;
+    let keyword_location = if keyword.is_empty() {
+        String::from_str(alloc, at.keywords)?
+    } else {
+        member_place(alloc, at.keywords, keyword)?
+    };
+    failures.push(Failure {
+        keyword_location,
+        instance_location: String::from_str(alloc, at.instance)?,
+        error: String::from_str(alloc, error)?,
+    })?;
+    Ok(())
+}
+
+fn is_denied(asked: &Asked<'_>, schema: &Value, value: &Value) -> Result<bool, AllocError> {
+    let says = validate(
+        asked.alloc,
+        asked.dialect,
+        asked.document,
+        asked.reading,
+        asked.references,
+        schema,
+        value,
+    )?;
+    Ok(says == Verdict::No)
+}
+
+// Adds why a schema denies a value.
+#[cycle(explain)]
+fn explain(
+    asked: &Asked<'_>,
+    left: u32,
+    schema: &Value,
+    at: &At<'_>,
+    failures: &mut Vec<Failure>,
+) -> Result<(), AllocError> {
+    if left == 0 || !is_denied(asked, schema, at.value)? {
+        return Ok(());
+    }
+    match schema {
+        Value::Object(keywords) => explain_object(asked, left - 1, keywords, at, failures),
+        _ => add(asked, at, "", "is not allowed", failures),
+    }
+}
+
+#[cycle(explain)]
+fn explain_object(
+    asked: &Asked<'_>,
+    left: u32,
+    keywords: &Map<String, Value>,
+    at: &At<'_>,
+    failures: &mut Vec<Failure>,
+) -> Result<(), AllocError> {
+    let before = failures.len();
+    explain_itself(asked, keywords, at, failures)?;
+    explain_required(asked, keywords, at, failures)?;
+    explain_reference(asked, left, keywords, at, failures)?;
+    explain_members(asked, left, keywords, at, failures)?;
+    explain_items(asked, left, keywords, at, failures)?;
+    explain_all(asked, left, keywords, at, failures)?;
+    explain_choices(asked, left, keywords, at, failures)?;
+    if failures.len() == before {
+        // what remains denies members that no keyword judges
+        let error = "has a member that no keyword allows";
+        add(asked, at, "unevaluatedProperties", error, failures)?;
+    }
+    Ok(())
+}
+
+// ---- keywords that judge a value by itself
+
+fn explain_itself(
+    asked: &Asked<'_>,
+    keywords: &Map<String, Value>,
+    at: &At<'_>,
+    failures: &mut Vec<Failure>,
+) -> Result<(), AllocError> {
+    for keyword in BY_ITSELF {
+        let Some(wanted) = keywords.get(keyword) else {
+            continue;
+        };
+        let alone = with_keywords(asked.alloc, keywords, &[keyword, "nullable"])?;
+        if is_denied(asked, &alone, at.value)? {
+            let error = sentence_about(asked.alloc, keyword, wanted)?;
+            add(asked, at, keyword, error.as_str(), failures)?;
+        }
+    }
+    Ok(())
+}
+
+fn explain_required(
+    asked: &Asked<'_>,
+    keywords: &Map<String, Value>,
+    at: &At<'_>,
+    failures: &mut Vec<Failure>,
+) -> Result<(), AllocError> {
+    let (Some(Value::Array(names)), Value::Object(members)) = (keywords.get("required"), at.value)
+    else {
+        return Ok(());
+    };
+    for name in names {
+        if let Value::String(name) = name {
+            let name = name.as_str();
+            if members.get(name).is_none() {
+                let error = format!(in asked.alloc; "has no member {name:?}")?;
+                add(asked, at, "required", error.as_str(), failures)?;
+            }
+        }
+    }
+    Ok(())
+}
+
+// A schema of some of the keywords.
+fn with_keywords(
+    alloc: Global,
+    keywords: &Map<String, Value>,
+    names: &[&str],
+) -> Result<Value, AllocError> {
+    let mut some = Map::new(alloc);
+    for name in names {
+        if let Some(value) = keywords.get(*name) {
+            drop(some.insert(String::from_str(alloc, name)?, value.clone()?)?);
+        }
+    }
+    Ok(Value::Object(some))
+}
+
+// ---- parts
+
+#[cycle(explain)]
+fn explain_reference(
+    asked: &Asked<'_>,
+    left: u32,
+    keywords: &Map<String, Value>,
+    at: &At<'_>,
+    failures: &mut Vec<Failure>,
+) -> Result<(), AllocError> {
+    let Some(Value::String(name)) = keywords.get("$ref") else {
+        return Ok(());
+    };
+    match resolved(asked.alloc, asked.document, name.as_str())? {
+        Some(schema) => explain_same(asked, left, schema, at, "$ref", failures),
+        None => Ok(()),
+    }
+}
+
+// Another schema of the same value.
+#[cycle(explain)]
+fn explain_same(
+    asked: &Asked<'_>,
+    left: u32,
+    schema: &Value,
+    at: &At<'_>,
+    keyword: &str,
+    failures: &mut Vec<Failure>,
+) -> Result<(), AllocError> {
+    let place = member_place(asked.alloc, at.keywords, keyword)?;
+    let inner = At {
+        instance: at.instance,
+        keywords: place.as_str(),
+        value: at.value,
+    };
+    explain(asked, left, schema, &inner, failures)
+}
+
+#[cycle(explain)]
+fn explain_members(
+    asked: &Asked<'_>,
+    left: u32,
+    keywords: &Map<String, Value>,
+    at: &At<'_>,
+    failures: &mut Vec<Failure>,
+) -> Result<(), AllocError> {
+    let Value::Object(members) = at.value else {
+        return Ok(());
+    };
+    for (name, member) in members.iter() {
+        let instance = member_place(asked.alloc, at.instance, name.as_str())?;
+        let inner = At {
+            instance: instance.as_str(),
+            keywords: at.keywords,
+            value: member,
+        };
+        explain_member(asked, left, keywords, name.as_str(), &inner, failures)?;
+    }
+    Ok(())
+}
+
+// A member, by `properties`, `patternProperties` and `additionalProperties`.
+#[cycle(explain)]
+fn explain_member(
+    asked: &Asked<'_>,
+    left: u32,
+    keywords: &Map<String, Value>,
+    name: &str,
+    at: &At<'_>,
+    failures: &mut Vec<Failure>,
+) -> Result<(), AllocError> {
+    let mut covered = false;
+    if let Some(Value::Object(properties)) = keywords.get("properties") {
+        if let Some(schema) = properties.get(name) {
+            covered = true;
+            explain_named(asked, left, schema, at, "properties", name, failures)?;
+        }
+    }
+    if let Some(Value::Object(patterns)) = keywords.get("patternProperties") {
+        for (pattern, schema) in patterns.iter() {
+            if asked.reading.matches(pattern.as_str(), name) {
+                covered = true;
+                let pattern = pattern.as_str();
+                explain_named(
+                    asked,
+                    left,
+                    schema,
+                    at,
+                    "patternProperties",
+                    pattern,
+                    failures,
+                )?;
+            }
+        }
+    }
+    match keywords.get("additionalProperties") {
+        Some(schema) if !covered => {
+            explain_same(asked, left, schema, at, "additionalProperties", failures)
+        }
+        _ => Ok(()),
+    }
+}
+
+// A schema under a name in a keyword.
+#[cycle(explain)]
+fn explain_named(
+    asked: &Asked<'_>,
+    left: u32,
+    schema: &Value,
+    at: &At<'_>,
+    keyword: &str,
+    name: &str,
+    failures: &mut Vec<Failure>,
+) -> Result<(), AllocError> {
+    let place = member_place(asked.alloc, at.keywords, keyword)?;
+    let inner = At {
+        instance: at.instance,
+        keywords: place.as_str(),
+        value: at.value,
+    };
+    explain_same(asked, left, schema, &inner, name, failures)
+}
+
+#[cycle(explain)]
+fn explain_items(
+    asked: &Asked<'_>,
+    left: u32,
+    keywords: &Map<String, Value>,
+    at: &At<'_>,
+    failures: &mut Vec<Failure>,
+) -> Result<(), AllocError> {
+    let Value::Array(items) = at.value else {
+        return Ok(());
+    };
+    for (n, item) in items.iter().enumerate() {
+        let instance = item_place(asked.alloc, at.instance, n)?;
+        let inner = At {
+            instance: instance.as_str(),
+            keywords: at.keywords,
+            value: item,
+        };
+        explain_item(asked, left, keywords, n, &inner, failures)?;
+    }
+    Ok(())
+}
+
+// An item, by `prefixItems`, `items` and `additionalItems`.
+#[cycle(explain)]
+fn explain_item(
+    asked: &Asked<'_>,
+    left: u32,
+    keywords: &Map<String, Value>,
+    n: usize,
+    at: &At<'_>,
+    failures: &mut Vec<Failure>,
+) -> Result<(), AllocError> {
+    let (first, others) = match keywords.get("items") {
+        Some(Value::Array(_)) => ("items", "additionalItems"),
+        _ => ("prefixItems", "items"),
+    };
+    if let Some(Value::Array(schemas)) = keywords.get(first) {
+        if let Some(schema) = schemas.get(n) {
+            let place = format!(in asked.alloc; "{n}")?;
+            return explain_named(asked, left, schema, at, first, place.as_str(), failures);
+        }
+    }
+    match keywords.get(others) {
+        Some(schema) => explain_same(asked, left, schema, at, others, failures),
+        None => Ok(()),
+    }
+}
+
+// ---- schemas of the same value
+
+#[cycle(explain)]
+fn explain_all(
+    asked: &Asked<'_>,
+    left: u32,
+    keywords: &Map<String, Value>,
+    at: &At<'_>,
+    failures: &mut Vec<Failure>,
+) -> Result<(), AllocError> {
+    let Some(Value::Array(schemas)) = keywords.get("allOf") else {
+        return Ok(());
+    };
+    for (n, schema) in schemas.iter().enumerate() {
+        let place = format!(in asked.alloc; "{n}")?;
+        explain_named(asked, left, schema, at, "allOf", place.as_str(), failures)?;
+    }
+    Ok(())
+}
+
+#[cycle(explain)]
+fn explain_choices(
+    asked: &Asked<'_>,
+    left: u32,
+    keywords: &Map<String, Value>,
+    at: &At<'_>,
+    failures: &mut Vec<Failure>,
+) -> Result<(), AllocError> {
+    for choice in [Choice::AnyOf, Choice::OneOf, Choice::Not] {
+        let Some(schemas) = keywords.get(choice.keyword()) else {
+            continue;
+        };
+        if let Some(fitting) = fitting(asked, schemas, at.value)? {
+            if !choice.is_met(fitting) {
+                let error = sentence_of_choice(asked.alloc, choice, fitting)?;
+                add(asked, at, choice.keyword(), error.as_str(), failures)?;
+                if fitting == 0 {
+                    explain_each(asked, left, schemas, at, choice.keyword(), failures)?;
+                }
+            }
+        }
+    }
+    Ok(())
+}
+
+// Adds the failures of each schema of a list that has the value's type.
+#[cycle(explain)]
+fn explain_each(
+    asked: &Asked<'_>,
+    left: u32,
+    schemas: &Value,
+    at: &At<'_>,
+    keyword: &str,
+    failures: &mut Vec<Failure>,
+) -> Result<(), AllocError> {
+    let Value::Array(schemas) = schemas else {
+        return Ok(());
+    };
+    for (n, schema) in schemas.iter().enumerate() {
+        let place = format!(in asked.alloc; "{n}")?;
+        let mut own = Vec::new(asked.alloc);
+        explain_named(asked, left, schema, at, keyword, place.as_str(), &mut own)?;
+        if !has_other_type(&own, at.instance) {
+            for failure in own {
+                failures.push(failure)?;
+            }
+        }
+    }
+    Ok(())
+}
+
+// Whether a failure is that the value at this place has another type.
+fn has_other_type(failures: &[Failure], instance: &str) -> bool {
+    for failure in failures {
+        let keyword = failure.keyword_location.as_str();
+        if failure.instance_location.as_str() == instance && keyword.ends_with("/type") {
+            return true;
+        }
+    }
+    false
+}
+
+// How many of the schemas under a keyword a value fits; none where these are no schemas.
+fn fitting(asked: &Asked<'_>, schemas: &Value, value: &Value) -> Result<Option<usize>, AllocError> {
+    let Value::Array(schemas) = schemas else {
+        let denied = is_denied(asked, schemas, value)?;
+        return Ok(Some(if denied { 0 } else { 1 }));
+    };
+    let mut count: usize = 0;
+    for schema in schemas {
+        if !Schema::is_schema(schema) {
+            return Ok(None);
+        }
+        if !is_denied(asked, schema, value)? {
+            count = count.saturating_add(1);
+        }
+    }
+    Ok(Some(count))
+}

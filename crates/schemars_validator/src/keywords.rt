@@ -1,0 +1,65 @@
+//! Keywords by what their values are.
+use crate::draft::Draft;
+use schemars_schema::edits::is_listed;
+
+/// Keywords whose value is a schema.
+pub const WITH_SCHEMA: [&str; 5] = [
+    "not",
+    "items",
+    "additionalItems",
+    "additionalProperties",
+    "unevaluatedProperties",
+];
+
+/// Keywords whose value is a list of schemas.
+pub const WITH_SCHEMAS: [&str; 5] = ["allOf", "anyOf", "oneOf", "prefixItems", "items"];
+
+/// Keywords whose value has schemas by name.
+pub const WITH_NAMES: [&str; 4] = ["properties", "patternProperties", "$defs", "definitions"];
+
+/// The keywords that judge a value by itself.
+pub const BY_ITSELF: [&str; 11] = [
+    "type",
+    "const",
+    "enum",
+    "minimum",
+    "maximum",
+    "minLength",
+    "maxLength",
+    "pattern",
+    "minItems",
+    "maxItems",
+    "uniqueItems",
+];
+
+// Keywords that judge values and are not read: in every dialect, in the drafts, and from 2019-09 on.
+const UNREAD: [&str; 5] = [
+    "multipleOf",
+    "minProperties",
+    "maxProperties",
+    "exclusiveMinimum",
+    "exclusiveMaximum",
+];
+
+const UNREAD_IN_DRAFTS: [&str; 4] = ["if", "contains", "propertyNames", "dependencies"];
+
+const UNREAD_FROM_2019_09: [&str; 3] = [
+    "dependentSchemas",
+    "dependentRequired",
+    "unevaluatedItems",
+];
+
+/// Whether a keyword of the dialect judges values and is not read.
+pub fn is_unread(draft: Draft, keyword: &str) -> bool {
+    is_listed(keyword, &UNREAD)
+        || match draft {
+            Draft::OpenApi3 => false,
+            Draft::Draft07 => is_listed(keyword, &UNREAD_IN_DRAFTS),
+            Draft::Draft2019_09 => is_unread_from_2019_09(keyword) || keyword == "$recursiveRef",
+            Draft::Draft2020_12 => is_unread_from_2019_09(keyword) || keyword == "$dynamicRef",
+        }
+}
+
+fn is_unread_from_2019_09(keyword: &str) -> bool {
+    is_listed(keyword, &UNREAD_IN_DRAFTS) || is_listed(keyword, &UNREAD_FROM_2019_09)
+}

@@ -1,0 +1,21 @@
+//! A document that is read once and asked about many values.
+#![tactic(auto)]
+
+mod draft;
+mod ecma;
+mod expressions;
+mod failures;
+mod keywords;
+mod places;
+mod reading;
+mod refusal;
+mod sentences;
+mod unread;
+mod validator;
+
+pub use draft::Draft;
+pub use failures::Failure;
+pub use reading::Reading;
+pub use refusal::{Refusal, Unread};
+pub use schemars_validate::Verdict;
+pub use validator::{Examined, Validator};

@@ -1,0 +1,154 @@
+//! A document that is asked about many values.
+ghost use Rattle.std.specs.Prelude.{◌≡◌, ◌≤◌, IfOk, OnOk, true};
+ghost use Rattle.serde_json.specs.View.{view};
+ghost use Rattle.schemars_schema.specs.SchemaData.{is_schema};
+ghost use Rattle.schemars_schema.specs.Acceptance.{bound};
+ghost use Rattle.schemars_validate.specs.Meant.{meant};
+ghost use Rattle.schemars_validator.specs.Asked.{Accepts, IsOf, Says, has_some, is_no, pairs_of, path_of};
+ghost use Rattle.schemars_validator.specs.Texts.{IsReadBy};
+
+use crate::draft::Draft;
+use crate::expressions::{Expression, expressions_in};
+use crate::failures::{Failure, failures_of};
+use crate::places::{Place, schemas_in};
+use crate::reading::{Reading, read};
+use crate::refusal::Refusal;
+use crate::unread::unread_in;
+use schemars_schema::Schema;
+use schemars_validate::{Verdict, bound, depth, validate};
+use serde_json::Value;
+use std::alloc::{AllocError, Global};
+
+/// What a document says of a value, and each keyword that the value does not meet.
+#[derive(Debug, Drop)]
+pub struct Examined {
+    pub verdict: Verdict,
+    pub failures: Vec<Failure>,
+}
+
+/// A document that was read once, and is asked about values.
+#[derive(Drop)]
+pub struct Validator<'d> {
+    draft: Draft,
+    document: &'d Value,
+    expressions: Vec<Expression>,
+    references: u64,
+}
+
+impl<'d> Validator<'d> {
+    /// Reads a document of a dialect.
+    ///
+    /// # Errors
+    ///
+    /// Where the document is neither an object nor a truth value, has a keyword that judges values and is
+    /// not read, a reference that leads to none of its schemas, or a pattern that is no expression, and
+    /// where memory runs out.
+    pub fn new(alloc: Global, draft: Draft, document: &'d Value) -> Result<Validator<'d>, Refusal>
+        ensures taken { IfOk result (λ v. IsOf draft (view document.now) v) }
+        ensures schema { OnOk result (is_schema (view document.now) ≡ true) }
+    {
+        if !Schema::is_schema(document) {
+            return Err(Refusal::NotASchema);
+        }
+        let schemas = schemas_in(alloc, document)?;
+        let unread = unread_in(alloc, draft, document, &schemas)?;
+        if !unread.is_empty() {
+            return Err(Refusal::Unread(unread));
+        }
+        Ok(Validator {
+            draft,
+            document,
+            expressions: expressions_in(alloc, &schemas)?,
+            references: count_of_references(&schemas),
+        })
+    }
+
+    /// What the document says of a value.
+    pub fn validate(&self, alloc: Global, value: &Value) -> Result<Verdict, AllocError>
+        ensures { IfOk result (λ says. Says self.now (view value.now) (meant says)) }
+    {
+        let reading = read(alloc, &self.expressions, value)?;
+        let references = self.references_for(value)?;
+        self.judge(alloc, &reading, references, value)
+    }
+
+    /// Whether the document accepts a value.
+    pub fn is_valid(&self, alloc: Global, value: &Value) -> Result<bool, AllocError>
+        ensures { IfOk result (λ valid. Accepts self.now (view value.now) valid) }
+    {
+        Ok(self.validate(alloc, value)? == Verdict::Yes)
+    }
+
+    /// What the document says of a value, and why it denies the value. There are failures if and only if it
+    /// does.
+    pub fn examine(&self, alloc: Global, value: &Value) -> Result<Examined, AllocError>
+        ensures says { IfOk result (λ e. Says self.now (view value.now) (meant e.verdict)) }
+        ensures explains { IfOk result (λ e. has_some e.failures.items ≡ is_no (meant e.verdict)) }
+    {
+        let reading = read(alloc, &self.expressions, value)?;
+        let references = self.references_for(value)?;
+        let verdict = self.judge(alloc, &reading, references, value)?;
+        let failures = if verdict == Verdict::No {
+            let dialect = self.draft.dialect();
+            failures_of(alloc, dialect, self.document, &reading, references, value)?
+        } else {
+            Vec::new(alloc)
+        };
+        Ok(Examined { verdict, failures })
+    }
+
+    fn judge(
+        &self,
+        alloc: Global,
+        reading: &Reading,
+        references: u64,
+        value: &Value,
+    ) -> Result<Verdict, AllocError>
+        requires read { IsReadBy self.now.expressions.items (view value.now) (pairs_of reading.now.matched.items) }
+        requires enough { bound (path_of self.now.draft) (view self.now.document.now) (view value.now) ≤ references }
+        ensures { IfOk result (λ says. Says self.now (view value.now) (meant says)) }
+    {
+        let dialect = self.draft.dialect();
+        validate(
+            alloc,
+            dialect,
+            self.document,
+            reading,
+            references,
+            self.document,
+            value,
+        )
+    }
+
+    // As many references as may have to be followed within one another.
+    fn references_for(&self, value: &Value) -> Result<u64, AllocError>
+        ensures { IfOk result (λ n.
+            bound (path_of self.now.draft) (view self.now.document.now) (view value.now) ≤ n) }
+    {
+        let path = self.draft.definitions_path();
+        let Some(least) = bound(path, self.document, value) else {
+            // no memory holds a value or a document of that size
+            return Err(AllocError);
+        };
+        match all_references(self.references, value) {
+            Some(n) if n > least => Ok(n),
+            _ => Ok(least),
+        }
+    }
+}
+
+// Each reference of the document once at each level of the value.
+fn all_references(references: u64, value: &Value) -> Option<u64> {
+    let deep = depth(value)?.checked_add(1)?;
+    deep.checked_mul(references.checked_add(2)?)
+}
+
+fn count_of_references(schemas: &[Place<'_>]) -> u64 {
+    let mut count: u64 = 0;
+    for schema in schemas {
+        if schema.keywords.get("$ref").is_some() {
+            count = count.saturating_add(1);
+        }
+    }
+    count
+}
