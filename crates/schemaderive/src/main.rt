@@ -1,9 +1,7 @@
-//! Describes the types of a Rust source by a table.
+//! Describes the types of a source by a table, or by implementations of `JsonSchema`.
 #![tactic(auto)]
 
-use schemaderive_run::{
-    Command, HELP, Output, USAGE, VERSION, command_of, derive_table, place_line,
-};
+use schemaderive_run::{Command, HELP, Output, USAGE, VERSION, command_of, derived, place_line};
 use schemaderive_syntax::{Fault, Refusal};
 use std::alloc::{Alloc, AllocError, Global};
 use std::env::Env;
@@ -55,13 +53,9 @@ fn run_program<R: Env + Alloc<A = Global> + Files + Input + Print + Eprint>(
         Err(error) => return Err(Stop::Failed(error.into())),
     };
     match command {
-        Command::Table(asked) => {
+        Command::Derive(asked) => {
             let text = source_text(rt, &asked.file)?;
-            let root = asked.root.as_str();
-            write_output(
-                rt,
-                derive_table(rt.alloc(), text.as_str(), root, asked.contract),
-            )
+            write_output(rt, derived(rt.alloc(), text.as_str(), &asked))
         }
         Command::Help => Ok(print!(rt; "{}", HELP)?),
         Command::Version => Ok(println!(rt; "{}", VERSION)?),
@@ -72,9 +66,9 @@ fn run_program<R: Env + Alloc<A = Global> + Files + Input + Print + Eprint>(
 // Writes the warnings to standard error, and the rest to standard output.
 fn write_output<R: Alloc<A = Global> + Print + Eprint>(
     rt: &R,
-    derived: Result<Output, Fault>,
+    came: Result<Output, Fault>,
 ) -> Result<(), Stop> {
-    let output = match derived {
+    let output = match came {
         Ok(output) => output,
         Err(Fault::Refused(refusal)) => return Err(Stop::Refused(refusal)),
         Err(Fault::OutOfMemory) => return Err(Stop::Failed(AllocError.into())),

@@ -1,5 +1,5 @@
 //! Cases, and how many of them are wrong.
-use schemaderive_run::{Command, Output, command_of, derive_table, place_line};
+use schemaderive_run::{Command, Output, command_of, derived, place_line};
 use schemaderive_syntax::Fault;
 use std::alloc::{Alloc, AllocError, Global};
 use std::io::Print;
@@ -64,16 +64,13 @@ fn answer(alloc: Global, words: &str, source: &str) -> Result<String, AllocError
         list.push(String::from_str(alloc, word)?)?;
     }
     match command_of(alloc, &list)? {
-        Command::Table(asked) => {
-            let root = asked.root.as_str();
-            answer_of(alloc, derive_table(alloc, source, root, asked.contract))
-        }
+        Command::Derive(asked) => answer_of(alloc, derived(alloc, source, &asked)),
         Command::Help | Command::Version | Command::Unknown => String::from_str(alloc, "nothing\n"),
     }
 }
 
-fn answer_of(alloc: Global, derived: Result<Output, Fault>) -> Result<String, AllocError> {
-    match derived {
+fn answer_of(alloc: Global, came: Result<Output, Fault>) -> Result<String, AllocError> {
+    match came {
         Ok(output) => output_text(alloc, &output),
         Err(Fault::OutOfMemory) => Err(AllocError),
         Err(Fault::Refused(refusal)) => {

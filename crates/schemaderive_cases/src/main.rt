@@ -11,8 +11,9 @@ use crate::cases::{Sources, work_cases};
 use std::{fs, io};
 
 // The files, and what their sources are.
-const FILES: [(&str, Sources); 3] = [
+const FILES: [(&str, Sources); 4] = [
     ("tables.tsv", Sources::Files),
+    ("impls.tsv", Sources::Texts),
     ("refusals.tsv", Sources::Texts),
     ("forms.tsv", Sources::Texts),
 ];

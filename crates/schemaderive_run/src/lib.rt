@@ -5,5 +5,5 @@ mod run;
 mod words;
 mod writing;
 
-pub use run::{Output, derive_table, place_line};
-pub use words::{Asked, Command, HELP, USAGE, VERSION, command_of};
+pub use run::{Output, derived, place_line};
+pub use words::{Asked, Command, HELP, USAGE, VERSION, Wanted, command_of};

@@ -1,6 +1,8 @@
 //! What the program writes.
+use crate::words::{Asked, Wanted};
 use crate::writing::table_json;
 use schemaderive_definitions::table_of;
+use schemaderive_impls::implementations_of;
 use schemaderive_options::Contract;
 use schemaderive_syntax::{Fault, Place, Refusal, Source, Token, read_source, read_tokens};
 use std::alloc::{AllocError, Global};
@@ -14,34 +16,28 @@ pub struct Output {
     pub warnings: Vec<Refusal>,
 }
 
-/// The table of the types that a type of a source leads to.
+/// What is asked for, made of a source.
 ///
 /// # Errors
 ///
-/// The source is none of Rust, a type is not known, or an attribute says what a table can't say.
-pub fn derive_table(
-    alloc: Global,
-    text: &str,
-    root: &str,
-    contract: Contract,
-) -> Result<Output, Fault> {
+/// The source is none of Rust, a type is not known, or an attribute says what can't be said.
+pub fn derived(alloc: Global, text: &str, asked: &Asked) -> Result<Output, Fault> {
     let tokens = read_tokens(alloc, text, START)?;
-    table_of_tokens(alloc, &tokens, root, contract)
+    derived_of_tokens(alloc, &tokens, asked)
 }
 
-// The table of the types that a type of a source with these tokens leads to.
-fn table_of_tokens(
-    alloc: Global,
-    tokens: &[Token],
-    root: &str,
-    contract: Contract,
-) -> Result<Output, Fault> {
+fn derived_of_tokens(alloc: Global, tokens: &[Token], asked: &Asked) -> Result<Output, Fault> {
     let source = read_source(alloc, tokens, end_of(tokens))?;
-    table_of_source(alloc, &source, root, contract)
+    match &asked.wanted {
+        Wanted::Table(root) => table(alloc, &source, root.as_str(), asked.contract),
+        Wanted::Implementations(module) => {
+            implementations(alloc, &source, module.as_str(), asked.contract)
+        }
+    }
 }
 
 // The table of the types that a type of a source leads to.
-fn table_of_source(
+fn table(
     alloc: Global,
     source: &Source<'_>,
     root: &str,
@@ -52,6 +48,28 @@ fn table_of_source(
     Ok(Output {
         text,
         warnings: table.warnings,
+    })
+}
+
+// The implementations for the types of a source.
+fn implementations(
+    alloc: Global,
+    source: &Source<'_>,
+    module: &str,
+    contract: Contract,
+) -> Result<Output, Fault> {
+    let flag = match contract {
+        Contract::Both => "",
+        Contract::Deserialize => " --deserialize",
+        Contract::Serialize => " --serialize",
+    };
+    let first = format!(in alloc;
+        "//! Written by `schemaderive --impls {module}{flag}`, which writes it anew: edit the declarations."
+    )?;
+    let made = implementations_of(alloc, &*source, module, contract, first.as_str())?;
+    Ok(Output {
+        text: made.text,
+        warnings: made.warnings,
     })
 }
 

@@ -3,19 +3,30 @@ use schemaderive_options::Contract;
 use std::alloc::{AllocError, Global};
 
 /// How the program is called.
-pub const USAGE: &str = "usage: schemaderive --table ROOT [--deserialize|--serialize] [FILE]";
+pub const USAGE: &str =
+    "usage: schemaderive --table ROOT|--impls MODULE [--deserialize|--serialize] [FILE]";
 
 /// What the program says of itself.
-pub const HELP: &str = "usage: schemaderive --table ROOT [--deserialize|--serialize] [FILE]
+pub const HELP: &str =
+    "usage: schemaderive --table ROOT|--impls MODULE [--deserialize|--serialize] [FILE]
 
-Reads the structs and enums of a Rust source, from FILE or standard input, that
-derive JsonSchema, and writes the table of the types that ROOT leads to:
+Reads the structs and enums of a Rust or Rattle source, from FILE or standard input,
+that derive JsonSchema.
+
+--table ROOT writes the table of the types that ROOT leads to:
 
     schemaderive --table Config < src/config.rs | schemagen types 2020-12
 
 ROOT is a type as a field of the source may have it, such as Config or
-Vec<config::Config>. With --deserialize the table is for the values that are read,
-and with --serialize for those that are written; without, for both.
+Vec<config::Config>.
+
+--impls MODULE writes a file of Rattle with an implementation of JsonSchema for each of
+the types. MODULE is the path of the source in its crate:
+
+    schemaderive --impls crate::data src/data.rt > src/schemas.rt
+
+With --deserialize it is for the values that are read, and with --serialize for those
+that are written; without, for both.
 
 What can't be said is refused with its line and column, and what is
 only left out is a warning. schemaderive(1) lists the attributes.
@@ -27,8 +38,8 @@ pub const VERSION: &str = "schemaderive 1.0";
 /// What the words of a run ask for.
 #[derive(Drop)]
 pub enum Command {
-    /// the table of a type
-    Table(Asked),
+    /// what is made of a source
+    Derive(Asked),
     /// what the program says of itself
     Help,
     /// the version
@@ -37,43 +48,66 @@ pub enum Command {
     Unknown,
 }
 
-/// A table that is asked for.
+/// What is made of a source.
+#[derive(Drop)]
+pub enum Wanted {
+    /// the table of the types to which this one leads
+    Table(String),
+    /// implementations for the types of the source, which is this module
+    Implementations(String),
+}
+
+/// What is asked for.
 #[derive(Drop)]
 pub struct Asked {
-    /// the type that leads to the others
-    pub root: String,
+    /// what is made
+    pub wanted: Wanted,
     /// which values it is for
     pub contract: Contract,
     /// the file of the source; none for standard input
     pub file: Option<String>,
 }
 
+// What the next word is.
+#[derive(Clone, Copy, PartialEq, Eq)]
+enum Next {
+    Any,
+    Root,
+    Module,
+}
+
 /// What the words after the program's name ask for.
 pub fn command_of(alloc: Global, words: &[String]) -> Result<Command, AllocError> {
-    let mut root = None;
+    let mut wanted = None;
     let mut contract = Contract::Both;
     let mut file = None;
-    let mut wants_root = false;
+    let mut next = Next::Any;
     for word in words {
         let word = word.as_str();
-        if wants_root {
-            root = Some(String::from_str(alloc, word)?);
-            wants_root = false;
+        if next != Next::Any {
+            let word = String::from_str(alloc, word)?;
+            wanted = Some(if next == Next::Root {
+                Wanted::Table(word)
+            } else {
+                Wanted::Implementations(word)
+            });
+            next = Next::Any;
             continue;
         }
         match word {
             "--help" => return Ok(Command::Help),
             "--version" => return Ok(Command::Version),
-            "--table" if root.is_none() => wants_root = true,
+            "--table" if wanted.is_none() => next = Next::Root,
+            "--impls" if wanted.is_none() => next = Next::Module,
             "--deserialize" if contract == Contract::Both => contract = Contract::Deserialize,
             "--serialize" if contract == Contract::Both => contract = Contract::Serialize,
             name if name.starts_with("--") || file.is_some() => return Ok(Command::Unknown),
             name => file = Some(String::from_str(alloc, name)?),
         }
     }
-    match root {
-        Some(root) => Ok(Command::Table(Asked {
-            root,
+    match wanted {
+        Some(wanted) => Ok(Command::Derive(Asked {
+            wanted,
             contract,
             file,
         })),

@@ -1,0 +1,135 @@
+//! The body of a `json_schema`, and what it says of its parts.
+use crate::imports::Imports;
+use crate::lines::Lines;
+use crate::texts::literal;
+use schemaderive_known::Row;
+use schemaderive_options::Context;
+use schemaderive_syntax::{Fault, Place};
+use std::alloc::{AllocError, Global};
+
+/// How far the lines of a body are indented.
+pub const INDENT: usize = 8;
+
+/// The types of a source.
+#[derive(Clone, Copy)]
+pub struct Types<'t> {
+    /// what attributes are read for
+    pub context: &'t Context,
+    /// the rows
+    pub rows: &'t [Row],
+    /// the declarations that each row leads to
+    pub mentions: &'t [Vec<usize>],
+}
+
+/// The body of a `json_schema`, and what it says of its parts.
+#[derive(Drop)]
+pub struct Body {
+    /// its lines
+    pub lines: Lines,
+    /// what it says of the types that it registers, in their order
+    pub says: Vec<String>,
+}
+
+impl Body {
+    /// An empty body.
+    pub fn new(alloc: Global) -> Body {
+        Body {
+            lines: Lines::new(alloc),
+            says: Vec::new(alloc),
+        }
+    }
+
+    /// The allocator.
+    pub fn alloc(&self) -> Global {
+        self.lines.alloc
+    }
+
+    /// Adds a call that may fail.
+    pub fn call(&mut self, head: &str, arguments: &[&str]) -> Result<(), AllocError> {
+        self.lines.call(INDENT, head, arguments, "?;")
+    }
+
+    /// Adds a line that makes an empty list with this name, which may grow.
+    pub fn list(&mut self, name: &str, grows: bool) -> Result<(), AllocError> {
+        let mark = if grows { "mut " } else { "" };
+        let line = format!(in self.alloc(); "let {mark}{name} = Vec::new(alloc);")?;
+        self.lines.line(INDENT, line.as_str())
+    }
+
+    /// Says that a type is in the dictionary, and returns the type with its short name.
+    ///
+    /// # Errors
+    ///
+    /// The type has no implementation.
+    pub fn registered(
+        &mut self,
+        types: &Types<'_>,
+        imports: &mut Imports,
+        row: usize,
+        place: Place,
+    ) -> Result<String, Fault> {
+        let ty = types.short(imports, row, place)?;
+        imports.word("IsIn")?;
+        let clause = format!(in self.alloc(); "IsIn ⟦<{ty} as JsonSchema>⟧.says d")?;
+        self.says.push(clause)?;
+        Ok(ty)
+    }
+
+    /// The parts of a dictionary of which it says something.
+    pub fn parts(&self) -> Result<String, AllocError> {
+        if self.says.is_empty() {
+            return String::from_str(self.alloc(), "Unit {0}");
+        }
+        let mut parts = String::new(self.alloc());
+        for clause in &self.says {
+            if !parts.is_empty() {
+                parts.push_str(" × ")?;
+            }
+            parts.push_str(clause.as_str())?;
+        }
+        Ok(parts)
+    }
+}
+
+impl<'t> Types<'t> {
+    /// The type of a row, with its short name.
+    ///
+    /// # Errors
+    ///
+    /// The type has no implementation.
+    pub fn short(&self, imports: &mut Imports, row: usize, place: Place) -> Result<String, Fault> {
+        match self.rows.get(row) {
+            Some(row) if !row.ty.is_empty() => Ok(imports.short(row.ty.as_str())?),
+            Some(row) => {
+                let reason = "the library has no implementation for this type";
+                Err(self.context.refused_name(place, row.name.as_str(), reason))
+            }
+            None => Err(self.context.refused(place, "this type has no row")),
+        }
+    }
+
+    /// Whether a row leads to one of these declarations.
+    pub fn leads_to(&self, row: usize, declarations: &[usize]) -> bool {
+        let Some(mentioned) = self.mentions.get(row) else {
+            return false;
+        };
+        for number in mentioned {
+            if declarations.contains(number) {
+                return true;
+            }
+        }
+        false
+    }
+
+    /// The id and the name of a row, as literals.
+    pub fn id_and_name(&self, row: usize) -> Result<(String, String), AllocError> {
+        let alloc = self.context.alloc;
+        match self.rows.get(row) {
+            Some(row) => Ok((
+                literal(alloc, row.id.as_str())?,
+                literal(alloc, row.name.as_str())?,
+            )),
+            None => Ok((String::new(alloc), String::new(alloc))),
+        }
+    }
+}

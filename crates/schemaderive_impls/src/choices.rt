@@ -1,0 +1,173 @@
+//! The variants of enums.
+use crate::body::{Body, Types};
+use crate::imports::Imports;
+use crate::keywords::{INTERNAL_VARIANT, VARIANT, refuse_notes};
+use crate::members::has_flattened;
+use crate::own_rows::steps_of;
+use crate::texts::literal;
+use schemaderive_definitions::{Choice, Choices, Form, Members, Part, Payload};
+use schemaderive_syntax::Fault;
+
+impl Body {
+    /// Adds the calls that make the list `variants`. What a variant has is collected right before the
+    /// variant is added.
+    ///
+    /// # Errors
+    ///
+    /// A type has no implementation, or can't be named.
+    pub fn add_choices(
+        &mut self,
+        types: &Types<'_>,
+        imports: &mut Imports,
+        ancestors: &[usize],
+        choices: &Choices,
+    ) -> Result<(), Fault> {
+        self.list("variants", !choices.list.is_empty())?;
+        let target = if choices.form == Form::Internal {
+            INTERNAL_VARIANT
+        } else {
+            VARIANT
+        };
+        for choice in &choices.list {
+            if choices.form == Form::Internal {
+                self.add_internal(types, imports, ancestors, choice)?;
+            } else {
+                self.add_choice(types, imports, ancestors, choice)?;
+            }
+            self.add_notes(imports, target, &choice.notes)?;
+        }
+        Ok(())
+    }
+
+    fn add_choice(
+        &mut self,
+        types: &Types<'_>,
+        imports: &mut Imports,
+        ancestors: &[usize],
+        choice: &Choice,
+    ) -> Result<(), Fault> {
+        let name = literal(self.alloc(), choice.name.as_str())?;
+        let name = name.as_str();
+        match &choice.payload {
+            Payload::Unit => {
+                imports.call("add_unit")?;
+                self.call("add_unit", &["alloc", "&mut variants", name])?;
+            }
+            Payload::Newtype(part) => self.add_newtype(types, imports, ancestors, name, part)?,
+            Payload::Tuple(parts) => {
+                self.add_parts(types, imports, ancestors, parts)?;
+                imports.call("add_tuple")?;
+                self.call("add_tuple", &["alloc", "&mut variants", name, "numbers"])?;
+            }
+            Payload::Struct(members) => {
+                self.add_struct(types, imports, ancestors, "add_struct", name, members)?
+            }
+        }
+        Ok(())
+    }
+
+    fn add_newtype(
+        &mut self,
+        types: &Types<'_>,
+        imports: &mut Imports,
+        ancestors: &[usize],
+        name: &str,
+        part: &Part,
+    ) -> Result<(), Fault> {
+        refuse_notes(types, part)?;
+        if types.leads_to(part.plain, ancestors) {
+            let steps = steps_of(types, imports, ancestors, part.plain, part.place)?;
+            self.own_number(imports, &steps)?;
+            imports.call("add_newtype_of")?;
+            self.call(
+                "add_newtype_of",
+                &["alloc", "types", "&mut variants", name, "number"],
+            )?;
+            return Ok(());
+        }
+        self.add_registered(types, imports, "add_newtype", name, part)
+    }
+
+    // Adds a variant of a type that is registered.
+    fn add_registered(
+        &mut self,
+        types: &Types<'_>,
+        imports: &mut Imports,
+        call: &str,
+        name: &str,
+        part: &Part,
+    ) -> Result<(), Fault> {
+        let ty = self.registered(types, imports, part.plain, part.place)?;
+        imports.call(call)?;
+        let head = format!(in self.alloc(); "{call}::<{ty}>")?;
+        self.call(head.as_str(), &["alloc", "types", "&mut variants", name])?;
+        Ok(())
+    }
+
+    // Adds a variant with members by this call.
+    fn add_struct(
+        &mut self,
+        types: &Types<'_>,
+        imports: &mut Imports,
+        ancestors: &[usize],
+        call: &str,
+        name: &str,
+        members: &Members,
+    ) -> Result<(), Fault> {
+        if has_flattened(members) {
+            return Err(flattened(types, members));
+        }
+        self.add_members(types, imports, ancestors, members)?;
+        imports.call(call)?;
+        let is_closed = if members.is_closed { "true" } else { "false" };
+        self.call(call, &["alloc", "&mut variants", name, "fields", is_closed])?;
+        Ok(())
+    }
+
+    fn add_internal(
+        &mut self,
+        types: &Types<'_>,
+        imports: &mut Imports,
+        ancestors: &[usize],
+        choice: &Choice,
+    ) -> Result<(), Fault> {
+        let name = literal(self.alloc(), choice.name.as_str())?;
+        let name = name.as_str();
+        match &choice.payload {
+            Payload::Unit => {
+                imports.call("add_internal_unit")?;
+                self.call("add_internal_unit", &["alloc", "&mut variants", name])?;
+            }
+            Payload::Newtype(part) if types.leads_to(part.plain, ancestors) => {
+                let reason = "the members of a type are not among its own";
+                return Err(types.context.refused_name(part.place, "tag", reason));
+            }
+            Payload::Newtype(part) => {
+                refuse_notes(types, part)?;
+                self.add_registered(types, imports, "add_internal_newtype", name, part)?;
+            }
+            Payload::Struct(members) => {
+                let call = "add_internal_struct";
+                self.add_struct(types, imports, ancestors, call, name, members)?;
+            }
+            Payload::Tuple(_) => {
+                let reason = "a variant of an enum with a tag in its content is no tuple";
+                return Err(types.context.refused_name(choice.place, "tag", reason));
+            }
+        }
+        Ok(())
+    }
+}
+
+// The fault of members that have those of another type among them.
+fn flattened(types: &Types<'_>, members: &Members) -> Fault {
+    let reason = "an implementation has no other members among those of a variant";
+    for member in &members.list {
+        if member.name.is_none() {
+            return types
+                .context
+                .refused_name(member.part.place, "flatten", reason);
+        }
+    }
+    Fault::OutOfMemory
+}

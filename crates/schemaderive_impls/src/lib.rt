@@ -1,0 +1,16 @@
+//! The implementations of `JsonSchema` for the types that a source declares, as a file of Rattle.
+#![tactic(auto)]
+
+mod body;
+mod choices;
+mod imports;
+mod items;
+mod keywords;
+mod leading;
+mod lines;
+mod members;
+mod own_rows;
+mod texts;
+mod writer;
+
+pub use writer::{Implementations, implementations_of};

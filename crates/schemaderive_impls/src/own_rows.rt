@@ -1,0 +1,235 @@
+//! Types that lead back to the type that is described, which are named by their ids.
+use crate::body::{Body, Types};
+use crate::imports::Imports;
+use crate::texts::literal;
+use schemaderive_known::Makeup;
+use schemaderive_syntax::{Fault, Place};
+use std::alloc::{AllocError, Global};
+
+/// A row that is named by the id of what it is made of.
+#[derive(Drop)]
+pub struct Step {
+    // the function that returns its number
+    call: &'static str,
+    // the function that adds a field of it
+    field_call: &'static str,
+    // what is said of it
+    word: &'static str,
+    // the type of its keys, or else its length, or nothing
+    key: Option<String>,
+    length: String,
+    // the id and the name of what it is made of
+    id: String,
+    name: String,
+}
+
+// Which functions name a row of this makeup, and what is said of it.
+fn functions(makeup: Makeup) -> Option<(&'static str, &'static str, &'static str)> {
+    match makeup {
+        Makeup::Declared(_) => Some(("reserve", "add_own", "IsReserved")),
+        Makeup::Optional => Some(("option_of", "add_option_of", "IsOptionOf")),
+        Makeup::List => Some(("seq_of", "add_seq_of", "IsSeqOf")),
+        Makeup::Set => Some(("set_of", "add_set_of", "IsSetOf")),
+        Makeup::Array => Some(("array_of", "add_array_of", "IsArrayOf")),
+        Makeup::Map => Some(("map_of", "add_map_of", "IsMapOf")),
+        Makeup::Plain | Makeup::Other => None,
+    }
+}
+
+/// How a row is named that leads to one of these declarations: the rows that it is made of from the
+/// innermost on, and itself at the end.
+///
+/// # Errors
+///
+/// It is made of them in another way than by Options, lists, sets, arrays and maps.
+pub fn steps_of(
+    types: &Types<'_>,
+    imports: &mut Imports,
+    ancestors: &[usize],
+    row: usize,
+    place: Place,
+) -> Result<Vec<Step>, Fault> {
+    let mut steps = Vec::new(types.context.alloc);
+    let mut at = row;
+    for _ in 0..types.rows.len() {
+        let (step, inner) = step_at(types, imports, ancestors, at, place)?;
+        steps.insert(0, step)?;
+        match inner {
+            Some(inner) => at = inner,
+            None => break,
+        }
+    }
+    drop_inner(&mut steps);
+    Ok(steps)
+}
+
+// What is made of a declaration names it by its id, so that it has no step of its own.
+fn drop_inner(steps: &mut Vec<Step>) {
+    if steps.len() > 1 {
+        let _ = steps.remove(0);
+    }
+}
+
+// The step of a row, and the row that it is made of unless it is that of a declaration.
+fn step_at(
+    types: &Types<'_>,
+    imports: &mut Imports,
+    ancestors: &[usize],
+    row: usize,
+    place: Place,
+) -> Result<(Step, Option<usize>), Fault> {
+    let unsaid = "what contains itself is named in Options, lists, sets, arrays and maps alone";
+    let Some(entry) = types.rows.get(row) else {
+        return Err(types.context.refused(place, unsaid));
+    };
+    let Some((call, field_call, word)) = functions(entry.makeup) else {
+        return Err(
+            types
+                .context
+                .refused_name(place, entry.name.as_str(), unsaid),
+        );
+    };
+    let mut key = None;
+    let mut inner = entry.parts.last().copied();
+    if let Makeup::Declared(_) = entry.makeup {
+        if inner.is_some() {
+            return Err(
+                types
+                    .context
+                    .refused_name(place, entry.name.as_str(), unsaid),
+            );
+        }
+        inner = None;
+    }
+    if entry.makeup == Makeup::Map {
+        let of_key = entry.parts.first().copied().unwrap_or(row);
+        if types.leads_to(of_key, ancestors) {
+            return Err(
+                types
+                    .context
+                    .refused_name(place, entry.name.as_str(), unsaid),
+            );
+        }
+        key = Some(types.short(imports, of_key, place)?);
+    }
+    let (id, name) = types.id_and_name(inner.unwrap_or(row))?;
+    let step = Step {
+        call,
+        field_call,
+        word,
+        key,
+        length: String::from_str(types.context.alloc, entry.length.as_str())?,
+        id,
+        name,
+    };
+    Ok((step, inner))
+}
+
+impl Step {
+    // A function with the type of the keys, if there is one.
+    fn head(&self, alloc: Global, function: &str) -> Result<String, AllocError> {
+        match &self.key {
+            Some(key) => format!(in alloc; "{function}::<{}>", key.as_str()),
+            None => String::from_str(alloc, function),
+        }
+    }
+
+    // What is said of the row.
+    fn clause(&self, alloc: Global) -> Result<String, AllocError> {
+        let (word, id, name) = (self.word, self.id.as_str(), self.name.as_str());
+        let first = match &self.key {
+            Some(key) => format!(in alloc; " ⟦<{} as JsonSchema>⟧.says", key.as_str())?,
+            None if self.length.is_empty() => String::new(alloc),
+            None => format!(in alloc; " {}", self.length.as_str())?,
+        };
+        format!(in alloc; "{word}{} (codes {id}) (codes {name}) d", first.as_str())
+    }
+}
+
+impl Body {
+    /// Says of rows what their steps say.
+    pub fn say_steps(&mut self, imports: &mut Imports, steps: &[Step]) -> Result<(), AllocError> {
+        imports.word("codes")?;
+        for step in steps {
+            imports.word(step.word)?;
+            let clause = step.clause(self.alloc())?;
+            self.says.push(clause)?;
+        }
+        Ok(())
+    }
+
+    // Adds the calls of all steps but the last, and returns the last.
+    fn first_steps<'s>(
+        &mut self,
+        imports: &mut Imports,
+        steps: &'s [Step],
+    ) -> Result<Option<&'s Step>, AllocError> {
+        self.say_steps(imports, steps)?;
+        let Some((last, before)) = steps.split_last() else {
+            return Ok(None);
+        };
+        for step in before {
+            imports.call(step.call)?;
+            let head = step.head(self.alloc(), step.call)?;
+            self.step_call(head.as_str(), step)?;
+        }
+        Ok(Some(last))
+    }
+
+    fn step_call(&mut self, head: &str, step: &Step) -> Result<(), AllocError> {
+        let (id, name, length) = (step.id.as_str(), step.name.as_str(), step.length.as_str());
+        if length.is_empty() {
+            return self.call(head, &["alloc", "types", id, name]);
+        }
+        self.call(head, &["alloc", "types", id, name, length])
+    }
+
+    /// Adds a field of a row that is named by these steps.
+    pub fn own_field(
+        &mut self,
+        imports: &mut Imports,
+        steps: &[Step],
+        name: &str,
+        required: &str,
+    ) -> Result<(), AllocError> {
+        let Some(last) = self.first_steps(imports, steps)? else {
+            return Ok(());
+        };
+        imports.call(last.field_call)?;
+        let head = last.head(self.alloc(), last.field_call)?;
+        let field = literal(self.alloc(), name)?;
+        let field = field.as_str();
+        let (id, called, length) = (last.id.as_str(), last.name.as_str(), last.length.as_str());
+        let head = head.as_str();
+        if length.is_empty() {
+            return self.call(
+                head,
+                &["alloc", "types", "&mut fields", field, id, called, required],
+            );
+        }
+        self.call(
+            head,
+            &[
+                "alloc",
+                "types",
+                "&mut fields",
+                field,
+                id,
+                called,
+                length,
+                required,
+            ],
+        )
+    }
+
+    /// Adds a line that gives the number of a row that is named by these steps the name `number`.
+    pub fn own_number(&mut self, imports: &mut Imports, steps: &[Step]) -> Result<(), AllocError> {
+        let Some(last) = self.first_steps(imports, steps)? else {
+            return Ok(());
+        };
+        imports.call(last.call)?;
+        let head = last.head(self.alloc(), last.call)?;
+        let head = format!(in self.alloc(); "let number = {}", head.as_str())?;
+        self.step_call(head.as_str(), last)
+    }
+}
