@@ -1,6 +1,5 @@
 -- What is read from a text has whole numbers of 64 bits and finite floats, and keys in order, each once.
-use Rattle.std.proofs.Common.{◌≡◌, ℕ, zero, suc, List, Bool, true, false, Option, Some, None, Ordering, Less, Equal, Greater}
-use Rattle.std.proofs.Common.{nat_cmp, refl, subst, arith}
+use Rattle.std.proofs.Common.{◌≡◌, ℕ, zero, suc, List, Bool, true, false, Option, Some, None, Ordering, Less, Equal, Greater, nat_cmp, refl, subst, arith}
 use Rattle.std.proofs.lemmas.Bool.{cond_both, leb-true, ltb-true}
 use Rattle.std.proofs.lemmas.Option.{option_and_then_some}
 use Rattle.std.specs.Prelude.{◌^◌, ◌&&◌, ◌==◌, drop, slice_index, nat_lt, nat_le, option_map, option_and_then, if◌then◌else◌, ⊤}
@@ -11,8 +10,7 @@ use Rattle.fast_float.specs.Text.{Parts, digits_of, minus, nearest, scan, with_s
 use Rattle.std.specs.Float.{binary64, float_is_finite}
 use Rattle.json.specs.Json as json
 use Rattle.json.specs.Lex.{tokens}
-use Rattle.serde_json.specs.Data.{Num, unsigned, negative, float, Data, number, object, array}
-use Rattle.serde_json.specs.Data.{item, Members, no_members, member, put}
+use Rattle.serde_json.specs.Data.{Num, unsigned, negative, float, Data, number, object, array, item, Members, no_members, member, put}
 use Rattle.serde_json.specs.Read.{is_integer, float_of, number_from, number_of, of_json, of_items, of_members, max_depth, read}
 use Rattle.schemars_schema.specs.Numbers.{IsNumber}
 use Rattle.schemars_schema.specs.Json.{Text}

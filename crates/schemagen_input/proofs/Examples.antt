@@ -3,13 +3,9 @@ use Rattle.std.proofs.Common.{◌≡◌, ℕ, List, [], ◌∷◌, true, false, 
 use Rattle.serde_json.specs.Read.{read}
 use Rattle.serde_json.proofs.OnLiterals.{serde_json_on_literals}
 use Rattle.schemars_schema.specs.Json.{Text}
-use Rattle.serde_json.specs.Data.{null, boolean, number, unsigned, string, array, no_items, item}
-use Rattle.serde_json.specs.Data.{Members, no_members, member}
+use Rattle.serde_json.specs.Data.{null, boolean, number, unsigned, string, array, no_items, item, Members, no_members, member}
 use Rattle.schemars_shapes.specs.declared.shape.IntKind.TheVariants.{U8, I32, I128}
-use Rattle.schemars_shapes.specs.Shape.{Shape, Field, Flattened, Fields, Required, bare_fields, without_notes, in_place, int, non_zero}
-use Rattle.schemars_shapes.specs.Shape.{formatted, char, any}
-use Rattle.schemars_shapes.specs.Shape.{option, seq, struct, external, untagged, internal, Payload, Variant, no_payload, newtype_payload}
-use Rattle.schemars_shapes.specs.Shape.{tuple_payload, struct_payload, adjacent}
+use Rattle.schemars_shapes.specs.Shape.{Shape, Field, Flattened, Fields, Required, bare_fields, without_notes, in_place, int, non_zero, formatted, char, any, option, seq, struct, external, untagged, internal, Payload, Variant, no_payload, newtype_payload, tuple_payload, struct_payload, adjacent}
 use Rattle.schemars_types.specs.Rows.{Row}
 use Rattle.schemagen_input.specs.Forms.{required}
 use Rattle.schemagen_input.specs.Input.{input_of}

@@ -1,6 +1,5 @@
 -- What is read has the library's shapes.
-use Rattle.std.proofs.Common.{◌≡◌, List, [], ◌∷◌, Bool, true, false, Option, Some, None, is_some, option_map, option_and_then}
-use Rattle.std.proofs.Common.{cond, codes, refl, subst}
+use Rattle.std.proofs.Common.{◌≡◌, List, [], ◌∷◌, Bool, true, false, Option, Some, None, is_some, option_map, option_and_then, cond, codes, refl, subst}
 use Rattle.std.specs.List.{list_all}
 use Rattle.std.specs.Option.{option_map_or}
 use Rattle.serde_json.specs.Data.{Data, null, boolean, number, string, array, object, Items, no_items, item, Members}
@@ -9,11 +8,8 @@ use Rattle.schemars_schema.specs.Json.{Text}
 use Rattle.schemars_shapes.specs.Shape.{Payload, no_payload, newtype_payload, tuple_payload, struct_payload, Variant, Entry, internal}
 use Rattle.schemars_types.specs.Rows.{Row, with_entry}
 use Rattle.schemagen_json.specs.Members.{lone_in}
-use Rattle.schemagen_input.specs.Forms.{read_each, items_under, variant_in, variant_inside, payload_inside}
-use Rattle.schemagen_input.specs.Forms.{internal_variant_in, internals_in}
-use Rattle.schemagen_input.specs.Forms.{needed_member, internal_in, adjacent_in}
-use Rattle.schemagen_input.specs.Input.{shape_named, shape_under, plain_under, list_under, fixed_under, literal_in, shape_in}
-use Rattle.schemagen_input.specs.Input.{entry_in, heading_in, row_in, rows_in}
+use Rattle.schemagen_input.specs.Forms.{read_each, items_under, variant_in, variant_inside, payload_inside, internal_variant_in, internals_in, needed_member, internal_in, adjacent_in}
+use Rattle.schemagen_input.specs.Input.{shape_named, shape_under, plain_under, list_under, fixed_under, literal_in, shape_in, entry_in, heading_in, row_in, rows_in}
 use Rattle.schemagen_input.specs.Written.{is_library_shape, has_library_shape}
 
 -- what is said, if anything, passes

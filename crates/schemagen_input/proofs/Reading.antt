@@ -1,8 +1,5 @@
 -- Why reading the headings of all rows first, and then their entries, gives the table that the value says.
-use Rattle.std.proofs.Common.{◌≡◌, ◌+◌, ◌<◌, ℕ, nat_lt, nat_le, List, [], ◌∷◌, ◌++◌, length, get_or}
-use Rattle.std.proofs.Common.{drop, slice_get, Bool, true, false, not, ◌||◌, Option, Some, None, option_map}
-use Rattle.std.proofs.Common.{option_and_then, is_some, cond, codes, refl, ap, ◌∙◌, sym, arith, append_assoc}
-use Rattle.std.proofs.Common.{subst}
+use Rattle.std.proofs.Common.{◌≡◌, ◌+◌, ◌<◌, ℕ, nat_lt, nat_le, List, [], ◌∷◌, ◌++◌, length, get_or, drop, slice_get, Bool, true, false, not, ◌||◌, Option, Some, None, option_map, option_and_then, is_some, cond, codes, refl, ap, ◌∙◌, sym, arith, append_assoc, subst}
 use Rattle.std.specs.List.{list_all, list_any, position_from, find}
 use Rattle.std.specs.Option.{option_map_or}
 use Rattle.std.specs.Str.{bytes_eq}
@@ -26,9 +23,7 @@ use Rattle.schemars_types.specs.declared.error.TypesError.{TypesError}
 use Rattle.schemars_types.specs.declared.error.TypesError.TheVariants.{UnknownType, AlreadyDefined}
 use Rattle.schemars_types.proofs.Within.{length-defined}
 use Rattle.schemagen_input.specs.Forms.{number_in, needed_member}
-use Rattle.schemagen_input.specs.Input.{table_in, unentered, row_names, heading_in}
-use Rattle.schemagen_input.specs.Input.{entry_in, row_in, rows_in, ids_differ, ids_of, refers_within}
-use Rattle.schemagen_input.specs.Input.{all_fit, is_complete}
+use Rattle.schemagen_input.specs.Input.{table_in, unentered, row_names, heading_in, entry_in, row_in, rows_in, ids_differ, ids_of, refers_within, all_fit, is_complete}
 use Rattle.schemagen_input.specs.Reading.{headings_in, reserved_after, fitting_after}
 
 -- ---- options

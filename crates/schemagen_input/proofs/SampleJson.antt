@@ -8,16 +8,13 @@ use Rattle.std.specs.Float.{two_to, minus_two_to}
 use Rattle.std.specs.Float.Ieee.{lt}
 use Rattle.std.specs.Ordering.{ordering_reverse}
 use Rattle.std.specs.Cmp.Lexicographic.{slice_cmp}
-use Rattle.serde_json.specs.Data.{Data, null, boolean, number, unsigned, negative, float, string, array, object}
-use Rattle.serde_json.specs.Data.{Items, no_items, item, Members, no_members, member, put}
+use Rattle.serde_json.specs.Data.{Data, null, boolean, number, unsigned, negative, float, string, array, object, Items, no_items, item, Members, no_members, member, put}
 use Rattle.serde_json.specs.View.{items_of}
 use Rattle.schemars_schema.specs.Json.{Text, IsAbove}
 use Rattle.schemars_schema.specs.SchemaData.{put_members}
-use Rattle.schemars_sample.specs.Example.{Example, decimal, seq, struct}
-use Rattle.schemars_sample.specs.Example.{Examples, example, Entries, entry}
+use Rattle.schemars_sample.specs.Example.{Example, decimal, seq, struct, Examples, example, Entries, entry}
 use Rattle.schemars_sample.specs.SampleJson.{sample_json, items_json, entries_json}
-use Rattle.schemagen_input.specs.SampleInput.{sample_input, items_input, members_input}
-use Rattle.schemagen_input.specs.SampleInput.{IsAsRead, AreAsRead, AreMembersAsRead}
+use Rattle.schemagen_input.specs.SampleInput.{sample_input, items_input, members_input, IsAsRead, AreAsRead, AreMembersAsRead}
 use Rattle.schemars_sample.proofs.Results.{if_mapped, if_next}
 
 -- a member before all that are put in stays the first

@@ -1,6 +1,5 @@
 -- The JSON of a table reads back as that table.
-use Rattle.std.proofs.Common.{◌≡◌, ◌≢◌, ◌<◌, ℕ, nat_lt, List, [], ◌∷◌, map, length, true, false, Option, Some, None}
-use Rattle.std.proofs.Common.{is_some, refl, ap, ◌∙◌, sym, arith}
+use Rattle.std.proofs.Common.{◌≡◌, ◌≢◌, ◌<◌, ℕ, nat_lt, List, [], ◌∷◌, map, length, true, false, Option, Some, None, is_some, refl, ap, ◌∙◌, sym, arith}
 use Rattle.std.proofs.lemmas.Bool.Decides.{nat_tests}
 use Rattle.std.proofs.lemmas.Bool.{and_parts}
 use Rattle.std.specs.List.{list_all}
@@ -9,18 +8,11 @@ use Rattle.serde_json.specs.Data.{Data}
 use Rattle.serde_json.specs.View.{items_of}
 use Rattle.schemars_shapes.specs.declared.shape.IntKind.{IntKind}
 use Rattle.schemars_shapes.specs.declared.shape.IntKind.TheVariants.{I8, I16, I32, I64, I128, Isize, U8, U16, U32, U64, U128, Usize}
-use Rattle.schemars_shapes.specs.Shape.{Field, Flattened, Payload, Variant, Shape, Entry}
-use Rattle.schemars_shapes.specs.Shape.{no_payload, newtype_payload, tuple_payload, struct_payload}
-use Rattle.schemars_shapes.specs.Shape.{null as null_shape, bool, int, non_zero, number as number_shape, text, char, formatted, any, bytes}
-use Rattle.schemars_shapes.specs.Shape.{schema_itself, option, seq, set, array as array_shape, up_to, tuple, struct, newtype}
-use Rattle.schemars_shapes.specs.Shape.{result, bound, range, either, map_from, external, untagged, internal, adjacent, literal}
+use Rattle.schemars_shapes.specs.Shape.{Field, Flattened, Payload, Variant, Shape, Entry, no_payload, newtype_payload, tuple_payload, struct_payload, null as null_shape, bool, int, non_zero, number as number_shape, text, char, formatted, any, bytes, schema_itself, option, seq, set, array as array_shape, up_to, tuple, struct, newtype, result, bound, range, either, map_from, external, untagged, internal, adjacent, literal}
 use Rattle.schemars_types.specs.Rows.{Row}
-use Rattle.schemagen_input.specs.Forms.{read_each, number_in, kind_in, field_in, flattened_from, payload_in, variant_in}
-use Rattle.schemagen_input.specs.Forms.{payload_inside, internal_variant_in}
-use Rattle.schemagen_input.specs.Input.{shape_in, row_in, rows_in, refers_within, all_fit, ids_differ, ids_of}
-use Rattle.schemagen_input.specs.Input.{table_in, input_of}
-use Rattle.schemagen_input.specs.Written.{whole, field_json, flattened_json, payload_json, variant_json, kind_json}
-use Rattle.schemagen_input.specs.Written.{shape_json, row_json, json_of, is_library_shape, has_library_shape, CanBeWritten}
+use Rattle.schemagen_input.specs.Forms.{read_each, number_in, kind_in, field_in, flattened_from, payload_in, variant_in, payload_inside, internal_variant_in}
+use Rattle.schemagen_input.specs.Input.{shape_in, row_in, rows_in, refers_within, all_fit, ids_differ, ids_of, table_in, input_of}
+use Rattle.schemagen_input.specs.Written.{whole, field_json, flattened_json, payload_json, variant_json, kind_json, shape_json, row_json, json_of, is_library_shape, has_library_shape, CanBeWritten}
 
 -- ---- lists
 

@@ -5,8 +5,7 @@ use Rattle.serde_json.proofs.OnLiterals.{serde_json_on_literals}
 use Rattle.schemars_schema.specs.Json.{Text}
 use Rattle.serde_json.specs.Data.{boolean, string, no_members, member}
 use Rattle.schemars_shapes.specs.declared.shape.IntKind.TheVariants.{U8}
-use Rattle.schemars_shapes.specs.Shape.{Shape, Field, Fields, Variant, without_notes, newtype_payload}
-use Rattle.schemars_shapes.specs.Shape.{int, array, struct, internal, adjacent, literal}
+use Rattle.schemars_shapes.specs.Shape.{Shape, Field, Fields, Variant, without_notes, newtype_payload, int, array, struct, internal, adjacent, literal}
 use Rattle.schemars_types.specs.Rows.{Row}
 use Rattle.schemagen_input.specs.Forms.{required}
 use Rattle.schemagen_input.specs.Written.{json_of}

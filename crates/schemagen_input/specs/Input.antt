@@ -1,22 +1,15 @@
 -- The table that a JSON value says, and its root.
-use Rattle.std.specs.Prelude.{ℕ, List, [], ◌∷◌, Bool, true, false, ◌&&◌, not, nat_lt, length, Option, Some, None, map}
-use Rattle.std.specs.Prelude.{option_map, option_and_then, if◌then◌else◌, bytes_eq, codes}
+use Rattle.std.specs.Prelude.{ℕ, List, [], ◌∷◌, Bool, true, false, ◌&&◌, not, nat_lt, length, Option, Some, None, map, option_map, option_and_then, if◌then◌else◌, bytes_eq, codes}
 use Rattle.std.specs.List.{list_all, list_any}
 use Rattle.std.specs.Option.{option_map_or}
 use Rattle.serde_json.specs.Data.{Data, Items}
 use Rattle.serde_json.specs.Find.{as_bool, as_str, as_array}
 use Rattle.schemars_schema.specs.Json.{Text}
-use Rattle.schemars_shapes.specs.Shape.{Shape, Entry, numbers_of, either, map_from}
-use Rattle.schemars_shapes.specs.Shape.{null as null_shape, bool, int, non_zero}
-use Rattle.schemars_shapes.specs.Shape.{number as number_shape, text, char, formatted, any, bytes, schema_itself}
-use Rattle.schemars_shapes.specs.Shape.{option, seq, set, array as array_shape, up_to, tuple, newtype}
-use Rattle.schemars_shapes.specs.Shape.{result, bound, range, literal}
+use Rattle.schemars_shapes.specs.Shape.{Shape, Entry, numbers_of, either, map_from, null as null_shape, bool, int, non_zero, number as number_shape, text, char, formatted, any, bytes, schema_itself, option, seq, set, array as array_shape, up_to, tuple, newtype, result, bound, range, literal}
 use Rattle.schemars_schema.specs.Lookup.{schema_only}
 use Rattle.schemars_types.specs.Rows.{Row, with_entry}
 use Rattle.schemagen_json.specs.Members.{has_only}
-use Rattle.schemagen_input.specs.Forms.{needed_member, optional_member, read_each, externally_tagged, number_in, notes_in, kind_in}
-use Rattle.schemagen_input.specs.Forms.{struct_in, parts_from}
-use Rattle.schemagen_input.specs.Forms.{external_in, untagged_in, internal_in, adjacent_in}
+use Rattle.schemagen_input.specs.Forms.{needed_member, optional_member, read_each, externally_tagged, number_in, notes_in, kind_in, struct_in, parts_from, external_in, untagged_in, internal_in, adjacent_in}
 
 -- ---- shapes
 

@@ -9,11 +9,7 @@ use Rattle.schemars_schema.specs.Json.{Text}
 use Rattle.schemars_schema.specs.SchemaData.{object_of, is_schema}
 use Rattle.schemars_shapes.specs.declared.shape.IntKind.{IntKind}
 use Rattle.schemars_shapes.specs.declared.shape.IntKind.TheVariants.{I8, I16, I32, I64, I128, Isize, U8, U16, U32, U64, U128, Usize}
-use Rattle.schemars_shapes.specs.Shape.{Required, Field, Flattened, Fields, Payload, Variant, Shape, Entry}
-use Rattle.schemars_shapes.specs.Shape.{no_payload, newtype_payload, tuple_payload, struct_payload}
-use Rattle.schemars_shapes.specs.Shape.{null, bool, int, non_zero, number as number_shape, text, char, formatted, any, bytes}
-use Rattle.schemars_shapes.specs.Shape.{schema_itself, option, seq, set, array as array_shape, up_to, tuple, struct, newtype}
-use Rattle.schemars_shapes.specs.Shape.{result, bound, range, either, map_from, external, untagged, internal, adjacent, literal}
+use Rattle.schemars_shapes.specs.Shape.{Required, Field, Flattened, Fields, Payload, Variant, Shape, Entry, no_payload, newtype_payload, tuple_payload, struct_payload, null, bool, int, non_zero, number as number_shape, text, char, formatted, any, bytes, schema_itself, option, seq, set, array as array_shape, up_to, tuple, struct, newtype, result, bound, range, either, map_from, external, untagged, internal, adjacent, literal}
 use Rattle.schemars_types.specs.Rows.{Row}
 use Rattle.schemagen_input.specs.Forms.{payload_inside}
 use Rattle.schemagen_input.specs.Input.{is_complete}

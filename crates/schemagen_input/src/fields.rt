@@ -1,11 +1,8 @@
 //! Fields of structs.
 ghost use Rattle.std.specs.Prelude.{◌≡◌, true, None, Some, IfOk, IfErr, option_map, map, codes};
 ghost use Rattle.schemagen_json.specs.BorrowedValue.{data_of};
-ghost use Rattle.schemars_shapes.specs.Shape.{shape_of, field_of, flattened_of, fields_of};
-ghost use Rattle.schemars_shapes.specs.Shape.{required_of};
-ghost use Rattle.schemagen_input.specs.Forms.{required, required_each, required_in, field_in};
-ghost use Rattle.schemagen_input.specs.Forms.{fields_said, struct_in, flattened_from};
-ghost use Rattle.schemagen_input.specs.Forms.{optional_member, fields_in, all_flattened_in};
+ghost use Rattle.schemars_shapes.specs.Shape.{shape_of, field_of, flattened_of, fields_of, required_of};
+ghost use Rattle.schemagen_input.specs.Forms.{required, required_each, required_in, field_in, fields_said, struct_in, flattened_from, optional_member, fields_in, all_flattened_in};
 
 use crate::error::InputError;
 use crate::members::{flag_in, items_under, notes_in, number_of, text_in};

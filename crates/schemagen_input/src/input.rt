@@ -1,10 +1,8 @@
 //! The table that a JSON value says.
-ghost use Rattle.std.specs.Prelude.{◌≡◌, ◌≢◌, ◌<◌, ℕ, List, [], true, None, Some, IfOk, IfErr};
-ghost use Rattle.std.specs.Prelude.{option_map, length};
+ghost use Rattle.std.specs.Prelude.{◌≡◌, ◌≢◌, ◌<◌, ℕ, List, [], true, None, Some, IfOk, IfErr, option_map, length};
 ghost use Rattle.schemagen_json.specs.BorrowedValue.{data_of, items_data};
 ghost use Rattle.schemagen_input.specs.Forms.{needed_member};
-ghost use Rattle.schemagen_input.specs.Input.{heading_in, unentered, is_complete, table_in};
-ghost use Rattle.schemagen_input.specs.Input.{input_of};
+ghost use Rattle.schemagen_input.specs.Input.{heading_in, unentered, is_complete, table_in, input_of};
 ghost use Rattle.schemagen_input.specs.Written.{json_of, CanBeWritten};
 ghost use Rattle.schemars_types.specs.Rows.{Row};
 ghost use Rattle.schemagen_input.specs.Reading.{headings_in, reserved_after, fitting_after};

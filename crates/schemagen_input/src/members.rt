@@ -3,9 +3,7 @@ ghost use Rattle.std.specs.Prelude.{◌≡◌, false, None, Some, IfOk, IfErr, o
 ghost use Rattle.serde_json.specs.Data.{no_items};
 ghost use Rattle.serde_json.specs.View.{members_view};
 ghost use Rattle.schemagen_json.specs.BorrowedValue.{data_of, items_data};
-ghost use Rattle.schemagen_input.specs.Forms.{number_in, notes_in, kind_named};
-ghost use Rattle.schemagen_input.specs.Forms.{kind_in, parts_from, read_each, items_under};
-ghost use Rattle.schemagen_input.specs.Forms.{optional_member, needed_member};
+ghost use Rattle.schemagen_input.specs.Forms.{number_in, notes_in, kind_named, kind_in, parts_from, read_each, items_under, optional_member, needed_member};
 ghost use Rattle.serde_json.specs.Find.{as_bool, as_str};
 
 use crate::error::InputError;

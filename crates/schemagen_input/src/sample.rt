@@ -4,8 +4,7 @@ ghost use Rattle.serde_json.specs.Data.{float};
 ghost use Rattle.serde_json.specs.View.{view, number_view, items_view, members_view};
 ghost use Rattle.schemars_sample.specs.Example.{example_of, examples_view, entries_view};
 ghost use Rattle.schemars_sample.specs.SampleJson.{sample_json};
-ghost use Rattle.schemagen_input.specs.SampleInput.{sample_input, number_input, items_input, members_input};
-ghost use Rattle.schemagen_input.specs.SampleInput.{IsAsRead};
+ghost use Rattle.schemagen_input.specs.SampleInput.{sample_input, number_input, items_input, members_input, IsAsRead};
 
 use schemars_sample::Sample;
 use serde_json::{Map, Number, Value};

@@ -2,10 +2,7 @@
 ghost use Rattle.std.specs.Prelude.{◌≡◌, None, Some, IfOk, IfErr, option_map};
 ghost use Rattle.schemagen_json.specs.BorrowedValue.{data_of};
 ghost use Rattle.schemars_shapes.specs.Shape.{shape_of, entry_of, formatted};
-ghost use Rattle.schemagen_input.specs.Input.{counted_in, array_in, up_to_in, tuple_in, list_under};
-ghost use Rattle.schemagen_input.specs.Input.{plain_under, literal_in, two_in, result_in};
-ghost use Rattle.schemagen_input.specs.Input.{either_in, map_in, fixed_under};
-ghost use Rattle.schemagen_input.specs.Input.{shape_named, shape_under, shape_in, entry_in};
+ghost use Rattle.schemagen_input.specs.Input.{counted_in, array_in, up_to_in, tuple_in, list_under, plain_under, literal_in, two_in, result_in, either_in, map_in, fixed_under, shape_named, shape_under, shape_in, entry_in};
 ghost use Rattle.serde_json.specs.Find.{as_str};
 
 use crate::error::InputError;

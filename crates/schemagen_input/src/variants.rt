@@ -1,14 +1,8 @@
 //! Variants of enums.
-ghost use Rattle.std.specs.Prelude.{◌≡◌, None, Some, IfOk, IfErr, option_map, map};
-ghost use Rattle.std.specs.Prelude.{codes};
+ghost use Rattle.std.specs.Prelude.{◌≡◌, None, Some, IfOk, IfErr, option_map, map, codes};
 ghost use Rattle.schemagen_json.specs.BorrowedValue.{data_of};
-ghost use Rattle.schemars_shapes.specs.Shape.{shape_of, no_payload, payload_of, variant_of};
-ghost use Rattle.schemars_shapes.specs.Shape.{internal_payload_of, internal_variant_of};
-ghost use Rattle.schemagen_input.specs.Forms.{payload_named, payload_under, payload_in, variant_in};
-ghost use Rattle.schemagen_input.specs.Forms.{variants_in, adjacent_in};
-ghost use Rattle.schemagen_input.specs.Forms.{enum_in, external_in, untagged_in};
-ghost use Rattle.schemagen_input.specs.Forms.{payload_inside, variant_inside, internals_in};
-ghost use Rattle.schemagen_input.specs.Forms.{internal_variant_in, internal_in, optional_member};
+ghost use Rattle.schemars_shapes.specs.Shape.{shape_of, no_payload, payload_of, variant_of, internal_payload_of, internal_variant_of};
+ghost use Rattle.schemagen_input.specs.Forms.{payload_named, payload_under, payload_in, variant_in, variants_in, adjacent_in, enum_in, external_in, untagged_in, payload_inside, variant_inside, internals_in, internal_variant_in, internal_in, optional_member};
 
 use crate::error::InputError;
 use crate::fields::fields_said;

@@ -1,8 +1,5 @@
 -- The members of a borrowed value, of which the last one of a name counts.
-use Rattle.std.proofs.Common.{◌≡◌, ◌⊎◌, ℕ, List, [], ◌∷◌, ◌++◌, map, Bool, true, false, ◌&&◌, Some, None, is_some}
-use Rattle.std.proofs.Common.{◌+◌, ◌<◌, zero, suc, length, take, get_or, arith, take_all}
-use Rattle.std.proofs.Common.{Bor, Ordering, Less, Equal, Greater, bytes_eq, nat_cmp, refl, sym, ap, ◌∙◌, rules}
-use Rattle.std.proofs.Common.{true≢false, is_eq, inl, inr}
+use Rattle.std.proofs.Common.{◌≡◌, ◌⊎◌, ℕ, List, [], ◌∷◌, ◌++◌, map, Bool, true, false, ◌&&◌, Some, None, is_some, ◌+◌, ◌<◌, zero, suc, length, take, get_or, arith, take_all, Bor, Ordering, Less, Equal, Greater, bytes_eq, nat_cmp, refl, sym, ap, ◌∙◌, rules, true≢false, is_eq, inl, inr}
 use Rattle.std.proofs.lemmas.Cmp.{nat_list_cmp_total, tied_itself}
 use Rattle.std.proofs.lemmas.Map.Text.{is_eq-slice_cmp}
 use Rattle.std.proofs.lemmas.Bool.{and_parts}

@@ -1,7 +1,6 @@
 //! JSON values whose texts are borrowed.
 ghost use Rattle.std.specs.Prelude.{◌≡◌, option_map, option_and_then};
-ghost use Rattle.serde_json.specs.Find.{as_bool, as_str, as_u64, as_number, as_array, as_object};
-ghost use Rattle.serde_json.specs.Find.{get};
+ghost use Rattle.serde_json.specs.Find.{as_bool, as_str, as_u64, as_number, as_array, as_object, get};
 ghost use Rattle.schemagen_json.specs.BorrowedValue.{data_of, items_data, members_data};
 
 mod copying;

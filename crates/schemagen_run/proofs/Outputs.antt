@@ -13,8 +13,7 @@ use Rattle.schemagen_run.specs.declared.words.Asked.{Asked}
 use Rattle.schemagen_run.specs.declared.words.Dialect.{Dialect}
 use Rattle.schemagen_run.specs.declared.words.Dialect.TheVariants.{OpenApi3}
 use Rattle.schemagen_run.specs.declared.output.Output.TheVariants.{Document, DocumentText}
-use Rattle.schemagen_run.specs.Run.{IsWrittenDocument, AreDefinitionsOf, IsDefinitionsLine, IsLineIn, IsLineOf, fresh}
-use Rattle.schemagen_run.specs.Run.{transforms_of_dialect}
+use Rattle.schemagen_run.specs.Run.{IsWrittenDocument, AreDefinitionsOf, IsDefinitionsLine, IsLineIn, IsLineOf, fresh, transforms_of_dialect}
 use Rattle.schemagen_run.specs.Output.{IsOutputOf, IsFreshFor}
 use Rattle.schemagen_run.proofs.Runs.{in_draft}
 

@@ -1,8 +1,5 @@
 -- Which words a run knows, and what it refuses.
-use Rattle.std.proofs.Common.{◌≡◌, ◌≢◌, ◌⊎◌, refl, inl, inr, ℕ, map, List, [], ◌∷◌, ◌++◌, append-nil, subst}
-use Rattle.std.proofs.Common.{Option, Some, None}
-use Rattle.std.proofs.Common.{length, get_or, ◌&&◌, true, String, Global, string_bytes, codes, sym, ap}
-use Rattle.std.proofs.Common.{◌∙◌, arith}
+use Rattle.std.proofs.Common.{◌≡◌, ◌≢◌, ◌⊎◌, refl, inl, inr, ℕ, map, List, [], ◌∷◌, ◌++◌, append-nil, subst, Option, Some, None, length, get_or, ◌&&◌, true, String, Global, string_bytes, codes, sym, ap, ◌∙◌, arith, Bool, false, nat_lt, ◌||◌, true≢false}
 use Rattle.std.specs.Str.{bytes_eq}
 use Rattle.std.proofs.lemmas.Slice.Eq.{bytes_eq-Decides}
 use Rattle.schemars_types.specs.Rows.{Row}
@@ -14,7 +11,7 @@ use Rattle.schemars_generate.specs.declared.error.GenerateError.{GenerateError}
 use Rattle.schemars_generate.specs.declared.error.GenerateError.TheVariants.{OutOfMemory, DefinitionsPath}
 use Rattle.schemars_generate.specs.Refusals.{code_of, error_of, HasFault}
 use Rattle.schemagen_run.specs.declared.fault.Fault.{Fault}
-use Rattle.schemagen_run.specs.declared.fault.Fault.TheVariants.{Refused}
+use Rattle.schemagen_run.specs.declared.fault.Fault.TheVariants.{Refused, Usage}
 use Rattle.schemagen_run.specs.declared.fault.TheConstants.{OUT_OF_MEMORY, DEFINITIONS_PATH, NOT_JSON, BAD_TABLE, WRITE}
 use Rattle.schemagen_run.specs.Fault.{IsReadFault, IsTableFault, IsLineFault, IsOutside}
 use Rattle.schemagen_input.specs.Input.{input_of}
@@ -23,14 +20,10 @@ use Rattle.std.specs.Prelude.{MatchOption}
 use Rattle.schemagen_run.specs.declared.words.Dialect.{Dialect}
 use Rattle.schemagen_run.specs.declared.words.Dialect.TheVariants.{Draft2020_12, Draft2019_09, Draft07, OpenApi3}
 use Rattle.schemagen_run.specs.Words.{AskFor, AskForTypes, AskForExample, AskForSample, IsAskedBy, IsKnown, IsDialect, word_for}
-use Rattle.schemagen_run.specs.Run.{IsLineOf, IsLineIn, IsDocumentLine, IsRefusal, IsLineRefusal}
-use Rattle.schemagen_run.specs.Run.{GivesAll, IsNoJson, IsBadTable, IsTableText, IsAcceptedText, IsNotedText}
+use Rattle.schemagen_run.specs.Run.{IsLineOf, IsLineIn, IsDocumentLine, IsRefusal, IsLineRefusal, GivesAll, IsNoJson, IsBadTable, IsTableText, IsAcceptedText, IsNotedText, IsFaultyTable, Tells, IsTextOf, IsTableLine, IsSampleLineOf, IsSampleLine}
 use Rattle.schemagen_input.specs.SampleInput.{IsAsRead}
 use Rattle.schemagen_input.proofs.AsRead.{is_as_read}
-use Rattle.schemagen_run.specs.Run.{IsFaultyTable, Tells, IsTextOf, IsTableLine, IsSampleLineOf, IsSampleLine}
 use Rattle.serde_json.specs.Data.{Data}
-use Rattle.std.proofs.Common.{Bool, false, nat_lt, ◌||◌, true≢false}
-use Rattle.schemagen_run.specs.declared.fault.Fault.TheVariants.{Usage}
 
 is_word : (a u : String Global) (t : List ℕ) → a ≡ u → bytes_eq (string_bytes a) t ≡ true → string_bytes u ≡ t
 is_word a u t same is = ap string_bytes (sym same) ∙ (bytes_eq-Decides (string_bytes a) t).0 is

@@ -16,8 +16,7 @@ use Rattle.schemars_transform.specs.Member.{some_own}
 use Rattle.schemars_transform.specs.BuiltIn.{made_by}
 use Rattle.schemagen_run.specs.declared.words.Dialect.{Dialect}
 use Rattle.schemagen_run.specs.declared.words.Dialect.TheVariants.{Draft2020_12, Draft2019_09, Draft07, OpenApi3}
-use Rattle.schemagen_run.specs.Run.{settings_of_dialect, transforms_of_dialect, AcceptsIn, AcceptsUnder, IsUntransformedExample}
-use Rattle.schemagen_run.specs.Run.{IsSampleDocument}
+use Rattle.schemagen_run.specs.Run.{settings_of_dialect, transforms_of_dialect, AcceptsIn, AcceptsUnder, IsUntransformedExample, IsSampleDocument}
 use Rattle.schemagen_run.proofs.Tables.{none_own, for_draft, IsMadeWhole}
 
 accepts_in : (dialect : Dialect) (x : Example) (d : Data) → IsSampleRoot (settings_of_dialect dialect) no_members x d

@@ -1,6 +1,5 @@
 -- What the generator asks of a table holds of each input, and what it answers is the root document of a row.
-use Rattle.std.proofs.Common.{◌≡◌, ◌≢◌, ◌⊎◌, ◌↔◌, ◌<◌, ◌≤◌, ℕ, codes, nat_lt, List, [], length, Bool, true, false, ◌&&◌}
-use Rattle.std.proofs.Common.{Some, refl, ap, ◌∙◌, subst, sym, inl, inr, Result, Ok, Err, IfOk, IfErr, arith}
+use Rattle.std.proofs.Common.{◌≡◌, ◌≢◌, ◌⊎◌, ◌↔◌, ◌<◌, ◌≤◌, ℕ, codes, nat_lt, List, [], length, Bool, true, false, ◌&&◌, Some, refl, ap, ◌∙◌, subst, sym, inl, inr, Result, Ok, Err, IfOk, IfErr, arith}
 use borrow.Author.Tests.{ltb-true}
 use Rattle.serde_json.specs.Data.{Data, Members, no_members}
 use Rattle.serde_json.specs.Written.{has_float}
@@ -29,8 +28,7 @@ use Rattle.schemars_headline.specs.State.{State, stripped, path_of, HasOwnDefini
 use Rattle.schemars_laws.specs.Paths.{components}
 use Rattle.schemars_generate.specs.Settings.{transforms_openapi3}
 use Rattle.schemagen_input.specs.Input.{is_complete, is_table}
-use Rattle.schemagen_run.specs.Run.{settings_for, transforms_of_dialect, fresh, Means, IsWrittenDocument, IsUnplaced, IsRefusal}
-use Rattle.schemagen_run.specs.Run.{settings_of_dialect, AreTakenAt, AreTaken, AreDefinitionsOf}
+use Rattle.schemagen_run.specs.Run.{settings_for, transforms_of_dialect, fresh, Means, IsWrittenDocument, IsUnplaced, IsRefusal, settings_of_dialect, AreTakenAt, AreTaken, AreDefinitionsOf}
 
 pub both : (a b : Bool) → a && b ≡ true → (a ≡ true) × (b ≡ true)
 both true b e = (refl, e)

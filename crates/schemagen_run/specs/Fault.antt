@@ -4,9 +4,7 @@ use Rattle.schemars_text.specs.declared.error.OrderedError.{OrderedError}
 use Rattle.schemars_text.specs.declared.error.OrderedError.TheVariants as ordered
 use Rattle.schemagen_run.specs.declared.fault.Fault.{Fault}
 use Rattle.schemagen_run.specs.declared.fault.Fault.TheVariants.{Usage, Refused}
-use Rattle.schemagen_run.specs.declared.fault.TheConstants.{OUT_OF_MEMORY, UNDEFINED_TYPE, REPEATED_NAME, DIRECT_CYCLE}
-use Rattle.schemagen_run.specs.declared.fault.TheConstants.{EMPTY_CYCLE, DEFINITIONS_PATH, NOT_JSON, BAD_TABLE, NOT_WHOLE}
-use Rattle.schemagen_run.specs.declared.fault.TheConstants.{READ, WRITE}
+use Rattle.schemagen_run.specs.declared.fault.TheConstants.{OUT_OF_MEMORY, UNDEFINED_TYPE, REPEATED_NAME, DIRECT_CYCLE, EMPTY_CYCLE, DEFINITIONS_PATH, NOT_JSON, BAD_TABLE, NOT_WHOLE, READ, WRITE}
 
 abbrev pub status_of : Fault → ℕ
 status_of Usage = 2

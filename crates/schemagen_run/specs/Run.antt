@@ -1,6 +1,5 @@
 -- What a run of the program promises.
-use Rattle.std.specs.Prelude.{◌≡◌, ◌⊎◌, ℕ, List, [], ◌∷◌, ◌++◌, Option, Some}
-use Rattle.std.specs.Prelude.{None, false, String}
+use Rattle.std.specs.Prelude.{◌≡◌, ◌⊎◌, ℕ, List, [], ◌∷◌, ◌++◌, Option, Some, None, false, String}
 use Rattle.std.specs.declared.alloc.Global.{Global}
 use Rattle.std.specs.Io.KnownBytes.{Consumes, IsAtEnd}
 use Rattle.serde_json.specs.Data.{Data, Members, no_members}
@@ -28,8 +27,7 @@ use Rattle.schemars_types.specs.declared.contract.Contract.{Contract}
 use Rattle.schemars_transform.specs.declared.gen_transform.GenTransform.{GenTransform}
 use Rattle.schemars_transform.specs.declared.no_transform.NoTransform.{NoTransform}
 use Rattle.schemars_transform.specs.BuiltIn.{IsMadeBy, each_made_by}
-use Rattle.schemars_generate.specs.Settings.{settings07, settings2019_09, settings_openapi3}
-use Rattle.schemars_generate.specs.Settings.{transforms07, transforms2019_09, transforms_openapi3}
+use Rattle.schemars_generate.specs.Settings.{settings07, settings2019_09, settings_openapi3, transforms07, transforms2019_09, transforms_openapi3}
 use Rattle.schemagen_run.specs.declared.words.Asked.{Asked}
 use Rattle.schemagen_run.specs.declared.words.Dialect.{Dialect}
 use Rattle.schemagen_run.specs.declared.words.Dialect.TheVariants.{Draft2020_12, Draft2019_09, Draft07, OpenApi3}

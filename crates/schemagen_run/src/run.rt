@@ -1,7 +1,5 @@
 //! A run of the program over its words, a source and a sink.
-ghost use Rattle.std.specs.Prelude.{◌≡◌, ◌≢◌, ◌⊎◌, ◌↔◌, ℕ, List, Some, None, false, true, Err};
-ghost use Rattle.std.specs.Prelude.{IsTrue, IfOk, IfErr, OnOk};
-ghost use Rattle.std.specs.Prelude.{[], ◌∷◌, ◌<◌, length};
+ghost use Rattle.std.specs.Prelude.{◌≡◌, ◌≢◌, ◌⊎◌, ◌↔◌, ℕ, List, Some, None, false, true, Err, IsTrue, IfOk, IfErr, OnOk, [], ◌∷◌, ◌<◌, length};
 ghost use Rattle.std.specs.Io.KnownBytes.{Appends, Consumes, IsAtEnd};
 ghost use Rattle.serde_json.specs.View.{view, members_view};
 ghost use Rattle.schemars_types.specs.Faults.{IsAccepted};
@@ -15,21 +13,10 @@ ghost use Rattle.schemagen_input.specs.Input.{is_table};
 ghost use Rattle.schemagen_input.specs.SampleInput.{sample_input, IsAsRead};
 ghost use Rattle.schemagen_run.specs.declared.words.Dialect.TheVariants.{OpenApi3};
 ghost use Rattle.schemagen_run.specs.Words.{AskForTypes, AskForSample, AreCommands};
-ghost use Rattle.schemagen_run.specs.Run.{GivesAll, IsTextOf, IsNoJson, IsBadTable, IsTableText};
-ghost use Rattle.schemagen_run.specs.Run.{IsAcceptedText, IsNotedText, IsFaultyTable, IsRefusal};
-ghost use Rattle.schemagen_run.specs.Run.{IsLineRefusal};
-ghost use Rattle.schemagen_run.specs.Run.{settings_for, settings_of_dialect, transforms_of_dialect};
-ghost use Rattle.schemagen_run.specs.Run.{fresh};
-ghost use Rattle.schemagen_run.specs.Run.{IsLineOf};
-ghost use Rattle.schemagen_run.specs.Run.{IsTableLine, IsUnplacedText};
-ghost use Rattle.schemagen_run.specs.Run.{AreTaken};
-ghost use Rattle.schemagen_run.specs.Run.{IsNotWhole, IsSampleText, IsSampleDocument};
-ghost use Rattle.schemagen_run.specs.Run.{IsExampleLine, IsSampleLineOf, IsSampleLine};
-ghost use Rattle.schemagen_run.specs.Run.{IsLineFor, IsUnplacedFor};
+ghost use Rattle.schemagen_run.specs.Run.{GivesAll, IsTextOf, IsNoJson, IsBadTable, IsTableText, IsAcceptedText, IsNotedText, IsFaultyTable, IsRefusal, IsLineRefusal, settings_for, settings_of_dialect, transforms_of_dialect, fresh, IsLineOf, IsTableLine, IsUnplacedText, AreTaken, IsNotWhole, IsSampleText, IsSampleDocument, IsExampleLine, IsSampleLineOf, IsSampleLine, IsLineFor, IsUnplacedFor};
 ghost use Rattle.schemagen_run.specs.Writing.{WritesLine};
 ghost use Rattle.schemagen_run.specs.Output.{IsOutputOf, IsFreshFor};
-ghost use Rattle.schemagen_run.specs.Fault.{IsValueFault, IsReadFault, IsTableFault, IsOutside};
-ghost use Rattle.schemagen_run.specs.Fault.{IsTypesFault, IsSampleFault, IsFault};
+ghost use Rattle.schemagen_run.specs.Fault.{IsValueFault, IsReadFault, IsTableFault, IsOutside, IsTypesFault, IsSampleFault, IsFault};
 
 use crate::fault::{
     BAD_TABLE, DEFINITIONS_PATH, Fault, NOT_JSON, NOT_WHOLE, OUT_OF_MEMORY, READ, WRITE,

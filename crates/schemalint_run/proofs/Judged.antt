@@ -1,6 +1,5 @@
 -- A text says one table at most, so a verdict on that table is one on the text.
-use Rattle.std.proofs.Common.{◌≡◌, ℕ, List, Option, Some, None, Bool, true, false, true≢false, IsTrue, option_and_then, refl, sym, ap}
-use Rattle.std.proofs.Common.{◌∙◌, subst}
+use Rattle.std.proofs.Common.{◌≡◌, ℕ, List, Option, Some, None, Bool, true, false, true≢false, IsTrue, option_and_then, refl, sym, ap, ◌∙◌, subst}
 use Rattle.std.specs.Prelude.{◌↔◌}
 use Rattle.serde_json.specs.Read.{read}
 use Rattle.schemars_types.specs.Rows.{Row}

@@ -8,8 +8,7 @@ use Rattle.schemars_types.specs.declared.contract.Contract.TheVariants.{Deserial
 use Rattle.schemars_documents.specs.PlainTable.{IsPlainTable, IsPlainUnder}
 use Rattle.schemagen_input.specs.Texts.{IsTableText, IsAcceptedText}
 use Rattle.schemalint_run.specs.declared.judging.Verdict.{Verdict}
-use Rattle.schemalint_run.specs.declared.judging.Verdict.TheVariants.{Refused, NotPlain, PlainUnderReading, PlainUnderWriting}
-use Rattle.schemalint_run.specs.declared.judging.Verdict.TheVariants.{PlainUnderBoth, Plain}
+use Rattle.schemalint_run.specs.declared.judging.Verdict.TheVariants.{Refused, NotPlain, PlainUnderReading, PlainUnderWriting, PlainUnderBoth, Plain}
 
 -- the JSON text of a table without faults that is plain
 abbrev pub IsPlainText : List ℕ → Type 0

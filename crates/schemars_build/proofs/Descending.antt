@@ -1,6 +1,5 @@
 -- How the recursion that makes documents goes down.
-use Rattle.std.proofs.Common.{◌≡◌, ◌<◌, ◌≤◌, ◌+◌, ◌*◌, ◌∙◌, ℕ, zero, suc, List, [], ◌∷◌, ◌++◌, length, Bool, true, false, Some}
-use Rattle.std.proofs.Common.{refl, ap, sym, subst, arith, Contains, inl, inr}
+use Rattle.std.proofs.Common.{◌≡◌, ◌<◌, ◌≤◌, ◌+◌, ◌*◌, ◌∙◌, ℕ, zero, suc, List, [], ◌∷◌, ◌++◌, length, Bool, true, false, Some, refl, ap, sym, subst, arith, Contains, inl, inr}
 use Rattle.std.specs.Prelude.{if◌then◌else◌, ◌||◌, ◌&&◌, not, nat_eq}
 use Rattle.std.specs.Option.{option_map_or}
 use Rattle.std.proofs.Math.Nat.{mul-le-mul_right}
@@ -16,8 +15,7 @@ use Rattle.schemars_build.specs.Work.{Plan, Work}
 use Rattle.schemars_documents.specs.Template.{Ask, part, members_of, content}
 use Rattle.schemars_documents.specs.Describes.{without_options}
 use Rattle.schemars_build.specs.Missing.{failing_below, missing, idle, depth_in_place, IsLower, IsAskedIn}
-use Rattle.schemars_build.specs.Left.{width, places, left_of_definition, left_of_part, left_of_own_document, left_of_filled}
-use Rattle.schemars_build.specs.Left.{left_of_members, left_of_content, left_of_asked}
+use Rattle.schemars_build.specs.Left.{width, places, left_of_definition, left_of_part, left_of_own_document, left_of_filled, left_of_members, left_of_content, left_of_asked}
 use Rattle.schemars_build.proofs.Counting.{failing-fewer, failing-less}
 use Rattle.schemars_meaning.proofs.Following.{closer}
 

@@ -1,6 +1,5 @@
 -- Elements of lists by their place.
-use Rattle.std.proofs.Common.{◌≡◌, ◌++◌, ◌∷◌, [], ◌∙◌, ◌||◌, ℕ, zero, suc, List, Bool, true, false, Some, inl, inr, refl, sym, ap}
-use Rattle.std.proofs.Common.{length, take, slice_get, true≢false}
+use Rattle.std.proofs.Common.{◌≡◌, ◌++◌, ◌∷◌, [], ◌∙◌, ◌||◌, ℕ, zero, suc, List, Bool, true, false, Some, inl, inr, refl, sym, ap, length, take, slice_get, true≢false}
 use Rattle.std.specs.Prelude.{◌⊎◌}
 use Rattle.std.specs.List.{list_any}
 use Rattle.std.proofs.lemmas.Bool.{or_parts}

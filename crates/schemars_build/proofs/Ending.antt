@@ -1,6 +1,5 @@
 -- How the list of documents that wait comes to an end.
-use Rattle.std.proofs.Common.{◌≡◌, ◌<◌, ◌≤◌, ◌+◌, ◌*◌, ◌∙◌, ◌^◌, ℕ, zero, suc, List, [], ◌∷◌, length, map, Bool, true, false}
-use Rattle.std.proofs.Common.{Some, None, refl, ap, sym, subst, arith, string_bytes, get_or, All}
+use Rattle.std.proofs.Common.{◌≡◌, ◌<◌, ◌≤◌, ◌+◌, ◌*◌, ◌∙◌, ◌^◌, ℕ, zero, suc, List, [], ◌∷◌, length, map, Bool, true, false, Some, None, refl, ap, sym, subst, arith, string_bytes, get_or, All}
 use Rattle.std.specs.Prelude.{if◌then◌else◌, nat_eq}
 use Rattle.std.proofs.lemmas.Bool.Decides.{nat_tests}
 use Rattle.std.specs.Option.{option_map_or}
@@ -18,13 +17,8 @@ use Rattle.schemars_documents.specs.View.{ask_of}
 use Rattle.schemars_documents.specs.OfShape.{entry_template}
 use Rattle.schemars_documents.specs.declared.template.Ask as src-ask
 use Rattle.schemars_build.specs.Missing.{missing, IsAskedIn}
-use Rattle.schemars_build.specs.Left.{left_of_own_document, left_of_part}
-use Rattle.schemars_build.specs.Left.{width, places, left_of_filled, left_of_asked}
-use Rattle.schemars_build.specs.Left.{asks_at, sum_below, breadth, document_rank, weight, unanswered_in, pending_around, left_waiting}
-use Rattle.schemars_build.specs.Left.{left_going}
-use Rattle.schemars_build.specs.Left.{left_of_reply, IsWithin, IsLess}
-use Rattle.schemars_build.specs.Making.{Wanted, IsBegun, IsTemplate, IsOpened}
-use Rattle.schemars_build.specs.Making.{IsInMaking, HasAnswered, IsRepliedBy, HasReplied, Reply, answer, document}
+use Rattle.schemars_build.specs.Left.{left_of_own_document, left_of_part, width, places, left_of_filled, left_of_asked, asks_at, sum_below, breadth, document_rank, weight, unanswered_in, pending_around, left_waiting, left_going, left_of_reply, IsWithin, IsLess}
+use Rattle.schemars_build.specs.Making.{Wanted, IsBegun, IsTemplate, IsOpened, IsInMaking, HasAnswered, IsRepliedBy, HasReplied, Reply, answer, document}
 use Rattle.schemars_build.specs.declared.build.Document.{Document}
 use Rattle.schemars_build.specs.declared.build.Purpose.{Purpose}
 use Rattle.schemars_build.specs.declared.build.Purpose.TheVariants as purpose

@@ -1,10 +1,8 @@
 -- What documents that are being made come to.
-use Rattle.std.proofs.Common.{◌≡◌, ◌≢◌, inl, inr, ◌<◌, ◌≤◌, ◌+◌, ℕ, List, [], ◌∷◌, ◌++◌, length, map, take, Bool, true, false, not}
-use Rattle.std.proofs.Common.{Option, Some, None, refl, ap, sym, ◌∙◌, subst, arith, string_bytes, All}
+use Rattle.std.proofs.Common.{◌≡◌, ◌≢◌, inl, inr, ◌<◌, ◌≤◌, ◌+◌, ℕ, List, [], ◌∷◌, ◌++◌, length, map, take, Bool, true, false, not, Option, Some, None, refl, ap, sym, ◌∙◌, subst, arith, string_bytes, All, get_or, reverse, slice_index_or, ◌-◌}
 use Rattle.std.specs.Prelude.{◌&&◌, ◌||◌, if◌then◌else◌, String}
 use Rattle.std.specs.declared.alloc.Global.{Global}
 use Rattle.std.specs.Str.{IsUtf8}
-use Rattle.std.proofs.Common.{get_or, reverse, slice_index_or, ◌-◌}
 use Rattle.std.proofs.lemmas.Option.{none-some}
 use Rattle.std.proofs.lemmas.List.{take_all, length-append, length-map, get_or-map}
 use Rattle.schemars_documents.specs.declared.template.Ask as src-ask
@@ -32,10 +30,7 @@ use Rattle.schemars_build.specs.Work.{Plan, Work, Step, GivesNames, undone, refe
 use Rattle.schemars_build.proofs.Given.{gives-keeps}
 use Rattle.schemars_build.specs.Reached.{AreReached}
 use Rattle.schemars_build.specs.Parts.{IsOwn, IsMade, IsPart, IsFilledIn, IsAnswer, AreAnswers}
-use Rattle.schemars_build.specs.Making.{Wanted, own, defined, flattened, asked, wanted_for, IsReply, IsBegun, IsTemplate}
-use Rattle.schemars_build.specs.Making.{IsTemplateAt, IsOpened, ComesFrom}
-use Rattle.schemars_build.specs.Making.{IsInMaking, HasAnswered, IsNext, AreWaiting, Reply, answer, document, IsRepliedBy, IsGivenBack}
-use Rattle.schemars_build.specs.Making.{HasReplied, GoesOn, IsTaken, AreMaking, HasFirst}
+use Rattle.schemars_build.specs.Making.{Wanted, own, defined, flattened, asked, wanted_for, IsReply, IsBegun, IsTemplate, IsTemplateAt, IsOpened, ComesFrom, IsInMaking, HasAnswered, IsNext, AreWaiting, Reply, answer, document, IsRepliedBy, IsGivenBack, HasReplied, GoesOn, IsTaken, AreMaking, HasFirst}
 use Rattle.schemars_build.specs.Left.{document_rank, left_waiting, left_of_reply, left_making, left_of_turn, IsWithin, IsLess}
 use Rattle.schemars_build.proofs.Ending.{answered_same, asking_less}
 use Rattle.schemars_build.proofs.Innermost.{last_got}
@@ -46,8 +41,7 @@ use Rattle.schemars_build.proofs.Building.{answers_more, own_of_filled, in_place
 use Rattle.schemars_build.proofs.Filling.{filled_in, members_answer}
 use Rattle.schemars_build.proofs.Placing.{left_pending, pending_grows}
 use Rattle.schemars_build.proofs.Reaching.{reached_defines, reached_by_name}
-use Rattle.schemars_build.proofs.Steps.{begun_with, finished_with, undone-begun, undone-finished, begun-contains, finished-found, step_refl}
-use Rattle.schemars_build.proofs.Steps.{step_trans, step_names, step_defines, step_entered}
+use Rattle.schemars_build.proofs.Steps.{begun_with, finished_with, undone-begun, undone-finished, begun-contains, finished-found, step_refl, step_trans, step_names, step_defines, step_entered}
 
 -- ---- what leads where
 

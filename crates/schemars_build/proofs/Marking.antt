@@ -1,6 +1,5 @@
 -- Whether a row is pending, by its mark.
-use Rattle.std.proofs.Common.{◌≡◌, ◌++◌, ◌∷◌, [], ◌∙◌, ℕ, List, Bool, true, false, Some, None, inl, inr, refl, sym, ap, subst}
-use Rattle.std.proofs.Common.{arith, length, slice_get, true≢false}
+use Rattle.std.proofs.Common.{◌≡◌, ◌++◌, ◌∷◌, [], ◌∙◌, ℕ, List, Bool, true, false, Some, None, inl, inr, refl, sym, ap, subst, arith, length, slice_get, true≢false}
 use Rattle.std.specs.Prelude.{◌⊎◌, nat_eq}
 use Rattle.std.proofs.lemmas.Bool.Decides.{nat_tests}
 use Rattle.std.proofs.lemmas.Option.{same_Some}

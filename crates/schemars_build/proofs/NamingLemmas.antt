@@ -1,8 +1,5 @@
 -- The names against the sets that hold them, and candidates: which differ, and that one of them is not used.
-use Rattle.std.proofs.Common.{◌≡◌, ◌<◌, ◌≤◌, ◌+◌, ◌^◌, ◌==◌, ◌&&◌, ◌||◌, ◌∙◌, ℕ, zero, suc, List, [], ◌∷◌, ◌++◌, Bool}
-use Rattle.std.proofs.Common.{true, false, cond, Some, None, String, string_bytes, option_map, find}
-use Rattle.std.proofs.Common.{length, take, map, refl, sym, ap, subst, arith, true≢false}
-use Rattle.std.proofs.Common.{length-append}
+use Rattle.std.proofs.Common.{◌≡◌, ◌<◌, ◌≤◌, ◌+◌, ◌^◌, ◌==◌, ◌&&◌, ◌||◌, ◌∙◌, ℕ, zero, suc, List, [], ◌∷◌, ◌++◌, Bool, true, false, cond, Some, None, String, string_bytes, option_map, find, length, take, map, refl, sym, ap, subst, arith, true≢false, length-append}
 use Rattle.std.specs.declared.alloc.Global.{Global}
 use Rattle.std.specs.Fmt.{decimal}
 use Rattle.std.specs.List.{AllByRecursion, IsDistinct, list_any}

@@ -1,7 +1,5 @@
 -- The name of a row, where a table says for each row and contract which name may be its own.
-use Rattle.std.proofs.Common.{◌≡◌, ◌++◌, ◌∷◌, [], ◌∙◌, ◌&&◌, ◌==◌, ℕ, zero, suc, List, Bool, true, false, Some, None, Option}
-use Rattle.std.proofs.Common.{refl, sym, ap, subst, arith, String, Global, string_bytes, length, take, slice_get, option_map, true≢false}
-use Rattle.std.proofs.Common.{inl, inr}
+use Rattle.std.proofs.Common.{◌≡◌, ◌++◌, ◌∷◌, [], ◌∙◌, ◌&&◌, ◌==◌, ℕ, zero, suc, List, Bool, true, false, Some, None, Option, refl, sym, ap, subst, arith, String, Global, string_bytes, length, take, slice_get, option_map, true≢false, inl, inr}
 use Rattle.std.specs.List.{list_any}
 use Rattle.std.specs.Prelude.{◌⊎◌}
 use Rattle.std.proofs.lemmas.Bool.Decides.{nat_tests}

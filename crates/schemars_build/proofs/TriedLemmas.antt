@@ -1,6 +1,5 @@
 -- How many candidates of a base are known to be used.
-use Rattle.std.proofs.Common.{◌≡◌, ◌<◌, ◌++◌, ◌∷◌, [], ◌∙◌, ◌||◌, ℕ, List, Bool, true, false, cond, Some, inl, inr, refl, sym, ap, arith}
-use Rattle.std.proofs.Common.{String, Global, string_bytes}
+use Rattle.std.proofs.Common.{◌≡◌, ◌<◌, ◌++◌, ◌∷◌, [], ◌∙◌, ◌||◌, ℕ, List, Bool, true, false, cond, Some, inl, inr, refl, sym, ap, arith, String, Global, string_bytes}
 use Rattle.std.specs.Prelude.{◌⊎◌, ◌+◌, nat_eq}
 use Rattle.std.proofs.Math.Bool.{or-true}
 use Rattle.std.proofs.lemmas.Bool.Decides.{nat_tests}

@@ -1,6 +1,5 @@
 -- Documents that are being made: what is wanted, how far they have come, and what waits for them.
-use Rattle.std.specs.Prelude.{◌≡◌, ◌<◌, ◌&&◌, ◌++◌, ◌+◌, ℕ, List, [], ◌∷◌, Bool, true, false, not, Option, Some, None, length, map, take}
-use Rattle.std.specs.Prelude.{string_bytes}
+use Rattle.std.specs.Prelude.{◌≡◌, ◌<◌, ◌&&◌, ◌++◌, ◌+◌, ℕ, List, [], ◌∷◌, Bool, true, false, not, Option, Some, None, length, map, take, string_bytes}
 use Rattle.serde_json.specs.Data.{Data, boolean, put}
 use Rattle.serde_json.specs.Find.{get_member}
 use Rattle.schemars_schema.specs.Json.{Text}

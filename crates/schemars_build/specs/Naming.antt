@@ -1,6 +1,5 @@
 -- Which rows have names: each name is that of one row under one contract.
-use Rattle.std.specs.Prelude.{◌≡◌, ◌≤◌, ◌<◌, ◌+◌, ◌&&◌, ◌==◌, ℕ, zero, suc, List, ◌++◌, length, find, Bool, true, false}
-use Rattle.std.specs.Prelude.{Option, Some, option_map, bytes_eq}
+use Rattle.std.specs.Prelude.{◌≡◌, ◌≤◌, ◌<◌, ◌+◌, ◌&&◌, ◌==◌, ℕ, zero, suc, List, ◌++◌, length, find, Bool, true, false, Option, Some, option_map, bytes_eq}
 use Rattle.std.specs.List.{list_any}
 use Rattle.std.specs.Fmt.{decimal}
 use Rattle.schemars_schema.specs.Json.{Text}

@@ -1,6 +1,5 @@
 -- The names as the program holds them: the owners, beside them their names, and what is noted to find them by.
-use Rattle.std.specs.Prelude.{◌≡◌, ◌<◌, ◌^◌, ◌⊎◌, ℕ, List, [], ◌∷◌, String, string_bytes, Option, Some, true, length}
-use Rattle.std.specs.Prelude.{slice_get, option_and_then}
+use Rattle.std.specs.Prelude.{◌≡◌, ◌<◌, ◌^◌, ◌⊎◌, ℕ, List, [], ◌∷◌, String, string_bytes, Option, Some, true, length, slice_get, option_and_then}
 use Rattle.std.specs.HashMap.{HashMap, get_by_text}
 use Rattle.std.specs.declared.alloc.Global.{Global}
 use Rattle.schemars_schema.specs.Json.{Text}

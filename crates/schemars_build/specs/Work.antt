@@ -1,6 +1,5 @@
 -- What documents are made into: names for rows, and definitions under these names.
-use Rattle.std.specs.Prelude.{◌≡◌, ◌≢◌, ◌<◌, length, ◌⊎◌, ◌++◌, ◌||◌, ◌-◌, ℕ, List, [], ◌∷◌, take, Bool, true, false, Option}
-use Rattle.std.specs.Prelude.{Some, None, codes, Contains}
+use Rattle.std.specs.Prelude.{◌≡◌, ◌≢◌, ◌<◌, length, ◌⊎◌, ◌++◌, ◌||◌, ◌-◌, ℕ, List, [], ◌∷◌, take, Bool, true, false, Option, Some, None, codes, Contains}
 use Rattle.std.specs.Str.{IsUtf8}
 use Rattle.serde_json.specs.Data.{Data, Members}
 use Rattle.serde_json.specs.Find.{get_member}

@@ -11,12 +11,8 @@ ghost use Rattle.schemars_documents.specs.Template as spec;
 ghost use Rattle.schemars_documents.specs.View.{ask_of};
 ghost use Rattle.schemars_build.specs.Missing.{row_asked};
 ghost use Rattle.schemars_build.specs.Parts.{IsAnswer, IsOwn};
-ghost use Rattle.schemars_build.specs.Making.{Wanted, own, asked, wanted, row_wanted, IsReply};
-ghost use Rattle.schemars_build.specs.Making.{IsTemplate, IsTemplateAt, IsOpened, IsInMaking};
-ghost use Rattle.schemars_build.specs.Making.{document, IsGivenBack, HasReplied, GoesOn, IsTaken};
-ghost use Rattle.schemars_build.specs.Making.{HasFirst, AreMaking};
-ghost use Rattle.schemars_build.specs.Left.{left_of_asked, left_of_own_document, left_of_part};
-ghost use Rattle.schemars_build.specs.Left.{left_making, left_of_turn, IsWithin, IsLess};
+ghost use Rattle.schemars_build.specs.Making.{Wanted, own, asked, wanted, row_wanted, IsReply, IsTemplate, IsTemplateAt, IsOpened, IsInMaking, document, IsGivenBack, HasReplied, GoesOn, IsTaken, HasFirst, AreMaking};
+ghost use Rattle.schemars_build.specs.Left.{left_of_asked, left_of_own_document, left_of_part, left_making, left_of_turn, IsWithin, IsLess};
 ghost use Rattle.schemars_build.specs.declared.build.Document as src;
 
 use crate::work::Work;

@@ -1,6 +1,5 @@
 //! The rows whose documents are being made.
-ghost use Rattle.std.specs.Prelude.{ℕ, ◌≡◌, ◌<◌, [], not, length, Some, IfOk, OnOk, OnErr, nat_eq};
-ghost use Rattle.std.specs.Prelude.{slice_get};
+ghost use Rattle.std.specs.Prelude.{ℕ, ◌≡◌, ◌<◌, [], not, length, Some, IfOk, OnOk, OnErr, nat_eq, slice_get};
 ghost use Rattle.indexmap.specs.IndexSet.{insert_key};
 ghost use Rattle.schemars_build.specs.Placed.{is_pending};
 ghost use Rattle.schemars_build.specs.Work.{without_last};

@@ -1,8 +1,5 @@
 //! What documents are made into.
-ghost use Rattle.std.specs.Prelude.{ℕ, List, true, false, map, ◌≡◌, ◌∷◌, ◌++◌, ◌||◌, [], None};
-ghost use Rattle.std.specs.Prelude.{Some, length};
-ghost use Rattle.std.specs.Prelude.{IfOk, OnOk, OnErr, is_some, string_bytes, not, ◌&&◌};
-ghost use Rattle.std.specs.Prelude.{if◌then◌else◌};
+ghost use Rattle.std.specs.Prelude.{ℕ, List, true, false, map, ◌≡◌, ◌∷◌, ◌++◌, ◌||◌, [], None, Some, length, IfOk, OnOk, OnErr, is_some, string_bytes, not, ◌&&◌, if◌then◌else◌};
 ghost use Rattle.serde_json.specs.Data.{boolean, put, no_members};
 ghost use Rattle.serde_json.specs.Find.{get_member, as_object};
 ghost use Rattle.serde_json.specs.View.{members_view};

@@ -1,17 +1,14 @@
 -- Null can be added to a plain literal.
-use Rattle.std.proofs.Common.{◌≡◌, ℕ, inl, inr, List, [], ◌∷◌, Option, Some, None, Bool, true, false, refl, sym, ap}
-use Rattle.std.proofs.Common.{◌∙◌, true≢false}
+use Rattle.std.proofs.Common.{◌≡◌, ℕ, inl, inr, List, [], ◌∷◌, Option, Some, None, Bool, true, false, refl, sym, ap, ◌∙◌, true≢false}
 use Rattle.std.specs.Prelude.{codes, bytes_eq, ◌||◌, ◌&&◌, if◌then◌else◌, is_some, option_and_then, option_map}
 use Rattle.std.proofs.lemmas.Slice.Eq.{bytes_eq-Decides}
 use Rattle.std.proofs.lemmas.Bool.{and_parts}
-use Rattle.serde_json.specs.Data.{Data, boolean, string, array, object, Items, no_items, item, Members}
-use Rattle.serde_json.specs.Data.{no_members, member}
+use Rattle.serde_json.specs.Data.{Data, boolean, string, array, object, Items, no_items, item, Members, no_members, member}
 use Rattle.serde_json.specs.Find.{get_member, as_str}
 use Rattle.schemars_schema.specs.Json.{Text}
 use Rattle.schemars_text.specs.OrderedText.{is_listed}
 use Rattle.schemars_schema.specs.Verdict.{verdict}
-use Rattle.schemars_schema.specs.Acceptance.{Dialect, Patterns, accepts, context, follow, is_null, types_in, texts_in}
-use Rattle.schemars_schema.specs.Acceptance.{are_type_names, type_names, when}
+use Rattle.schemars_schema.specs.Acceptance.{Dialect, Patterns, accepts, context, follow, is_null, types_in, texts_in, are_type_names, type_names, when}
 use Rattle.schemars_schema.specs.Edits.{without}
 use Rattle.schemars_schema.specs.Literal.{ArePlainMembers, IsPlainLiteral, has_literal}
 use Rattle.schemars_schema.proofs.Literals.{plain_at, plain_absent, literal_judged}

@@ -1,14 +1,10 @@
 -- What an object says of null and of other values once null is allowed.
-use Rattle.std.proofs.Common.{◌≡◌, ◌⊎◌, inl, inr, List, ◌∷◌, Option, Some, None, Bool, true, false, refl, sym}
-use Rattle.std.proofs.Common.{ap, ◌∙◌, subst, true≢false}
+use Rattle.std.proofs.Common.{◌≡◌, ◌⊎◌, inl, inr, List, ◌∷◌, Option, Some, None, Bool, true, false, refl, sym, ap, ◌∙◌, subst, true≢false, arith, suc, Ordering, Less, Equal, Greater, nat_cmp, is_eq}
 use Rattle.std.specs.Prelude.{codes, bytes_eq, ◌||◌, ◌&&◌, if◌then◌else◌, is_some, not, length, map, option_map}
-use Rattle.serde_json.specs.Data.{Data, null, boolean, number, string, array, object, Items, no_items, item, Members}
-use Rattle.serde_json.specs.Data.{no_members, member, put}
+use Rattle.serde_json.specs.Data.{Data, null, boolean, number, string, array, object, Items, no_items, item, Members, no_members, member, put}
 use Rattle.serde_json.specs.Find.{get_member}
-use Rattle.std.proofs.Common.{arith, suc}
 use Rattle.std.specs.Cmp.Lexicographic.{slice_cmp}
 use Rattle.std.specs.Ordering.{match_ordering}
-use Rattle.std.proofs.Common.{Ordering, Less, Equal, Greater, nat_cmp, is_eq}
 use Rattle.std.proofs.lemmas.Bool.{eqb-true, and_parts, or_parts}
 use Rattle.std.proofs.lemmas.Map.Text.{is_eq-slice_cmp}
 use Rattle.serde_json.specs.Events.{members_len}
@@ -19,21 +15,15 @@ use Rattle.std.proofs.lemmas.Option.{same_Some}
 use Rattle.schemars_schema.specs.Verdict.{Verdict, Yes, No, Open, both, verdict, opposite, none_of, any_of}
 use Rattle.schemars_schema.specs.Json.{Text, json_eq, alike}
 use Rattle.schemars_schema.specs.SchemaData.{IsSchema}
-use Rattle.schemars_schema.specs.Acceptance.{Dialect, Patterns, Judge, Context, Raw, Reading, judge, read_data, read_items}
-use Rattle.schemars_schema.specs.Acceptance.{all_keywords, where_some, type_says, items_say, past_say, each_says, not_says}
-use Rattle.schemars_schema.specs.Acceptance.{unevaluated_properties_say, is_reference, reference_alone, both_some, nothing, is_null}
+use Rattle.schemars_schema.specs.Acceptance.{Dialect, Patterns, Judge, Context, Raw, Reading, judge, read_data, read_items, all_keywords, where_some, type_says, items_say, past_say, each_says, not_says, unevaluated_properties_say, is_reference, reference_alone, both_some, nothing, is_null}
 use Rattle.schemars_schema.specs.Edits.{without}
 use Rattle.schemars_schema.proofs.Verdicts.{both-yes, either-verdict}
 use Rattle.schemars_schema.proofs.Objects.{schema-judge, judge-object, says, says-agree}
 use Rattle.schemars_schema.proofs.Members.{get_member-without, without-put}
 use Rattle.schemars_schema.proofs.Silent.{items_none, unevaluated_none, silent}
-use Rattle.schemars_builders.specs.AllowNull.{null_schema, is_combined, is_null_choice, offers_null, type_with_null}
-use Rattle.schemars_builders.specs.AllowNull.{null_in_type, enum_with_null, null_in_enum, const_or_null, null_in_const}
-use Rattle.schemars_builders.specs.AllowNull.{null_in_values, or_null, allow_null}
-use Rattle.schemars_builders.specs.NullLaw.{IsDraft, context_of, HasTypeForm, zero_schema, AcceptsNull, SomeAcceptsNull}
-use Rattle.schemars_builders.specs.NullLaw.{OffersNull, IsChoice, HasPlainValues, IsPlain, IsNullable}
-use Rattle.schemars_builders.proofs.NullKeywords.{const_null, const_plus, enum_plus, type_null}
-use Rattle.schemars_builders.proofs.NullKeywords.{type_other, type_plus, values_null, values_other, values_plus}
+use Rattle.schemars_builders.specs.AllowNull.{null_schema, is_combined, is_null_choice, offers_null, type_with_null, null_in_type, enum_with_null, null_in_enum, const_or_null, null_in_const, null_in_values, or_null, allow_null}
+use Rattle.schemars_builders.specs.NullLaw.{IsDraft, context_of, HasTypeForm, zero_schema, AcceptsNull, SomeAcceptsNull, OffersNull, IsChoice, HasPlainValues, IsPlain, IsNullable}
+use Rattle.schemars_builders.proofs.NullKeywords.{const_null, const_plus, enum_plus, type_null, type_other, type_plus, values_null, values_other, values_plus}
 
 -- ---- an object that is not combined
 

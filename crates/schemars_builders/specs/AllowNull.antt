@@ -1,8 +1,6 @@
 -- A schema that accepts null too.
-use Rattle.std.specs.Prelude.{◌&&◌, ◌||◌, [], ◌∷◌, Bool, true, false, Option, Some, None, is_some}
-use Rattle.std.specs.Prelude.{option_and_then, if◌then◌else◌, codes, bytes_eq}
-use Rattle.serde_json.specs.Data.{Data, null, boolean, number, string, array, object, Items, no_items, item, Members}
-use Rattle.serde_json.specs.Data.{no_members, member, put}
+use Rattle.std.specs.Prelude.{◌&&◌, ◌||◌, [], ◌∷◌, Bool, true, false, Option, Some, None, is_some, option_and_then, if◌then◌else◌, codes, bytes_eq}
+use Rattle.serde_json.specs.Data.{Data, null, boolean, number, string, array, object, Items, no_items, item, Members, no_members, member, put}
 use Rattle.serde_json.specs.Find.{get, get_member, as_str}
 use Rattle.schemars_schema.specs.SchemaData.{object_of}
 use Rattle.schemars_schema.specs.Edits.{without, is_text, holds_text, has_one_member, with_item}

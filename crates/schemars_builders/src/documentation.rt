@@ -1,7 +1,6 @@
 //! Titles and descriptions in documentation.
 ghost use Rattle.std.specs.Prelude.{◌≡◌};
-ghost use Rattle.schemars_builders.specs.Documentation.{trimmed, without_marks};
-ghost use Rattle.schemars_builders.specs.Documentation.{title_in, description_in};
+ghost use Rattle.schemars_builders.specs.Documentation.{trimmed, without_marks, title_in, description_in};
 
 /// Splits a documentation text into a title and a description.
 ///

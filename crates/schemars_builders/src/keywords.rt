@@ -3,8 +3,7 @@ ghost use Rattle.std.specs.Prelude.{◌≡◌, Some, OnOk, OnErr, codes};
 ghost use Rattle.serde_json.specs.Data.{string};
 ghost use Rattle.serde_json.specs.View.{view};
 ghost use Rattle.schemars_schema.specs.SchemaData.{inserted};
-ghost use Rattle.schemars_builders.specs.Keywords.{with_metadata, with_validation};
-ghost use Rattle.schemars_builders.specs.Keywords.{names_type, includes_type, validates};
+ghost use Rattle.schemars_builders.specs.Keywords.{with_metadata, with_validation, names_type, includes_type, validates};
 ghost use Rattle.schemars_builders.specs.Pattern.{escaped};
 
 use crate::pattern::escape;

@@ -1,6 +1,5 @@
 -- Numbers stand for words that are known, and the number of a fault tells the fault.
-use Rattle.std.proofs.Common.{◌≡◌, ◌≢◌, ◌⊎◌, inl, inr, refl, sym, ap, ◌∙◌, zero, suc, ℕ, List, Bool, true, false}
-use Rattle.std.proofs.Common.{nat_lt, true≢false, map, String, Global, string_bytes}
+use Rattle.std.proofs.Common.{◌≡◌, ◌≢◌, ◌⊎◌, inl, inr, refl, sym, ap, ◌∙◌, zero, suc, ℕ, List, Bool, true, false, nat_lt, true≢false, map, String, Global, string_bytes}
 use Rattle.schemars_types.specs.declared.contract.Contract.{Contract}
 use Rattle.schemars_types.specs.declared.contract.Contract.TheVariants.{Deserialize, Serialize}
 use Rattle.schemagen_run.specs.declared.fault.Fault.{Fault}
@@ -8,8 +7,7 @@ use Rattle.schemagen_run.specs.declared.fault.Fault.TheVariants.{Usage, Refused}
 use Rattle.schemagen_run.specs.declared.fault.TheConstants.{DEFINITIONS_PATH, READ}
 use Rattle.schemagen_run.specs.Fault.{IsFault, IsReadFault, IsLineFault, IsTableFault, IsOutside}
 use Rattle.schemagen_run.specs.Words.{IsDialect, AreFlagsFor, AskForTypes, AskForSample}
-use Rattle.schemagen_run.proofs.Asking.{names_2020_12, names_2019_09, names_draft_07, names_openapi3}
-use Rattle.schemagen_run.proofs.Asking.{ask_for_types, ask_for_sample}
+use Rattle.schemagen_run.proofs.Asking.{names_2020_12, names_2019_09, names_draft_07, names_openapi3, ask_for_types, ask_for_sample}
 use Rattle.schemars_c.specs.declared.handing.TheConstants.{USAGE}
 use Rattle.schemars_c.specs.Exports.{dialect_word, flag_words, table_words, example_words, fault_number, WantsMemory}
 

@@ -11,8 +11,7 @@ use Rattle.schemalint_run.specs.declared.judging.Verdict.{Verdict}
 use Rattle.schemalint_run.specs.declared.judging.Verdict.TheVariants as verdicts
 use Rattle.schemalint_run.specs.Lint.{AreLines, verdict_line}
 use Rattle.schemars_c.specs.declared.handing.TheConstants.{DONE, USAGE, NO_ROOM}
-use Rattle.schemars_c.specs.declared.lints.TheConstants.{REFUSED, NOT_PLAIN, PLAIN}
-use Rattle.schemars_c.specs.declared.lints.TheConstants.{PLAIN_UNDER_READING, PLAIN_UNDER_WRITING, PLAIN_UNDER_BOTH}
+use Rattle.schemars_c.specs.declared.lints.TheConstants.{REFUSED, NOT_PLAIN, PLAIN, PLAIN_UNDER_READING, PLAIN_UNDER_WRITING, PLAIN_UNDER_BOTH}
 
 -- ---- words for numbers
 

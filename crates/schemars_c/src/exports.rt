@@ -1,13 +1,8 @@
 //! What C calls for documents.
-ghost use Rattle.std.specs.Prelude.{◌≡◌, ◌≢◌, ◌⊎◌, ◌↔◌, ◌<◌, ◌≤◌, ℕ, List, Err, IfOk, IfErr};
-ghost use Rattle.std.specs.Prelude.{OnOk};
-ghost use Rattle.schemagen_run.specs.Run.{IsNoJson, IsBadTable, IsFaultyTable, IsNotWhole};
-ghost use Rattle.schemagen_run.specs.Run.{IsAcceptedText, IsNotedText, IsSampleText};
+ghost use Rattle.std.specs.Prelude.{◌≡◌, ◌≢◌, ◌⊎◌, ◌↔◌, ◌<◌, ◌≤◌, ℕ, List, Err, IfOk, IfErr, OnOk};
+ghost use Rattle.schemagen_run.specs.Run.{IsNoJson, IsBadTable, IsFaultyTable, IsNotWhole, IsAcceptedText, IsNotedText, IsSampleText};
 ghost use Rattle.schemagen_run.specs.Fault.{IsTableFault};
-ghost use Rattle.schemars_c.specs.Exports.{table_words, example_words, IsProgramLine};
-ghost use Rattle.schemars_c.specs.Exports.{IsUnplacedTable, Fills, LacksRoom, LeavesAll};
-ghost use Rattle.schemars_c.specs.Exports.{IsHandedOut, WantsMemory, IsTypesRefusal};
-ghost use Rattle.schemars_c.specs.Exports.{IsSampleRefusal, fault_number};
+ghost use Rattle.schemars_c.specs.Exports.{table_words, example_words, IsProgramLine, IsUnplacedTable, Fills, LacksRoom, LeavesAll, IsHandedOut, WantsMemory, IsTypesRefusal, IsSampleRefusal, fault_number};
 
 use crate::handing::{DONE, NO_ROOM, USAGE, hand_out};
 use crate::memory::answer;

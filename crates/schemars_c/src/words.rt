@@ -1,6 +1,5 @@
 //! The words for numbers.
-ghost use Rattle.std.specs.Prelude.{◌≡◌, ◌⊎◌, ◌<◌, ◌≤◌, ◌∷◌, ◌++◌, [], map, string_bytes};
-ghost use Rattle.std.specs.Prelude.{IfOk, IfErr, OnOk, MatchOption};
+ghost use Rattle.std.specs.Prelude.{◌≡◌, ◌⊎◌, ◌<◌, ◌≤◌, ◌∷◌, ◌++◌, [], map, string_bytes, IfOk, IfErr, OnOk, MatchOption};
 ghost use Rattle.schemars_c.specs.Exports.{dialect_word, flag_words, table_words, example_words};
 
 use schemagen_run::fault::{Fault, OUT_OF_MEMORY};

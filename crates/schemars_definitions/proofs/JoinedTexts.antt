@@ -1,6 +1,5 @@
 -- The text of an object that definitions are put into: that of the object, and of one more member at its end.
-use Rattle.std.proofs.Common.{◌≡◌, ◌<◌, ◌-◌, ℕ, List, [], ◌∷◌, ◌++◌, length, get_or, take, Bool, true, false, not, ◌||◌, Option, Some, None}
-use Rattle.std.proofs.Common.{Ordering, Less, Equal, Greater, nat_cmp, refl, sym, ap, ◌∙◌, append_assoc, append-nil, length-append, arith}
+use Rattle.std.proofs.Common.{◌≡◌, ◌<◌, ◌-◌, ℕ, List, [], ◌∷◌, ◌++◌, length, get_or, take, Bool, true, false, not, ◌||◌, Option, Some, None, Ordering, Less, Equal, Greater, nat_cmp, refl, sym, ap, ◌∙◌, append_assoc, append-nil, length-append, arith}
 use Rattle.std.proofs.Math.Seq.{get_or-append_seam, take-append_seam}
 use Rattle.std.proofs.lemmas.Bool.{or_parts}
 use Rattle.std.proofs.lemmas.Map.Lookups.{exact_bytes}
@@ -14,8 +13,7 @@ use Rattle.serde_json.specs.Written.{comma_if}
 use Rattle.serde_json.specs.View.{members_view}
 use Rattle.serde_json.proofs.Views.{Entry, get_member-put, get_member-put_other}
 use Rattle.schemars_text.specs.Text.{Text}
-use Rattle.schemars_text.specs.OrderedText.{SchemaLayout, NamedSchemas, Written, written_at, each_written_at, others, arranged, texts}
-use Rattle.schemars_text.specs.OrderedText.{with_commas, text_in, member_texts, ordered_text, is_listed, first_keywords, last_keywords}
+use Rattle.schemars_text.specs.OrderedText.{SchemaLayout, NamedSchemas, Written, written_at, each_written_at, others, arranged, texts, with_commas, text_in, member_texts, ordered_text, is_listed, first_keywords, last_keywords}
 use Rattle.schemars_text.proofs.Members.{differ, flipped, bytes_eq_comm}
 use Rattle.schemars_text.proofs.OrderedTexts.{written_member, written_at-found, written_at-missing}
 use Rattle.schemars_schema.specs.SchemaData.{members_in}

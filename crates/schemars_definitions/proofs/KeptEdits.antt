@@ -1,6 +1,5 @@
 -- Edits of what is kept, and of the definitions that it stands for.
-use Rattle.std.proofs.Common.{◌≡◌, Bool, true, false, Option, Some, None, Ordering, Less, Equal, Greater, nat_cmp, refl, ap, ◌∙◌}
-use Rattle.std.proofs.Common.{is_some, option_map}
+use Rattle.std.proofs.Common.{◌≡◌, Bool, true, false, Option, Some, None, Ordering, Less, Equal, Greater, nat_cmp, refl, ap, ◌∙◌, is_some, option_map}
 use Rattle.std.specs.Prelude.{bytes_eq, if◌then◌else◌, unwrap_or}
 use Rattle.std.specs.Ordering.{match_ordering}
 use Rattle.std.specs.Cmp.Lexicographic.{slice_cmp}

@@ -1,6 +1,5 @@
 -- Members of maps have each key once.
-use Rattle.std.proofs.Common.{◌≡◌, List, [], ◌∷◌, None, Less, nat_cmp, refl, ap, ◌∙◌, string_cmp, String, Global}
-use Rattle.std.proofs.Common.{string_bytes, option_map}
+use Rattle.std.proofs.Common.{◌≡◌, List, [], ◌∷◌, None, Less, nat_cmp, refl, ap, ◌∙◌, string_cmp, String, Global, string_bytes, option_map}
 use Rattle.std.specs.Cmp.Lexicographic.{slice_cmp}
 use Rattle.std.specs.List.{AllByRecursion}
 use Rattle.std.specs.List.Sorted.{IsStrictlySortedBy}

@@ -5,9 +5,7 @@ use Rattle.json.specs.Print.{quoted}
 use Rattle.serde_json.specs.Data.{Data, null, boolean, number, string, array, object, Items, no_items, item, Members, no_members, member}
 use Rattle.serde_json.specs.Written.{compact_text, items_text, members_text, comma_if}
 use Rattle.schemars_text.specs.Text.{Text}
-use Rattle.schemars_text.specs.OrderedText.{Layout, PlainJson, SchemaLayout, NamedSchemas, layout_under, layout_inside, first_keywords}
-use Rattle.schemars_text.specs.OrderedText.{last_keywords, is_listed, Written, written_at, each_written_at, arranged, texts}
-use Rattle.schemars_text.specs.OrderedText.{with_commas, text_in, item_texts, member_texts}
+use Rattle.schemars_text.specs.OrderedText.{Layout, PlainJson, SchemaLayout, NamedSchemas, layout_under, layout_inside, first_keywords, last_keywords, is_listed, Written, written_at, each_written_at, arranged, texts, with_commas, text_in, item_texts, member_texts}
 
 -- ---- members in the order in which they are written
 

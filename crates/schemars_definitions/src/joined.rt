@@ -4,12 +4,10 @@ ghost use Rattle.json.specs.Print.{quoted};
 ghost use Rattle.serde_json.specs.Data.{object, put};
 ghost use Rattle.serde_json.specs.View.{view, members_view};
 ghost use Rattle.serde_json.specs.Written.{comma_if, has_float, members_have_float};
-ghost use Rattle.schemars_text.specs.OrderedText.{NamedSchemas, ordered_text, texts};
-ghost use Rattle.schemars_text.specs.OrderedText.{with_commas, member_texts};
+ghost use Rattle.schemars_text.specs.OrderedText.{NamedSchemas, ordered_text, texts, with_commas, member_texts};
 ghost use Rattle.schemars_schema.specs.SchemaData.{members_in};
 ghost use Rattle.schemars_definitions.specs.Joined.{HasNoDefinitions, has_members};
-ghost use Rattle.schemars_definitions.specs.Kept.{IsOrdered, AreOrdered};
-ghost use Rattle.schemars_definitions.specs.Kept.{definition_in, definitions_in};
+ghost use Rattle.schemars_definitions.specs.Kept.{IsOrdered, AreOrdered, definition_in, definitions_in};
 
 use schemars_schema::Schema;
 use serde_json::{Map, Value};

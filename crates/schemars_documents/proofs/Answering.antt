@@ -1,6 +1,5 @@
 -- A template with the keywords of answers put in: what it asks, and how it is filled.
-use Rattle.std.proofs.Common.{rules, Box, Vec, Global, ◌≡◌, List, [], ◌∷◌, ◌++◌, map, refl, sym, ap, ◌∙◌}
-use Rattle.std.proofs.Common.{append-nil, append_assoc}
+use Rattle.std.proofs.Common.{rules, Box, Vec, Global, ◌≡◌, List, [], ◌∷◌, ◌++◌, map, refl, sym, ap, ◌∙◌, append-nil, append_assoc}
 use Rattle.serde_json.specs.Data.{Data}
 use Rattle.schemars_shapes.specs.Shape.{Flattened}
 use Rattle.schemars_types.specs.declared.contract.Contract.{Contract}

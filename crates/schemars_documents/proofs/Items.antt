@@ -1,6 +1,5 @@
 -- The items so far, with one more, and at the end.
-use Rattle.std.proofs.Common.{◌≡◌, ◌<◌, ◌≤◌, ◌+◌, ◌∙◌, ℕ, List, [], ◌∷◌, ◌++◌, length, map, drop, get_or}
-use Rattle.std.proofs.Common.{sym, ap, append_assoc, append-nil}
+use Rattle.std.proofs.Common.{◌≡◌, ◌<◌, ◌≤◌, ◌+◌, ◌∙◌, ℕ, List, [], ◌∷◌, ◌++◌, length, map, drop, get_or, sym, ap, append_assoc, append-nil}
 use Rattle.std.proofs.lemmas.List.{map-append, at_drop_more, at_drop_all}
 
 pub one_more : {A B X Y : Type 0} (view : A → B) (F : Y → B) (g : X → Y) (items new : List A) (a : A) (x : X) (xs : List X) (i : ℕ)

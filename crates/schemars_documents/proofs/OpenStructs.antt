@@ -1,7 +1,6 @@
 -- In a plain table only structs that must be present are flattened: no row has another meaning, and the table is plain under each
 -- contract.
-use Rattle.std.proofs.Common.{◌≡◌, ℕ, zero, suc, List, [], ◌∷◌, ◌++◌, map, Option, Some, None, Bool, false, refl, sym, ap, ◌∙◌}
-use Rattle.std.proofs.Common.{subst, true≢false, length}
+use Rattle.std.proofs.Common.{◌≡◌, ℕ, zero, suc, List, [], ◌∷◌, ◌++◌, map, Option, Some, None, Bool, false, refl, sym, ap, ◌∙◌, subst, true≢false, length}
 use Rattle.std.proofs.Math.Path.{fun_ext}
 use Rattle.std.specs.Prelude.{if◌then◌else◌, is_some, option_and_then, ◌&&◌, ◌||◌, not, ◌+◌, ◌*◌}
 use Rattle.std.specs.List.{list_any}
@@ -10,23 +9,15 @@ use Rattle.serde_json.specs.Data.{Data, Members, depth}
 use Rattle.schemars_schema.specs.Json.{Text}
 use Rattle.schemars_schema.specs.Acceptance.{Patterns}
 use Rattle.schemars_shapes.specs.Shape as shape
-use Rattle.schemars_shapes.specs.Shape.{Shape, Field, Flattened, Fields, Entry, Payload, Variant, option_of}
-use Rattle.schemars_shapes.specs.Shape.{no_payload, newtype_payload, tuple_payload, struct_payload}
+use Rattle.schemars_shapes.specs.Shape.{Shape, Field, Flattened, Fields, Entry, Payload, Variant, option_of, no_payload, newtype_payload, tuple_payload, struct_payload}
 use Rattle.schemars_types.specs.KeyOptions.{KeyOptions, key_options}
 use Rattle.schemars_types.specs.Rows.{Row, entry_at}
 use Rattle.schemars_types.specs.Edges.{option_at}
-use Rattle.schemars_types.specs.Effective.{without_options_within, without_options, flattened_fields, weakened, part_fields, shape_fields}
-use Rattle.schemars_types.specs.Effective.{fields_within, row_fields, flattened_enums, shape_enums, enums_within, part_enums, enum_at}
-use Rattle.schemars_types.specs.Effective.{spread_fields, spread_payload, spread_variant, spread_in}
+use Rattle.schemars_types.specs.Effective.{without_options_within, without_options, flattened_fields, weakened, part_fields, shape_fields, fields_within, row_fields, flattened_enums, shape_enums, enums_within, part_enums, enum_at, spread_fields, spread_payload, spread_variant, spread_in}
 use Rattle.schemars_types.specs.declared.contract.Contract.{Contract}
-use Rattle.schemars_types.specs.Meaning.{Choice, is_required, has_payload, has_variant, has_internal, has_adjacent, has_shape}
-use Rattle.schemars_types.specs.Meaning.{belongs_within, choices_within, belongs}
-use Rattle.schemars_types.specs.OpenStructs.{joined_fields, joined_payload, joined_variant, joined_shape, struct_fields_within, joined_in}
-use Rattle.schemars_types.specs.OpenStructs.{no_choices, belongs_plainly_within, belongs_plainly}
-use Rattle.schemars_documents.specs.PlainTable.{IsTagged, AreTagged, IsPlainShape, IsOpenStruct, IsPlainPart}
-use Rattle.schemars_documents.specs.PlainTable.{ArePlainParts, IsPlainEntry, IsPlainTable, parts_in, payload_parts, variant_parts}
-use Rattle.schemars_documents.specs.PlainTable.{PayloadHasNamesApart, VariantsHaveNamesApart, ShapeHasNamesApart, enum_names_at}
-use Rattle.schemars_documents.specs.PlainTable.{may_miss, IsPartShape, IsPartEntry, IsPartUnder, ArePartsUnder, IsEntryUnder, IsPlainUnder}
+use Rattle.schemars_types.specs.Meaning.{Choice, is_required, has_payload, has_variant, has_internal, has_adjacent, has_shape, belongs_within, choices_within, belongs}
+use Rattle.schemars_types.specs.OpenStructs.{joined_fields, joined_payload, joined_variant, joined_shape, struct_fields_within, joined_in, no_choices, belongs_plainly_within, belongs_plainly}
+use Rattle.schemars_documents.specs.PlainTable.{IsTagged, AreTagged, IsPlainShape, IsOpenStruct, IsPlainPart, ArePlainParts, IsPlainEntry, IsPlainTable, parts_in, payload_parts, variant_parts, PayloadHasNamesApart, VariantsHaveNamesApart, ShapeHasNamesApart, enum_names_at, may_miss, IsPartShape, IsPartEntry, IsPartUnder, ArePartsUnder, IsEntryUnder, IsPlainUnder}
 
 -- ---- what is flattened stands for itself
 

@@ -1,27 +1,20 @@
 -- The document of each shape, as a template.
-use Rattle.std.specs.Prelude.{ℕ, zero, suc, List, [], ◌∷◌, ◌++◌, length, map, filter, Bool, true, false, not, Option}
-use Rattle.std.specs.Prelude.{Some, None}
-use Rattle.std.specs.Prelude.{if◌then◌else◌, codes, bytes_eq}
+use Rattle.std.specs.Prelude.{ℕ, zero, suc, List, [], ◌∷◌, ◌++◌, length, map, filter, Bool, true, false, not, Option, Some, None, if◌then◌else◌, codes, bytes_eq}
 use Rattle.serde_json.specs.Data.{Data, boolean, number, unsigned, string, array, Items, item, no_items, Members, no_members, member}
 use Rattle.schemars_schema.specs.Json.{Text}
 use Rattle.schemars_schema.specs.SchemaData.{is_schema}
 use Rattle.schemars_builders.specs.NullLaw.{text_items}
 use Rattle.schemars_builders.specs.Variants.{unit_variant}
 use Rattle.schemars_shapes.specs.Shape as shape
-use Rattle.schemars_shapes.specs.Shape.{Shape, Field, Flattened, Fields, Entry, Variant}
-use Rattle.schemars_shapes.specs.Shape.{Payload, no_payload, newtype_payload, tuple_payload, struct_payload}
+use Rattle.schemars_shapes.specs.Shape.{Shape, Field, Flattened, Fields, Entry, Variant, Payload, no_payload, newtype_payload, tuple_payload, struct_payload}
 use Rattle.schemars_types.specs.declared.contract.Contract.{Contract}
 use Rattle.schemars_types.specs.Meaning.{is_required}
 use Rattle.schemars_types.specs.KeyOptions.{KeyOptions, keys, key_options}
 use Rattle.schemars_shapes.specs.declared.shape.IntegerKeys.{IntegerKeys}
 use Rattle.schemars_shapes.specs.IntegerKeys.{pattern_of}
 use Rattle.schemars_shapes.specs.Units.{is_bare_unit}
-use Rattle.schemars_documents.specs.Documents.{type_alone, int_document, non_zero_document, char_document}
-use Rattle.schemars_documents.specs.Documents.{formatted_document, empty_list_document, bytes_document, schema_document}
-use Rattle.schemars_documents.specs.Documents.{required_names}
-use Rattle.schemars_documents.specs.Template.{Template, Ask, finished, asked, row, list, members, nullable, noted, with_keywords}
-use Rattle.schemars_documents.specs.Template.{tagged, members_of, content, Templates}
-use Rattle.schemars_documents.specs.Template.{no_templates, template}
+use Rattle.schemars_documents.specs.Documents.{type_alone, int_document, non_zero_document, char_document, formatted_document, empty_list_document, bytes_document, schema_document, required_names}
+use Rattle.schemars_documents.specs.Template.{Template, Ask, finished, asked, row, list, members, nullable, noted, with_keywords, tagged, members_of, content, Templates, no_templates, template}
 use Rattle.schemars_documents.specs.Basis.{Basis}
 
 abbrev pub templates_of : List Template → Templates

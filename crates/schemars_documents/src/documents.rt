@@ -1,21 +1,12 @@
 //! Documents without parts, and what is added to a document.
-ghost use Rattle.std.specs.Prelude.{◌≡◌, ◌∷◌, [], None, Some, IfOk, OnOk, OnErr, codes, option_map};
+ghost use Rattle.std.specs.Prelude.{◌≡◌, ◌∷◌, [], None, Some, IfOk, OnOk, OnErr, codes, option_map, map};
 ghost use Rattle.serde_json.specs.Data.{string, array, object, no_items, item, no_members, put};
-ghost use Rattle.std.specs.Prelude.{map};
-ghost use Rattle.serde_json.specs.View.{items_view};
+ghost use Rattle.serde_json.specs.View.{items_view, view, members_view};
 ghost use Rattle.schemars_builders.specs.NullLaw.{text_items};
 ghost use Rattle.schemars_shapes.specs.Shape.{shape_of, field_of, required_of};
 ghost use Rattle.schemars_types.specs.Meaning.{is_required};
-ghost use Rattle.schemars_documents.specs.Documents.{byte_document, bytes_document};
-ghost use Rattle.schemars_documents.specs.Documents.{schema_document};
-ghost use Rattle.schemars_documents.specs.Documents.{required_names};
-ghost use Rattle.serde_json.specs.View.{view, members_view};
-ghost use Rattle.schemars_schema.specs.SchemaData.{IsSchema, members_in, inserted, put_all};
-ghost use Rattle.schemars_schema.specs.SchemaData.{put_members};
-ghost use Rattle.schemars_documents.specs.Documents.{typed, type_alone, char_document};
-ghost use Rattle.schemars_documents.specs.Documents.{formatted_document};
-ghost use Rattle.schemars_documents.specs.Documents.{empty_list_document, annotated};
-ghost use Rattle.schemars_documents.specs.Documents.{with_title, with_meta_schema, root_document};
+ghost use Rattle.schemars_documents.specs.Documents.{byte_document, bytes_document, schema_document, required_names, typed, type_alone, char_document, formatted_document, empty_list_document, annotated, with_title, with_meta_schema, root_document};
+ghost use Rattle.schemars_schema.specs.SchemaData.{IsSchema, members_in, inserted, put_all, put_members};
 
 use schemars_schema::Schema;
 use schemars_types::{Contract, Field, Required};

@@ -2,11 +2,9 @@
 ghost use Rattle.std.specs.Prelude.{◌≡◌, ◌++◌, map, IfOk, OnOk};
 ghost use Rattle.serde_json.specs.Data.{string};
 ghost use Rattle.serde_json.specs.View.{view, members_view};
-ghost use Rattle.schemars_documents.specs.Template.{finished, nullable, noted, tagged};
-ghost use Rattle.schemars_documents.specs.Template.{list, asks_of, filled, left, first, behind};
+ghost use Rattle.schemars_documents.specs.Template.{finished, nullable, noted, tagged, list, asks_of, filled, left, first, behind};
 ghost use Rattle.schemars_documents.specs.OfShape.{object_with, templates_of, title_alone};
-ghost use Rattle.schemars_documents.specs.View.{ask_of, template_view, value_view};
-ghost use Rattle.schemars_documents.specs.View.{keyword_view, property_view, with_answers};
+ghost use Rattle.schemars_documents.specs.View.{ask_of, template_view, value_view, keyword_view, property_view, with_answers};
 
 pub mod basis;
 pub mod nodes;

@@ -8,8 +8,7 @@ use Rattle.schemars_schema.specs.SchemaData.{put_members}
 use Rattle.schemars_flatten.specs.Flatten.{appended, flattened}
 use Rattle.schemars_flatten.specs.Opening.{opened_inside}
 use Rattle.schemars_flatten.specs.Parts.{flattened_part}
-use Rattle.schemars_flatten.proofs.Kept.{AllMembers, AllItems, IsByKeyword, all_put_members}
-use Rattle.schemars_flatten.proofs.Kept.{flattened_kept, part_kept, opened_inside_kept}
+use Rattle.schemars_flatten.proofs.Kept.{AllMembers, AllItems, IsByKeyword, all_put_members, flattened_kept, part_kept, opened_inside_kept}
 
 abbrev IsWhole : Data → Type 0
 IsWhole d = has_float d ≡ false

@@ -1,6 +1,5 @@
 -- Lists and what is changed in them, in the words of what is meant.
-use Rattle.std.proofs.Common.{◌≡◌, Some, None, Option}
-use Rattle.std.proofs.Common.{refl, ap, ◌∙◌}
+use Rattle.std.proofs.Common.{◌≡◌, Some, None, Option, refl, ap, ◌∙◌}
 use Rattle.serde_json.specs.Data.{Data, object, Items}
 use Rattle.serde_json.specs.Find.{get}
 use Rattle.schemars_schema.specs.Json.{Text}

@@ -1,7 +1,5 @@
 -- What is made of parts that may be missing, in the words of what is meant.
-use Rattle.std.proofs.Common.{◌≡◌, Option, Some, None, Bool, true, false, List, [], ◌∷◌, ◌++◌, length, IsTrue, codes}
-use Rattle.std.proofs.Common.{refl}
-use Rattle.std.proofs.Common.{sym, ap, ◌∙◌, arith}
+use Rattle.std.proofs.Common.{◌≡◌, Option, Some, None, Bool, true, false, List, [], ◌∷◌, ◌++◌, length, IsTrue, codes, refl, sym, ap, ◌∙◌, arith}
 use Rattle.std.specs.Prelude.{if◌then◌else◌}
 use Rattle.serde_json.specs.Data.{Data, object, no_members}
 use Rattle.serde_json.specs.Find.{get}
@@ -13,8 +11,7 @@ use Rattle.schemars_schema.specs.Edits.{removed, with_item}
 use Rattle.schemars_schema.proofs.Lists.{items_view-push}
 use Rattle.schemars_flatten.specs.Flatten.{flattened}
 use Rattle.schemars_flatten.proofs.Parts.{without_missing}
-use Rattle.schemars_flatten.specs.Parts.{is_empty_object, holds_empty_object, with_empty_object, one_or_anything}
-use Rattle.schemars_flatten.specs.Parts.{choice_or_anything}
+use Rattle.schemars_flatten.specs.Parts.{is_empty_object, holds_empty_object, with_empty_object, one_or_anything, choice_or_anything}
 
 pub empty_object : (b : Bool) (es : List Entry) → (IsTrue b → length es ≡ 0) → (length es ≡ 0 → IsTrue b)
     → b ≡ is_empty_object (object (members_view es))

@@ -8,14 +8,12 @@ use Rattle.serde_json.specs.Data.{Data, array, Items, no_items, item, Members, n
 use Rattle.schemars_schema.specs.Json.{Text}
 use Rattle.schemars_text.specs.OrderedText.{is_listed}
 use Rattle.schemars_schema.specs.SchemaData.{put_members}
-use Rattle.schemars_schema.specs.References.{found_in, found_in_items, found_in_members, found_in_keywords}
-use Rattle.schemars_schema.specs.References.{references}
+use Rattle.schemars_schema.specs.References.{found_in, found_in_items, found_in_members, found_in_keywords, references}
 use Rattle.schemars_schema.proofs.Contents.{found_under}
 use Rattle.schemars_flatten.specs.Flatten.{flattened}
 use Rattle.schemars_flatten.specs.Opening.{opened_inside}
 use Rattle.schemars_flatten.specs.Parts.{flattened_part}
-use Rattle.schemars_flatten.proofs.Kept.{AllMembers, AllItems, IsByKeyword, all_put_members}
-use Rattle.schemars_flatten.proofs.Kept.{flattened_kept, part_kept, opened_inside_kept}
+use Rattle.schemars_flatten.proofs.Kept.{AllMembers, AllItems, IsByKeyword, all_put_members, flattened_kept, part_kept, opened_inside_kept}
 
 -- one of three names
 named : (k a b c : Text) (R : Text → Type 0) → R a → R b → R c → is_listed k (a ∷ b ∷ c ∷ []) ≡ true → R k

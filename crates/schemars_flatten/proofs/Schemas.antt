@@ -9,9 +9,7 @@ use Rattle.schemars_schema.specs.Edits.{removed, replaced, on_list}
 use Rattle.schemars_flatten.specs.Flatten.{opened_schema, flattened}
 use Rattle.schemars_walk.specs.Rewritten.{forms, in_keywords}
 use Rattle.schemars_flatten.specs.Opening.{closes_by, opened_at, opened_here, opening, opened, opened_inside}
-use Rattle.schemars_flatten.specs.Parts.{units_of, with_units, first_as_objects, list_changed_at}
-use Rattle.schemars_flatten.specs.Parts.{units_as_objects, with_empty_object, one_or_anything, choice_or_anything}
-use Rattle.schemars_flatten.specs.Parts.{optional_where, flattened_part}
+use Rattle.schemars_flatten.specs.Parts.{units_of, with_units, first_as_objects, list_changed_at, units_as_objects, with_empty_object, one_or_anything, choice_or_anything, optional_where, flattened_part}
 
 removed-schema : (k : Text) (s : Data) → IsSchema s → IsSchema (removed k s)
 removed-schema k (boolean b) h = tt

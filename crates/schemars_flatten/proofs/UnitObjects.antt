@@ -1,7 +1,5 @@
 -- Units that become objects, call by call.
-use Rattle.std.proofs.Common.{◌≡◌, ℕ, ◌+◌, ◌<◌, ◌≤◌, List, [], ◌∷◌, ◌++◌, Option, Some, None, false, length, get_or}
-use Rattle.std.proofs.Common.{drop}
-use Rattle.std.proofs.Common.{refl, sym, ap, ◌∙◌}
+use Rattle.std.proofs.Common.{◌≡◌, ℕ, ◌+◌, ◌<◌, ◌≤◌, List, [], ◌∷◌, ◌++◌, Option, Some, None, false, length, get_or, drop, refl, sym, ap, ◌∙◌}
 use Rattle.std.specs.Prelude.{codes, if◌then◌else◌, option_map, option_and_then}
 use Rattle.serde_json.specs.Data.{Data, Items, no_items, item}
 use Rattle.serde_json.specs.Find.{get, as_str, as_array}
@@ -13,9 +11,7 @@ use Rattle.schemars_text.proofs.Lists.{nothing_left, from_here}
 use Rattle.schemars_flatten.specs.Flatten.{appended}
 use Rattle.schemars_flatten.proofs.Parts.{appended_none, appended_more}
 use Rattle.schemars_flatten.specs.Opening.{has_type}
-use Rattle.schemars_flatten.specs.Parts.{unit_object, unit_object_first, unit_objects, units_of, with_units}
-use Rattle.schemars_flatten.specs.Parts.{first_as_objects}
-use Rattle.schemars_flatten.specs.Parts.{list_changed_at, units_as_objects}
+use Rattle.schemars_flatten.specs.Parts.{unit_object, unit_object_first, unit_objects, units_of, with_units, first_as_objects, list_changed_at, units_as_objects}
 
 appended_assoc : (a b c : Items) → appended (appended a b) c ≡ appended a (appended b c)
 appended_assoc no_items b c = refl

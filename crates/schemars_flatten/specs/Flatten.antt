@@ -1,7 +1,6 @@
 -- A schema with the keywords of another put in.
 use Rattle.std.specs.Prelude.{◌||◌, [], ◌∷◌, Bool, true, false, if◌then◌else◌, None, Some, is_some, codes}
-use Rattle.serde_json.specs.Data.{Data, null, boolean, number, string, array, object, Items, no_items, item, Members}
-use Rattle.serde_json.specs.Data.{no_members, member, put}
+use Rattle.serde_json.specs.Data.{Data, null, boolean, number, string, array, object, Items, no_items, item, Members, no_members, member, put}
 use Rattle.serde_json.specs.Find.{get_member, as_array, as_object}
 use Rattle.schemars_schema.specs.Json.{Text}
 use Rattle.schemars_text.specs.OrderedText.{is_listed}

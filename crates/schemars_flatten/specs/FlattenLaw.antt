@@ -1,6 +1,5 @@
 -- The law of `flatten`: two schemas of objects in one accept what both accept.
-use Rattle.std.specs.Prelude.{◌≡◌, ◌&&◌, Bool, true, false, not, if◌then◌else◌, None, Some, is_some, option_and_then}
-use Rattle.std.specs.Prelude.{codes, bytes_eq}
+use Rattle.std.specs.Prelude.{◌≡◌, ◌&&◌, Bool, true, false, not, if◌then◌else◌, None, Some, is_some, option_and_then, codes, bytes_eq}
 use Rattle.serde_json.specs.Data.{Data, Members, no_members, member}
 use Rattle.serde_json.specs.Find.{get, as_str, as_array, as_object}
 use Rattle.schemars_schema.specs.Json.{Text}

@@ -1,7 +1,6 @@
 -- Schemas that let further members of an object in.
 use Rattle.std.specs.Prelude.{◌||◌, Bool, false, not, Option, Some, None, if◌then◌else◌, option_and_then, codes}
-use Rattle.serde_json.specs.Data.{Data, null, boolean, number, string, array, object, Items, no_items, item, Members}
-use Rattle.serde_json.specs.Data.{no_members, member}
+use Rattle.serde_json.specs.Data.{Data, null, boolean, number, string, array, object, Items, no_items, item, Members, no_members, member}
 use Rattle.serde_json.specs.Find.{get, as_object, as_str}
 use Rattle.schemars_schema.specs.Json.{Text}
 use Rattle.schemars_text.specs.OrderedText.{is_listed}

@@ -1,8 +1,6 @@
 -- What a finished document becomes where it is a part of another object.
-use Rattle.std.specs.Prelude.{◌||◌, [], ◌∷◌, Bool, true, false, Option, Some, None, if◌then◌else◌, option_map}
-use Rattle.std.specs.Prelude.{option_and_then, codes}
-use Rattle.serde_json.specs.Data.{Data, null, boolean, number, string, array, object, Items, no_items, item}
-use Rattle.serde_json.specs.Data.{no_members, member}
+use Rattle.std.specs.Prelude.{◌||◌, [], ◌∷◌, Bool, true, false, Option, Some, None, if◌then◌else◌, option_map, option_and_then, codes}
+use Rattle.serde_json.specs.Data.{Data, null, boolean, number, string, array, object, Items, no_items, item, no_members, member}
 use Rattle.serde_json.specs.Find.{get, as_str, as_array}
 use Rattle.schemars_schema.specs.Json.{Text}
 use Rattle.schemars_schema.specs.SchemaData.{members_in, object_of}

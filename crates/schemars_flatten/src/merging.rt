@@ -2,9 +2,7 @@
 ghost use Rattle.std.specs.Prelude.{◌≡◌, codes, OnOk};
 ghost use Rattle.serde_json.specs.Data.{put};
 ghost use Rattle.serde_json.specs.View.{view, members_view};
-ghost use Rattle.schemars_flatten.specs.Flatten.{contains_key, has_subschema, moved, moved_beside};
-ghost use Rattle.schemars_flatten.specs.Flatten.{rest_keyword, opened_keywords, united_all};
-ghost use Rattle.schemars_flatten.specs.Flatten.{flattened};
+ghost use Rattle.schemars_flatten.specs.Flatten.{contains_key, has_subschema, moved, moved_beside, rest_keyword, opened_keywords, united_all, flattened};
 ghost use Rattle.schemars_flatten.specs.FlattenLaw.{AreJoinable, AcceptsBoth};
 
 use crate::union::{put_keywords, remove};

@@ -5,10 +5,7 @@ ghost use Rattle.serde_json.specs.Find.{get_member};
 ghost use Rattle.serde_json.specs.View.{view, items_view, members_view};
 ghost use Rattle.schemars_schema.specs.SchemaData.{put_members};
 ghost use Rattle.schemars_schema.specs.Edits.{without};
-ghost use Rattle.schemars_flatten.specs.Flatten.{is_joined, is_merged, is_choice};
-ghost use Rattle.schemars_flatten.specs.Flatten.{appended, joined, merged, united};
-ghost use Rattle.schemars_flatten.specs.Flatten.{with_united, alone, both_choices, with_choice};
-ghost use Rattle.schemars_flatten.specs.Flatten.{with_keyword, with_keywords};
+ghost use Rattle.schemars_flatten.specs.Flatten.{is_joined, is_merged, is_choice, appended, joined, merged, united, with_united, alone, both_choices, with_choice, with_keyword, with_keywords};
 
 use serde_json::{Map, Value};
 use std::alloc::{AllocError, Global};

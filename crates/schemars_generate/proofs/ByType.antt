@@ -1,6 +1,5 @@
 -- A table that a type has joined, what is made in it, and why a type does not join.
-use Rattle.std.proofs.Common.{◌≡◌, ◌⊎◌, ◌<◌, inl, inr, ℕ, suc, List, [], ◌∷◌, take, length, Bool, Option, Some, None}
-use Rattle.std.proofs.Common.{IsSome, refl, ap, sym, ◌∙◌, subst, arith}
+use Rattle.std.proofs.Common.{◌≡◌, ◌⊎◌, ◌<◌, inl, inr, ℕ, suc, List, [], ◌∷◌, take, length, Bool, Option, Some, None, IsSome, refl, ap, sym, ◌∙◌, subst, arith}
 use Rattle.serde_json.specs.Data.{Data}
 use Rattle.schemars_schema.specs.Json.{Text}
 use Rattle.schemars_shapes.specs.Shape.{Entry}
@@ -23,8 +22,7 @@ use Rattle.schemars_headline.proofs.Calls.{part_own, after_root_own}
 use Rattle.schemars_headline.proofs.Larger.{more_types_own}
 use Rattle.schemars_generate.specs.Answers.{IsAnswerFor, IsSubschemaFor, KeepsDefinitions}
 use Rattle.schemars_headline.proofs.InlinedDrafts.{root_needs_none}
-use Rattle.schemars_generate.specs.ByType.{IsRegistered, IsJoined, MeansTypeIn, MeansType, IsSubschemaOfType, IsRootOfType}
-use Rattle.schemars_generate.specs.ByType.{IsTypeRefusal, IsRootInTable, with_rows}
+use Rattle.schemars_generate.specs.ByType.{IsRegistered, IsJoined, MeansTypeIn, MeansType, IsSubschemaOfType, IsRootOfType, IsTypeRefusal, IsRootInTable, with_rows}
 use Rattle.schemars_generate.specs.Refusals.{error_of}
 use Rattle.schemars_generate.specs.declared.error.GenerateError.{GenerateError}
 use Rattle.schemars_generate.specs.declared.error.GenerateError.TheVariants.{OutOfMemory}

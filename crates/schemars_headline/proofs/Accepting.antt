@@ -3,8 +3,7 @@ use Rattle.std.proofs.Common.{◌≡◌, ◌≢◌, ◌+◌, ◌*◌, ◌≤◌,
 use Rattle.serde_json.specs.Data.{Data, object, Members, depth}
 use Rattle.serde_json.specs.Find.{get_member}
 use Rattle.schemars_schema.specs.Json.{Text}
-use Rattle.schemars_schema.specs.Acceptance.{Dialect, Patterns, draft2020_12, draft2019_09, draft07, accepts}
-use Rattle.schemars_schema.specs.Acceptance.{count_of_definitions}
+use Rattle.schemars_schema.specs.Acceptance.{Dialect, Patterns, draft2020_12, draft2019_09, draft07, accepts, count_of_definitions}
 use Rattle.schemars_text.proofs.Members.{differ}
 use Rattle.schemars_types.specs.Rows.{Row}
 use Rattle.schemars_types.specs.declared.contract.Contract.{Contract}

@@ -1,6 +1,5 @@
 -- The transforms of the drafts make the same of members that differ in the value of one key, but for what they make of that.
-use Rattle.std.proofs.Common.{◌≡◌, ◌≢◌, ◌⊎◌, inl, inr, suc, Option, Some, None, Bool, true, false, Ordering, Less, Equal, Greater}
-use Rattle.std.proofs.Common.{nat_cmp, codes, refl, sym, ap, ◌∙◌, subst}
+use Rattle.std.proofs.Common.{◌≡◌, ◌≢◌, ◌⊎◌, inl, inr, suc, Option, Some, None, Bool, true, false, Ordering, Less, Equal, Greater, nat_cmp, codes, refl, sym, ap, ◌∙◌, subst}
 use Rattle.std.specs.Prelude.{bytes_eq, if◌then◌else◌, ◌==◌}
 use Rattle.std.specs.Ordering.{match_ordering}
 use Rattle.std.specs.Cmp.Lexicographic.{slice_cmp}
@@ -14,8 +13,7 @@ use Rattle.schemars_schema.specs.References.{place_under}
 use Rattle.schemars_schema.specs.Acceptance.{Context, judge}
 use Rattle.schemars_schema.proofs.Objects.{IsSilent, IsKeyword, apart, judge-agree}
 use Rattle.schemars_walk.specs.Rewritten.{forms, form_at, in_keywords}
-use Rattle.schemars_transform.specs.Built.{reference_moved, without_siblings, remove_ref_siblings, old_items_moved, prefix_moved}
-use Rattle.schemars_transform.specs.Built.{prefix_as_items, replace_prefix_items}
+use Rattle.schemars_transform.specs.Built.{reference_moved, without_siblings, remove_ref_siblings, old_items_moved, prefix_moved, prefix_as_items, replace_prefix_items}
 use Rattle.schemars_transform.specs.Unevaluated.{closed_by, unevaluated_as_additional, replace_unevaluated_properties}
 use Rattle.schemars_laws.proofs.Looked.{change_rules, walked, none-walked}
 

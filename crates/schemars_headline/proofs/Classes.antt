@@ -1,11 +1,9 @@
 -- In a plain table each document of a row is one that the laws of the drafts speak of.
-use Rattle.std.proofs.Common.{◌≡◌, ℕ, zero, suc, inl, inr, List, [], ◌∷◌, ◌++◌, map, Option, Some, None, Bool, true, false, codes, refl}
-use Rattle.std.proofs.Common.{sym, ◌∙◌, subst}
+use Rattle.std.proofs.Common.{◌≡◌, ℕ, zero, suc, inl, inr, List, [], ◌∷◌, ◌++◌, map, Option, Some, None, Bool, true, false, codes, refl, sym, ◌∙◌, subst}
 use Rattle.std.specs.Prelude.{is_some, if◌then◌else◌}
 use Rattle.std.specs.Option.{option_map_or}
-use Rattle.serde_json.specs.Data.{Data}
+use Rattle.serde_json.specs.Data.{Data, Members}
 use Rattle.schemars_schema.specs.Json.{Text}
-use Rattle.serde_json.specs.Data.{Members}
 use Rattle.serde_json.specs.Find.{get_member}
 use Rattle.schemars_laws.specs.Everywhere.{Everywhere}
 use Rattle.schemars_laws.specs.Names.{IsName, Named}
@@ -22,10 +20,9 @@ use Rattle.schemars_shapes.specs.Shape as shape
 use Rattle.schemars_shapes.specs.Shape.{Shape, Required, Field, Fields, Flattened, Entry}
 use Rattle.schemars_types.specs.Rows.{Row, entry_at}
 use Rattle.schemars_types.specs.Edges.{option_at}
-use Rattle.schemars_types.specs.Effective.{effective, shape_fields, fields_within, without_options, weakened, part_fields, flattened_in}
-use Rattle.schemars_types.specs.Effective.{part_enums, spread, spread_in}
+use Rattle.schemars_types.specs.Effective.{effective, shape_fields, fields_within, without_options, weakened, part_fields, flattened_in, part_enums, spread, spread_in}
 use Rattle.schemars_types.specs.KeyOptions.{key_options}
-use Rattle.schemars_documents.specs.PlainTable.{AreNoted, IsPlainShape, ArePlainParts, parts_in, IsPlainEntry, IsPlainTable, IsNotedShape}
+use Rattle.schemars_documents.specs.PlainTable.{AreNoted, IsPlainShape, ArePlainParts, parts_in, IsPlainEntry, IsPlainTable, IsNotedShape, IsNotedThroughout, HasPlainNotesThroughout}
 use Rattle.schemars_documents.specs.Basis.{Basis}
 use Rattle.schemars_documents.specs.Template.{Ask, part, asks_of, filled}
 use Rattle.schemars_documents.specs.OfShape.{struct_template, template_of}
@@ -39,12 +36,8 @@ use Rattle.schemars_meaning.proofs.ByShape.{IsDocument, others_fill, member_docu
 use Rattle.schemars_meaning.proofs.Referring.{plain_rows}
 use Rattle.schemars_meaning.proofs.FieldsDescribed.{described_fields}
 use Rattle.schemars_headline.proofs.Changes.{Demand, IsDraft2019_09, IsGood, good_truth, good-annotated, good-allow_null}
-use Rattle.schemars_headline.proofs.Documents.{type-good, int-good, non_zero-good, char-good, formatted-good, bytes-good}
-use Rattle.schemars_headline.proofs.Documents.{schema_itself-good, reference-good, empty_list-good, seq-good, set-good}
-use Rattle.schemars_headline.proofs.Documents.{array-good, up_to-good, tuple-good, parts-good, fields-good, one_of-good}
-use Rattle.schemars_headline.proofs.Documents.{member-good, map-good, unit-good, literal-good}
+use Rattle.schemars_headline.proofs.Documents.{type-good, int-good, non_zero-good, char-good, formatted-good, bytes-good, schema_itself-good, reference-good, empty_list-good, seq-good, set-good, array-good, up_to-good, tuple-good, parts-good, fields-good, one_of-good, member-good, map-good, unit-good, literal-good}
 use Rattle.schemars_headline.proofs.Filled.{noted-effective, external-makes, untagged-makes, internal-makes, adjacent-makes, values-make}
-use Rattle.schemars_documents.specs.PlainTable.{IsNotedThroughout, HasPlainNotesThroughout}
 
 -- all shapes but structs
 abbrev IsNoStruct : Shape → Type 0

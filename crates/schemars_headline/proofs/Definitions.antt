@@ -1,6 +1,5 @@
 -- The transforms of the drafts keep the definitions of a document: their number and their keys.
-use Rattle.std.proofs.Common.{◌≡◌, ◌≢◌, suc, option_and_then, Option, Some, None, Ordering, Less, Equal, Greater}
-use Rattle.std.proofs.Common.{nat_cmp, codes, option_map, refl, sym, ap, ◌∙◌, subst}
+use Rattle.std.proofs.Common.{◌≡◌, ◌≢◌, suc, option_and_then, Option, Some, None, Ordering, Less, Equal, Greater, nat_cmp, codes, option_map, refl, sym, ap, ◌∙◌, subst}
 use Rattle.std.specs.Ordering.{match_ordering}
 use Rattle.std.specs.Cmp.Lexicographic.{slice_cmp}
 use Rattle.serde_json.specs.Data.{Data, null, boolean, number, string, array, object, Members, no_members, member}

@@ -3,15 +3,13 @@ use Rattle.std.proofs.Common.{◌≡◌, List, [], ◌∷◌, Bool, true, false,
 use Rattle.std.proofs.lemmas.Slice.Eq.{bytes_eq-Decides}
 use Rattle.std.specs.List.{AllByRecursion}
 use Rattle.std.specs.Prelude.{◌||◌, bytes_eq, codes, if◌then◌else◌}
-use Rattle.serde_json.specs.Data.{Data, null, array, object, Items, no_items, item, Members, no_members}
-use Rattle.serde_json.specs.Data.{member, put}
+use Rattle.serde_json.specs.Data.{Data, null, array, object, Items, no_items, item, Members, no_members, member, put}
 use Rattle.schemars_schema.specs.Json.{Text}
 use Rattle.schemars_text.specs.OrderedText.{is_listed}
 use Rattle.schemars_schema.specs.SchemaData.{put_members}
-use Rattle.schemars_schema.specs.References.{Place, NoSchemas, OneSchema, SchemaList, SchemaOrList, SchemasByName, place_under}
+use Rattle.schemars_schema.specs.References.{Place, NoSchemas, OneSchema, SchemaList, SchemaOrList, SchemasByName, place_under, with_same_object, with_same_objects}
 use Rattle.schemars_builders.specs.AllowNull.{null_schema}
 use Rattle.schemars_flatten.specs.Flatten.{flattened}
-use Rattle.schemars_schema.specs.References.{with_same_object, with_same_objects}
 use Rattle.schemars_flatten.specs.Opening.{same_object_place}
 use Rattle.schemars_flatten.specs.Parts.{unit_object, flattened_part}
 use Rattle.schemars_flatten.proofs.Kept.{AllMembers, AllItems, IsByKeyword}

@@ -1,6 +1,5 @@
 -- Where rows are inlined, a reference closes a cycle.
-use Rattle.std.proofs.Common.{◌≡◌, inl, inr, ℕ, zero, suc, List, [], ◌∷◌, ◌++◌, Bool, true, false, Option, Some, None, refl, sym, ap, ◌∙◌}
-use Rattle.std.proofs.Common.{subst, arith, length, Contains, true≢false}
+use Rattle.std.proofs.Common.{◌≡◌, inl, inr, ℕ, zero, suc, List, [], ◌∷◌, ◌++◌, Bool, true, false, Option, Some, None, refl, sym, ap, ◌∙◌, subst, arith, length, Contains, true≢false}
 use Rattle.std.specs.Prelude.{◌⊎◌, ◌||◌, ◌&&◌, not, nat_eq}
 use Rattle.std.specs.List.{list_any}
 use Rattle.std.specs.Option.{option_map_or}
@@ -21,8 +20,7 @@ use Rattle.schemars_documents.specs.PlainTable.{IsPlainTable}
 use Rattle.schemars_documents.specs.Documents.{root_document}
 use Rattle.schemars_documents.specs.Basis.{Basis}
 use Rattle.schemars_documents.specs.Template.{Ask, part, members_of, content}
-use Rattle.schemars_documents.specs.Describes.{IsOwnDocument, IsAnswered, IsContent, IsWritten, Describes, without_options_within}
-use Rattle.schemars_documents.specs.Describes.{without_options}
+use Rattle.schemars_documents.specs.Describes.{IsOwnDocument, IsAnswered, IsContent, IsWritten, Describes, without_options_within, without_options}
 use Rattle.schemars_meaning.proofs.Referring.{plain_rows}
 use Rattle.schemars_build.specs.Placed.{is_pending, pending_in, is_in_place, IsPlaced, IsFilledWithin, IsDocument}
 use Rattle.schemars_build.proofs.Placing.{Answers}

@@ -32,8 +32,7 @@ use Rattle.schemars_headline.proofs.Classes.{described-good}
 use Rattle.schemars_headline.proofs.RootClass.{root-are}
 use Rattle.schemars_headline.proofs.ReferencesKept.{RefersOnce, draft07-refers, draft2019_09-refers}
 use Rattle.schemars_headline.proofs.DialectsResolving.{each-passes}
-use Rattle.schemars_headline.proofs.Inlined.{Nothing, bare-within, bare_silent, no_item, no_definition, part_inlined}
-use Rattle.schemars_headline.proofs.Inlined.{root_bare, root_inlined}
+use Rattle.schemars_headline.proofs.Inlined.{Nothing, bare-within, bare_silent, no_item, no_definition, part_inlined, root_bare, root_inlined}
 
 abbrev Never : Text → Type 0
 Never t = ⊥

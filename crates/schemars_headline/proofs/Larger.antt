@@ -1,6 +1,5 @@
 -- What a generator holds stays its own as rows join its table.
-use Rattle.std.proofs.Common.{◌≡◌, ◌<◌, ◌≤◌, inl, inr, ℕ, zero, suc, List, [], ◌∷◌, take, length, Bool, false, Option}
-use Rattle.std.proofs.Common.{Some, None, IsSome, refl, sym, ap, ◌∙◌, arith, subst, Contains, true≢false}
+use Rattle.std.proofs.Common.{◌≡◌, ◌<◌, ◌≤◌, inl, inr, ℕ, zero, suc, List, [], ◌∷◌, take, length, Bool, false, Option, Some, None, IsSome, refl, sym, ap, ◌∙◌, arith, subst, Contains, true≢false}
 use Rattle.std.specs.Prelude.{◌||◌, ◌&&◌, not, is_some, option_and_then}
 use Rattle.std.specs.Option.{option_map_or}
 use Rattle.serde_json.specs.Data.{Data}

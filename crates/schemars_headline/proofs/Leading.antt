@@ -1,6 +1,5 @@
 -- Where the references of a table's documents lead: to the root, or to the definition of their row.
-use Rattle.std.proofs.Common.{◌≡◌, ◌⊎◌, inl, inr, ℕ, suc, ◌+◌, ◌*◌, ◌<◌, ◌≤◌, List, [], ◌∷◌, ◌++◌, map, Option, Some, None}
-use Rattle.std.proofs.Common.{true, Contains, length, refl, sym, ap, ◌∙◌, arith, subst}
+use Rattle.std.proofs.Common.{◌≡◌, ◌⊎◌, inl, inr, ℕ, suc, ◌+◌, ◌*◌, ◌<◌, ◌≤◌, List, [], ◌∷◌, ◌++◌, map, Option, Some, None, true, Contains, length, refl, sym, ap, ◌∙◌, arith, subst}
 use Rattle.std.specs.Prelude.{codes, is_some}
 use Rattle.std.specs.Str.{IsUtf8}
 use Rattle.std.proofs.Math.Nat.{mul-le-mul_left}
@@ -16,8 +15,7 @@ use Rattle.schemars_schema.specs.Acceptance.{Patterns, Judge, judge, draft2020_1
 use Rattle.schemars_schema.proofs.Encodings.{lookup-encoded}
 use Rattle.schemars_builders.specs.NullLaw.{context2020_12}
 use Rattle.schemars_shapes.specs.Shape as shape
-use Rattle.schemars_shapes.specs.Shape.{Shape, Flattened, Entry, Payload, Variant}
-use Rattle.schemars_shapes.specs.Shape.{struct_payload, payload_flattened, payload_same, of_variants, same_value_numbers}
+use Rattle.schemars_shapes.specs.Shape.{Shape, Flattened, Entry, Payload, Variant, struct_payload, payload_flattened, payload_same, of_variants, same_value_numbers}
 use Rattle.schemars_types.specs.Rows.{Row, entry_at}
 use Rattle.schemars_types.specs.Edges.{rank}
 use Rattle.schemars_types.specs.Faults.{IsChecked}

@@ -1,6 +1,5 @@
 -- Each reference in a definition names a key.
-use Rattle.std.proofs.Common.{◌≡◌, ◌⊎◌, inl, inr, ℕ, Bool, true, false}
-use Rattle.std.proofs.Common.{None, true≢false, refl, sym, ap}
+use Rattle.std.proofs.Common.{◌≡◌, ◌⊎◌, inl, inr, ℕ, Bool, true, false, None, true≢false, refl, sym, ap}
 use Rattle.std.specs.Prelude.{◌||◌, bytes_eq}
 use Rattle.std.specs.Option.{option_map_or}
 use Rattle.std.proofs.lemmas.Slice.Eq.{bytes_eq-Decides}
@@ -11,7 +10,6 @@ use Rattle.schemars_schema.specs.References.{references}
 use Rattle.schemars_documents.specs.PlainTable.{HasPlainNotesThroughout}
 use Rattle.schemars_build.specs.Work.{IsKey, Refers, reference_to, basis_of_plan}
 use Rattle.schemars_headline.specs.State.{State, state_plan, work_of, HasOwnDefinitions, ReferencesNameKeys}
-use Rattle.schemars_documents.specs.PlainTable.{HasPlainNotesThroughout}
 use Rattle.schemars_headline.proofs.Keys.{key_here, key_later, key_cases}
 use Rattle.schemars_build.proofs.Placing.{document_describes}
 use Rattle.schemars_headline.proofs.Resolving.{resolve-each, described_resolved}

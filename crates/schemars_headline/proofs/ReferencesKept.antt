@@ -10,8 +10,7 @@ use Rattle.schemars_schema.specs.SchemaData.{IsSchema}
 use Rattle.schemars_schema.specs.Acceptance.{draft2020_12}
 use Rattle.schemars_schema.specs.Edits.{without}
 use Rattle.schemars_text.proofs.Members.{differ}
-use Rattle.schemars_transform.specs.Built.{reference_moved, without_siblings, remove_ref_siblings, prefix_moved, old_items_moved}
-use Rattle.schemars_transform.specs.Built.{prefix_as_items}
+use Rattle.schemars_transform.specs.Built.{reference_moved, without_siblings, remove_ref_siblings, prefix_moved, old_items_moved, prefix_as_items}
 use Rattle.schemars_transform.specs.Unevaluated.{unevaluated_as_additional, closed_by, replace_unevaluated_properties}
 use Rattle.schemars_laws.specs.Everywhere.{Everywhere, asked, asked_of_keywords}
 use Rattle.schemars_laws.specs.Classes.{IsOnce, IsSchemaList, HasPlainReference}

@@ -1,6 +1,5 @@
 -- Root documents are ones that the laws of the drafts speak of, with their definitions, where the documents of rows are.
-use Rattle.std.proofs.Common.{◌≡◌, ℕ, List, [], inl, inr, Option, Some, None, Bool, true, false, codes, refl, sym, ap, ◌∙◌, subst}
-use Rattle.std.proofs.Common.{arith, true≢false}
+use Rattle.std.proofs.Common.{◌≡◌, ℕ, List, [], inl, inr, Option, Some, None, Bool, true, false, codes, refl, sym, ap, ◌∙◌, subst, arith, true≢false}
 use Rattle.std.specs.Prelude.{is_some, if◌then◌else◌, bytes_eq}
 use Rattle.std.specs.Str.{IsUtf8}
 use Rattle.serde_json.specs.Data.{Data, null, boolean, number, string, array, object, Members, no_members, member, put}
@@ -14,7 +13,7 @@ use Rattle.schemars_shapes.specs.Shape as shape
 use Rattle.schemars_shapes.specs.Shape.{Shape, Entry}
 use Rattle.schemars_types.specs.Rows.{Row, name_at, entry_at}
 use Rattle.schemars_documents.specs.Documents.{with_title, with_meta_schema, root_document}
-use Rattle.schemars_documents.specs.PlainTable.{HasPlainLiteral, IsNotedEntry, HasPlainNotes, IsNotedThroughout, HasPlainNotesThroughout}
+use Rattle.schemars_documents.specs.PlainTable.{HasPlainLiteral, IsNotedEntry, HasPlainNotes, IsNotedThroughout, HasPlainNotesThroughout, IsNotedShape}
 use Rattle.schemars_documents.specs.Describes.{Describes}
 use Rattle.schemars_build.specs.Work.{Plan, Work, Refers, reference_to, basis_of_plan}
 use Rattle.schemars_meaning.proofs.Mapping.{describes-wider}
@@ -30,7 +29,6 @@ use Rattle.schemars_laws.specs.Everywhere.{Everywhere, asked, demanded, asked_of
 use Rattle.schemars_laws.specs.Names.{IsName, IsMap}
 use Rattle.schemars_laws.proofs.References.{defs-name, definitions-name}
 use Rattle.schemars_headline.proofs.Changes.{IsUnwatched, Demand, Class, AreGood, are-put, IsGood, good, good-members, watched}
-use Rattle.schemars_documents.specs.PlainTable.{IsNotedShape}
 
 -- ---- where definitions are
 

@@ -9,8 +9,8 @@ use Rattle.schemars_schema.specs.Lookup.{resolved}
 use Rattle.schemars_schema.specs.References.{references, resolves}
 use Rattle.schemars_schema.specs.Acceptance.{Dialect, Patterns, Judge, judge, draft2020_12, follow}
 use Rattle.schemars_schema.proofs.Objects.{IsSilent, judge-put}
-use Rattle.schemars_builders.specs.NullLaw.{context2020_12}
-use Rattle.schemars_shapes.specs.Shape.{Entry}
+use Rattle.schemars_builders.specs.NullLaw.{context2020_12, IsDraft, AcceptsNullToo}
+use Rattle.schemars_shapes.specs.Shape.{Entry, Shape, Field, Flattened}
 use Rattle.schemars_types.specs.Rows.{Row, name_at, entry_at}
 use Rattle.schemars_types.specs.Effective.{spread, flattened_in, part_enums}
 use Rattle.schemars_types.specs.declared.contract.Contract.{Contract}
@@ -18,14 +18,11 @@ use Rattle.schemars_types.specs.Faults.{IsChecked}
 use Rattle.schemars_documents.specs.Documents.{root_document}
 use Rattle.schemars_documents.specs.Describes.{IsWritten, Describes}
 use Rattle.schemars_shapes.specs.Shape as shape
-use Rattle.schemars_shapes.specs.Shape.{Shape, Field, Flattened}
-use Rattle.schemars_documents.specs.PlainTable.{IsPlainShape, HasPlainLiteral, IsEntryUnder, IsPlainUnder, IsPlainTable}
-use Rattle.schemars_documents.specs.PlainTable.{IsNotedEntry, HasPlainNotes, HasPlainNotesThroughout}
+use Rattle.schemars_documents.specs.PlainTable.{IsPlainShape, HasPlainLiteral, IsEntryUnder, IsPlainUnder, IsPlainTable, IsNotedEntry, HasPlainNotes, HasPlainNotesThroughout}
 use Rattle.schemars_documents.proofs.OpenStructs.{plain_under}
 use Rattle.schemars_build.specs.Naming.{IsOneToOne}
 use Rattle.schemars_build.specs.Work.{Plan, Work, Refers, basis_of_plan}
 use Rattle.schemars_builders.specs.AllowNull.{allow_null}
-use Rattle.schemars_builders.specs.NullLaw.{IsDraft, AcceptsNullToo}
 use Rattle.schemars_meaning.proofs.FieldsDescribed.{written_or_null}
 use Rattle.schemars_headline.specs.State.{State, state_plan, work_of, HasOwnDefinitions}
 use Rattle.schemars_headline.specs.Headline.{IsRootOf, MeansItsType, MeansItsTypeIn, SubschemaHeadline, IsDraftPath, with_definitions}
@@ -38,8 +35,7 @@ use Rattle.schemars_build.specs.Parts.{IsSubschema}
 use Rattle.schemars_build.proofs.Placing.{document_describes, placed_written}
 use Rattle.schemars_meaning.proofs.Schemas.{described}
 use Rattle.schemars_meaning.proofs.Referring.{under_rows}
-use Rattle.schemars_headline.proofs.Resolving.{all_pass-resolve, Resolve, AllResolve, described_resolved}
-use Rattle.schemars_headline.proofs.Resolving.{written_resolved, root_resolved, placed_resolved}
+use Rattle.schemars_headline.proofs.Resolving.{all_pass-resolve, Resolve, AllResolve, described_resolved, written_resolved, root_resolved, placed_resolved}
 use Rattle.schemars_headline.proofs.Standing.{MayRefer, AllStand, stands_now, refers_may}
 use Rattle.schemars_headline.proofs.Leading.{HoldsDefinitions, IsItsRoot, refers_resolve, written_accepts}
 use Rattle.schemars_headline.proofs.Placed.{IsPlaced, stands_key, holds_put, holds_nothing, placing, placed_in, held}

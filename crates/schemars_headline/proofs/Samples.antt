@@ -12,14 +12,9 @@ use Rattle.schemars_schema.specs.Acceptance.{Dialect, Patterns, draft2020_12, dr
 use Rattle.schemars_text.proofs.Members.{differ}
 use Rattle.schemars_schema.proofs.Objects.{IsSilent}
 use Rattle.schemars_types.specs.declared.contract.Contract.TheVariants.{Serialize}
-use Rattle.schemars_sample.specs.Example.{Example, truth, whole, decimal, character, text, bytes, no_value, some_value}
-use Rattle.schemars_sample.specs.Example.{unit_struct, unit_variant, newtype_struct, newtype_variant, seq, tuple}
-use Rattle.schemars_sample.specs.Example.{tuple_variant, struct, collected_map, struct_variant}
-use Rattle.schemars_sample.specs.Example.{Examples, no_examples, example, Entries, no_entries, entry}
+use Rattle.schemars_sample.specs.Example.{Example, truth, whole, decimal, character, text, bytes, no_value, some_value, unit_struct, unit_variant, newtype_struct, newtype_variant, seq, tuple, tuple_variant, struct, collected_map, struct_variant, Examples, no_examples, example, Entries, no_entries, entry}
 use Rattle.schemars_sample.specs.SampleJson.{sample_json, json_array}
-use Rattle.schemars_sample.specs.SampleSchema.{sample_schema, item_schemas, entry_schemas, value_schemas}
-use Rattle.schemars_sample.specs.SampleSchema.{choice_among, one_beside, shared_by, tuple_schema, struct_schema, map_schema}
-use Rattle.schemars_sample.specs.SampleSchema.{titled_schema, with_name, with_example, sample_root}
+use Rattle.schemars_sample.specs.SampleSchema.{sample_schema, item_schemas, entry_schemas, value_schemas, choice_among, one_beside, shared_by, tuple_schema, struct_schema, map_schema, titled_schema, with_name, with_example, sample_root}
 use Rattle.schemars_sample.specs.Accepted.{AcceptsExample}
 use Rattle.schemars_sample.proofs.Choices.{one_beside-holds, shared_by-holds}
 use Rattle.schemars_sample.proofs.Unplaced.{root_free}
@@ -31,8 +26,7 @@ use Rattle.schemars_headline.proofs.Keys.{IsDefinitionsKey}
 use Rattle.schemars_headline.proofs.Placed.{StandsAt, IsPlaced, placed_in, draft_key}
 use Rattle.schemars_laws.specs.Everywhere.{Everywhere, asked, asked_of_members}
 use Rattle.schemars_laws.specs.Names.{HasPlainUnevaluated, NamedBy}
-use Rattle.schemars_laws.specs.Classes.{IsOnce, AreSchemas, HasPlainItems, HasPlainReference, HasNoUnevaluated}
-use Rattle.schemars_laws.specs.Classes.{alone_by, without_unevaluated}
+use Rattle.schemars_laws.specs.Classes.{IsOnce, AreSchemas, HasPlainItems, HasPlainReference, HasNoUnevaluated, alone_by, without_unevaluated}
 use Rattle.schemars_laws.specs.Stages.{IsTextWith, Stands, IsForOpenApi, AfterNullable, AfterSiblings}
 use Rattle.schemars_laws.specs.Laws.{for_draft07, for_draft2019_09}
 use Rattle.schemars_laws.proofs.Looked.{change_rules}
@@ -42,16 +36,11 @@ use Rattle.schemars_laws.proofs.Preserved.{after, weaker}
 use Rattle.schemars_laws.proofs.Seven.{keep-unevaluated, keep-siblings}
 use Rattle.schemars_laws.proofs.Steps.{text-alone, text-named}
 use Rattle.schemars_laws.proofs.Laws.{unevaluated-moves, siblings-moves, prefix-moves}
-use Rattle.schemars_headline.specs.Drafts.{Draft, Draft2020_12, Draft2019_09, Draft07, dialect_of, made_for}
-use Rattle.schemars_headline.specs.Drafts.{AcceptsExampleUnder, DraftSamples}
-use Rattle.schemars_headline.proofs.Changes.{Demand, without_rest, Class, IsDraft2019_09, for_openapi, for_items, AreGood, are-put, IsGood}
-use Rattle.schemars_headline.proofs.Changes.{good}
-use Rattle.schemars_headline.proofs.Changes.{good_truth, good-members, good-allow_null}
-use Rattle.schemars_headline.proofs.Documents.{own-items, type-good, are-typed, char-good, bytes-good, seq-good, AllGood, asked-items}
-use Rattle.schemars_headline.proofs.Documents.{any_of-good, asked-named}
+use Rattle.schemars_headline.specs.Drafts.{Draft, Draft2020_12, Draft2019_09, Draft07, dialect_of, made_for, AcceptsExampleUnder, DraftSamples}
+use Rattle.schemars_headline.proofs.Changes.{Demand, without_rest, Class, IsDraft2019_09, for_openapi, for_items, AreGood, are-put, IsGood, good, good_truth, good-members, good-allow_null}
+use Rattle.schemars_headline.proofs.Documents.{own-items, type-good, are-typed, char-good, bytes-good, seq-good, AllGood, asked-items, any_of-good, asked-named}
 use Rattle.schemars_headline.proofs.RootClass.{are-with_meta_schema, same_key, with-definitions}
-use Rattle.schemars_headline.proofs.Beside.{DifferIn, differ-same, differ-placed, differ-then, judge-differ, unevaluated-differ}
-use Rattle.schemars_headline.proofs.Beside.{siblings-differ, prefix-differ}
+use Rattle.schemars_headline.proofs.Beside.{DifferIn, differ-same, differ-placed, differ-then, judge-differ, unevaluated-differ, siblings-differ, prefix-differ}
 
 -- ---- the schema of an example
 

@@ -1,7 +1,6 @@
 -- In a table that is plain under its contract the document of each row is one that the law of 2019-09 speaks of, those of structs with
 -- flattened enums too.
-use Rattle.std.proofs.Common.{◌≡◌, ℕ, zero, inr, List, [], ◌∷◌, Option, Some, None, Bool, true, false, codes, refl, sym, ap}
-use Rattle.std.proofs.Common.{◌∙◌, subst, arith}
+use Rattle.std.proofs.Common.{◌≡◌, ℕ, zero, inr, List, [], ◌∷◌, Option, Some, None, Bool, true, false, codes, refl, sym, ap, ◌∙◌, subst, arith}
 use Rattle.std.proofs.lemmas.Slice.Eq.{bytes_eq-Decides}
 use Rattle.std.specs.Prelude.{bytes_eq, if◌then◌else◌}
 use Rattle.serde_json.specs.Data.{Data, null, array, object, Members, no_members, member}
@@ -9,13 +8,12 @@ use Rattle.serde_json.specs.Find.{get_member}
 use Rattle.serde_json.specs.View.{items_of}
 use Rattle.schemars_schema.specs.Json.{Text}
 use Rattle.schemars_text.specs.OrderedText.{is_listed}
-use Rattle.schemars_schema.specs.References.{NoSchemas, OneSchema, SchemaList, place_under}
+use Rattle.schemars_schema.specs.References.{NoSchemas, OneSchema, SchemaList, place_under, with_same_object, with_same_objects}
 use Rattle.schemars_schema.specs.Acceptance.{Context, Judge, draft2020_12, follow}
 use Rattle.schemars_builders.specs.NullLaw.{context2020_12}
 use Rattle.schemars_text.proofs.Members.{get_member-here, get_member-later}
 use Rattle.schemars_flatten.specs.Flatten.{flattened}
 use Rattle.schemars_flatten.proofs.Kept as kept
-use Rattle.schemars_schema.specs.References.{with_same_object, with_same_objects}
 use Rattle.schemars_laws.specs.Everywhere.{Everywhere, asked, demanded, asked_of_items, asked_of_keywords}
 use Rattle.schemars_laws.specs.Names.{IsNoObject}
 use Rattle.schemars_laws.specs.Classes.{AreSchemas, IsSchemaList, IsNoList}
@@ -36,8 +34,7 @@ use Rattle.schemars_meaning.proofs.Flattened.{map_fills}
 use Rattle.schemars_meaning.proofs.Spread.{field_keywords}
 use Rattle.schemars_schema.proofs.SortedMembers.{IsSorted, get_member-above}
 use Rattle.schemars_meaning.proofs.MapKeywords.{closed_there}
-use Rattle.schemars_meaning.proofs.StructForm.{Part, Parts, objects, all_there, one_there, unevaluated_beside, unevaluated_there}
-use Rattle.schemars_meaning.proofs.StructForm.{struct_keywords}
+use Rattle.schemars_meaning.proofs.StructForm.{Part, Parts, objects, all_there, one_there, unevaluated_beside, unevaluated_there, struct_keywords}
 use Rattle.schemars_meaning.proofs.Uniting.{IsForm}
 use Rattle.schemars_meaning.proofs.Opened.{no_parts}
 use Rattle.schemars_meaning.proofs.Items.{IsItem, AllItems, PartsAre, OneIs}
@@ -47,8 +44,7 @@ use Rattle.schemars_meaning.proofs.ShapesCounted.{struct_stands, tell_inside}
 use Rattle.schemars_meaning.proofs.Referring.{under_rows}
 use Rattle.schemars_headline.proofs.Changes.{Demand, with_rest, Class, class-of, nothing, are-put, IsGood, good}
 use Rattle.schemars_headline.proofs.Documents.{map-good, fields-named}
-use Rattle.schemars_headline.proofs.Held.{by_listed, by_place, Holds, HoldsList, HoldsEach, HoldsAt, holds-everywhere, held-members}
-use Rattle.schemars_headline.proofs.Held.{flattened-holds, part-holds}
+use Rattle.schemars_headline.proofs.Held.{by_listed, by_place, Holds, HoldsList, HoldsEach, HoldsAt, holds-everywhere, held-members, flattened-holds, part-holds}
 use Rattle.schemars_headline.proofs.Classes.{In, Answer, StructsGood, IsNotedUnder, each-good}
 use Rattle.schemars_meaning.proofs.SettledTables.{IsSettled}
 

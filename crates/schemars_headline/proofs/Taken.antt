@@ -27,8 +27,7 @@ use Rattle.schemars_laws.specs.Paths.{IsDefinitionAt, EachEverywhere, components
 use Rattle.schemars_laws.specs.Stages.{Stands, IsForOpenApi, Anything}
 use Rattle.schemars_laws.specs.Laws.{for_openapi3}
 use Rattle.schemars_laws.proofs.Preserved.{weaker}
-use Rattle.schemars_laws.proofs.Chain.{components-found, openapi-law, names-at_end, all_seven, schema-at_end, len-at_end}
-use Rattle.schemars_laws.proofs.Chain.{found-at_end, missing-at_end, seven-each}
+use Rattle.schemars_laws.proofs.Chain.{components-found, openapi-law, names-at_end, all_seven, schema-at_end, len-at_end, found-at_end, missing-at_end, seven-each}
 use Rattle.schemars_headline.specs.Taken.{MeansItsRow, MeanTheirRows, OpenApiHeadline}
 use Rattle.schemars_headline.proofs.ReferencesKept.{RefersOnce}
 use Rattle.schemars_headline.proofs.DialectsResolving.{each-resolves}

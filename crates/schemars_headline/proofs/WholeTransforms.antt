@@ -1,8 +1,7 @@
 -- Built-in transforms leave the numbers of a document whole.
 use Rattle.std.proofs.Common.{◌≡◌, List, [], ◌∷◌, Option, Some, None, Bool, true, false, refl}
 use Rattle.std.specs.Prelude.{bytes_eq, codes, is_some, option_and_then, if◌then◌else◌}
-use Rattle.serde_json.specs.Data.{Data, null, boolean, number, string, array, object, Items, no_items, item, Members}
-use Rattle.serde_json.specs.Data.{no_members, member, put}
+use Rattle.serde_json.specs.Data.{Data, null, boolean, number, string, array, object, Items, no_items, item, Members, no_members, member, put}
 use Rattle.serde_json.specs.Find.{as_str, get, get_member}
 use Rattle.serde_json.specs.Written.{has_float, items_have_float, members_have_float}
 use Rattle.schemars_schema.specs.Json.{Text}
@@ -11,23 +10,15 @@ use Rattle.schemars_schema.specs.Edits.{removed, put_missing, with_last, has_one
 use Rattle.schemars_schema.specs.References.{Place, NoSchemas, OneSchema, SchemaList, SchemaOrList, SchemasByName}
 use Rattle.schemars_schema.proofs.Contents.{members_have_float-put}
 use Rattle.schemars_walk.specs.Rewritten.{Rules, Forms, forms, form_at, in_items, in_names, in_keywords, rewritten, everywhere, all_changed}
-use Rattle.schemars_transform.specs.Built.{bool_rules, referring, reference_moved, without_siblings}
-use Rattle.schemars_transform.specs.Built.{first_as_example, with_single_example, value_as_enum, const_as_enum}
-use Rattle.schemars_transform.specs.Built.{old_items_moved, prefix_moved, prefix_as_items}
-use Rattle.schemars_transform.specs.Nullable.{all_null, is_null_name, without_null, one_or_list, type_without_null, null_taken_out}
-use Rattle.schemars_transform.specs.Nullable.{null_alone, null_among, nullable_by, with_nullable, nulls_in}
-use Rattle.schemars_transform.specs.Unevaluated.{with_names, object_with_names, properties_made, properties_named, property_names}
-use Rattle.schemars_transform.specs.Unevaluated.{with_properties, closed_by, unevaluated_as_additional}
+use Rattle.schemars_transform.specs.Built.{bool_rules, referring, reference_moved, without_siblings, first_as_example, with_single_example, value_as_enum, const_as_enum, old_items_moved, prefix_moved, prefix_as_items}
+use Rattle.schemars_transform.specs.Nullable.{all_null, is_null_name, without_null, one_or_list, type_without_null, null_taken_out, null_alone, null_among, nullable_by, with_nullable, nulls_in}
+use Rattle.schemars_transform.specs.Unevaluated.{with_names, object_with_names, properties_made, properties_named, property_names, with_properties, closed_by, unevaluated_as_additional}
 use Rattle.schemars_transform.specs.Formats.{format_rules, format_stays}
 use Rattle.schemars_transform.specs.BuiltIn.{function_of, made_by, value_made_by, each_made_by}
 use Rattle.schemars_transform.specs.declared.gen_transform.GenTransform.{GenTransform}
-use Rattle.schemars_transform.specs.declared.gen_transform.GenTransform.TheVariants.{ReplaceBoolSchemas, RemoveRefSiblings}
-use Rattle.schemars_transform.specs.declared.gen_transform.GenTransform.TheVariants.{SetSingleExample}
-use Rattle.schemars_transform.specs.declared.gen_transform.GenTransform.TheVariants.{ReplaceConstValue, ReplacePrefixItems, AddNullable}
-use Rattle.schemars_transform.specs.declared.gen_transform.GenTransform.TheVariants.{ReplaceUnevaluatedProperties, RestrictFormats, Own}
+use Rattle.schemars_transform.specs.declared.gen_transform.GenTransform.TheVariants.{ReplaceBoolSchemas, RemoveRefSiblings, SetSingleExample, ReplaceConstValue, ReplacePrefixItems, AddNullable, ReplaceUnevaluatedProperties, RestrictFormats, Own}
 use Rattle.schemars_transform.specs.declared.built_in.nullable.AddNullable as options
-use Rattle.schemars_headline.proofs.Floats.{IsWhole, whole_members_in, whole_without, whole_with_item, whole_member}
-use Rattle.schemars_headline.proofs.Floats.{whole_replaced, whole_changed_at}
+use Rattle.schemars_headline.proofs.Floats.{IsWhole, whole_members_in, whole_without, whole_with_item, whole_member, whole_replaced, whole_changed_at}
 use Rattle.std.proofs.lemmas.Bool.{or_parts}
 
 -- ---- a rewrite whose change leaves numbers whole

@@ -1,6 +1,5 @@
 -- The fields of types of one's own: that their numbers are those of rows.
-use Rattle.std.proofs.Common.{◌≡◌, ◌<◌, ℕ, List, [], ◌∷◌, ◌++◌, Bool, true, false, Some, None, cond, length, find, nat_le}
-use Rattle.std.proofs.Common.{map, refl, sym, subst, ap, ◌∙◌, append-nil, append_assoc}
+use Rattle.std.proofs.Common.{◌≡◌, ◌<◌, ℕ, List, [], ◌∷◌, ◌++◌, Bool, true, false, Some, None, cond, length, find, nat_le, map, refl, sym, subst, ap, ◌∙◌, append-nil, append_assoc}
 use Rattle.schemars_schema.specs.Json.{Text}
 use Rattle.schemars_shapes.specs.Shape.{Entry, Field, Flattened, Payload, bare_fields, no_payload, newtype_payload, tuple_payload, struct_payload, Required, Variant, payload_numbers, variant_numbers}
 use Rattle.schemars_types.specs.declared.error.TypesError.{TypesError}
@@ -11,8 +10,7 @@ use Rattle.schemars_impls.specs.Fields.{FieldsAreKnown, NumbersAreKnown, PartsAr
 use Rattle.schemars_impls.specs.Keeps.{Keeps, KeepsRows}
 use Rattle.schemars_impls.proofs.Keeping.{keeps-refl, keeps-same, numbers-kept, known-one, place_of-kept, reserved_keeps}
 use Rattle.schemars_impls.proofs.Placing.{known_more, place_added, adds_none, adds_then, adds_placed}
-use Rattle.schemars_impls.proofs.Composing.{keeps_to_refl, keeps_to_part, refuses_memory, refuses_part, describes_none, describes_then}
-use Rattle.schemars_impls.proofs.Composing.{part_memory, part_refuses, rows_none, rows_then}
+use Rattle.schemars_impls.proofs.Composing.{keeps_to_refl, keeps_to_part, refuses_memory, refuses_part, describes_none, describes_then, part_memory, part_refuses, rows_none, rows_then}
 use Rattle.schemars_impls.proofs.OwnRows.{self_reserved, reserve_follows, numbers_memory, numbers_unknown, part_placed, part_number, placed_number, through_none, through_then, map_follows, map_refuses, row_of_keeps}
 
 -- no fields, and fields in a table that keeps its rows

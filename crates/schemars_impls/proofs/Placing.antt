@@ -1,6 +1,5 @@
 -- The numbers of several parts, one after another.
-use Rattle.std.proofs.Common.{◌≡◌, ℕ, List, [], ◌∷◌, ◌++◌, Bool, true, false, Option, Some, None, cond, length, find, nat_le}
-use Rattle.std.proofs.Common.{option_map, option_and_then, refl, ap, sym, ◌∙◌, subst, append_assoc, append-nil}
+use Rattle.std.proofs.Common.{◌≡◌, ℕ, List, [], ◌∷◌, ◌++◌, Bool, true, false, Option, Some, None, cond, length, find, nat_le, option_map, option_and_then, refl, ap, sym, ◌∙◌, subst, append_assoc, append-nil}
 use Rattle.schemars_schema.specs.Json.{Text}
 use Rattle.schemars_types.specs.Rows.{Row, place_of}
 use Rattle.schemars_impls.specs.Describes.{places_of, Adds}

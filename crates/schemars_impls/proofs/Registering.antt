@@ -1,6 +1,5 @@
 -- What `register` makes of a table, in the words of its clauses.
-use Rattle.std.proofs.Common.{◌≡◌, ◌<◌, ℕ, zero, suc, List, [], ◌∷◌, ◌++◌, Bool, true, false, not, Option, Some, None, length, nat_le, find}
-use Rattle.std.proofs.Common.{is_some, option_map, option_and_then, refl, ap, sym, ◌∙◌, subst, arith, if◌then◌else◌}
+use Rattle.std.proofs.Common.{◌≡◌, ◌<◌, ℕ, zero, suc, List, [], ◌∷◌, ◌++◌, Bool, true, false, not, Option, Some, None, length, nat_le, find, is_some, option_map, option_and_then, refl, ap, sym, ◌∙◌, subst, arith, if◌then◌else◌}
 use Rattle.std.specs.Option.{option_map_or}
 use Rattle.schemars_schema.specs.Json.{Text}
 use Rattle.schemars_shapes.specs.Equality.{entry_eq}
@@ -12,13 +11,10 @@ use Rattle.schemars_types.specs.Rows.{Row, place_of, entry_at, id_at, name_at, r
 use Rattle.schemars_types.proofs.Registered.{place_of-below, nat_le-above}
 use Rattle.schemars_types.proofs.TableLemmas.{place_of-reserved, reserved-absent, place_of-defined, defined-same}
 use Rattle.schemars_impls.specs.Describes.{IsMade, IsDescribed, entry_under}
-use Rattle.schemars_impls.specs.Dictionary.{Told, Stage, Defined, Pending, Open, Dictionary, staged, IsNamed, IsEntryOf, IsAtStage}
-use Rattle.schemars_impls.specs.Dictionary.{Follows, TypeRow, IsTold, IsFree, IsLeft, IsTypeIn, IsIn, IsInPart, MayRefuse, KeepsTo, RefusesAs}
-use Rattle.schemars_impls.specs.Dictionary.{Describes, RefusesPart, Completes}
+use Rattle.schemars_impls.specs.Dictionary.{Told, Stage, Defined, Pending, Open, Dictionary, staged, IsNamed, IsEntryOf, IsAtStage, Follows, TypeRow, IsTold, IsFree, IsLeft, IsTypeIn, IsIn, IsInPart, MayRefuse, KeepsTo, RefusesAs, Describes, RefusesPart, Completes}
 use Rattle.schemars_impls.specs.Keeps.{Keeps, AllContinue}
 use Rattle.schemars_impls.proofs.Keeping.{place_of-kept, defined-there, undefined-reserved, defined-reserved}
-use Rattle.schemars_impls.proofs.Following.{made-kept, name_at-last, staged-same, restaged, restaged-twice, follows-open, follows-reserved}
-use Rattle.schemars_impls.proofs.Following.{follows-defined, follows-settled}
+use Rattle.schemars_impls.proofs.Following.{made-kept, name_at-last, staged-same, restaged, restaged-twice, follows-open, follows-reserved, follows-defined, follows-settled}
 
 pub is_some-map : {A B : Type 0} (f : A → B) (o : Option A) → is_some (option_map f o) ≡ is_some o
 is_some-map f None = refl

@@ -2,8 +2,7 @@
 use Rattle.std.specs.Prelude.{ℕ, ◌==◌, Bool, true, false, List, [], ◌∷◌}
 use Rattle.schemars_schema.specs.Json.{Text}
 use Rattle.schemars_shapes.specs.Shape.{in_place, option, seq, set, tuple, map_from}
-use Rattle.schemars_types.specs.Names.{option_id, option_name, seq_id, seq_name, set_id, set_name, array_id, array_name}
-use Rattle.schemars_types.specs.Names.{tuple_id, tuple_name, map_id, map_name}
+use Rattle.schemars_types.specs.Names.{option_id, option_name, seq_id, seq_name, set_id, set_name, array_id, array_name, tuple_id, tuple_name, map_id, map_name}
 use Rattle.schemars_impls.specs.Describes.{OfAll, OfArray}
 use Rattle.schemars_impls.specs.Dictionary.{Dictionary, TypeRow, IsIn, of_one, of_two}
 

@@ -1,12 +1,10 @@
 -- Rows that a type of one's own is made of besides those of other types: its own, and those that are made of it.
-use Rattle.std.specs.Prelude.{◌≡◌, ◌⊎◌, ◌++◌, ◌<◌, ℕ, false, List, [], ◌∷◌, Option, Some, None, IsSome, is_some, length, find, nat_le}
-use Rattle.std.specs.Prelude.{option_map, if◌then◌else◌}
+use Rattle.std.specs.Prelude.{◌≡◌, ◌⊎◌, ◌++◌, ◌<◌, ℕ, false, List, [], ◌∷◌, Option, Some, None, IsSome, is_some, length, find, nat_le, option_map, if◌then◌else◌}
 use Rattle.schemars_schema.specs.Json.{Text}
 use Rattle.schemars_shapes.specs.Shape.{Entry, in_place, option, seq, set, array_of, map_from}
 use Rattle.schemars_types.specs.declared.error.TypesError.{TypesError}
 use Rattle.schemars_types.specs.declared.error.TypesError.TheVariants.{OutOfMemory, UnknownType}
-use Rattle.schemars_types.specs.Names.{option_id, option_name, seq_id, seq_name, set_id, set_name, array_id, array_name}
-use Rattle.schemars_types.specs.Names.{map_id, map_name}
+use Rattle.schemars_types.specs.Names.{option_id, option_name, seq_id, seq_name, set_id, set_name, array_id, array_name, map_id, map_name}
 use Rattle.schemars_types.specs.Rows.{Row, place_of, name_at, reserved}
 use Rattle.schemars_impls.specs.Describes.{Unsaid}
 use Rattle.schemars_impls.specs.Dictionary.{Dictionary, Told, TypeRow, IsIn, IsTold, IsNamed, IsLeft}

@@ -5,8 +5,7 @@ ghost use Rattle.schemars_shapes.specs.Shape.{entry_of, shape_of, without_notes}
 ghost use Rattle.schemars_types.specs.Rows.{unknown_in};
 ghost use Rattle.schemars_impls.specs.Keeps.{Keeps, KeepsRows};
 ghost use Rattle.schemars_impls.specs.Describes.{entry_under, IsMade};
-ghost use Rattle.schemars_impls.specs.Dictionary.{TypeRow, Describes, RefusesPart};
-ghost use Rattle.schemars_impls.specs.Dictionary.{IsAdded, IsIn, KeepsTo, Completes, RefusesType};
+ghost use Rattle.schemars_impls.specs.Dictionary.{TypeRow, Describes, RefusesPart, IsAdded, IsIn, KeepsTo, Completes, RefusesType};
 
 use schemars_types::{Shape, TypeEntry, TypeNo, Types, TypesError};
 use std::alloc::{AllocError, Global};

@@ -2,8 +2,7 @@
 //! descriptions.
 ghost use Rattle.std.specs.Prelude.{◌≡◌, List, OnErr, OnOk, map};
 ghost use Rattle.serde_json.specs.View.{view};
-ghost use Rattle.schemars_shapes.specs.Shape.{entry_of, field_of, internal_variant_of, shape_of};
-ghost use Rattle.schemars_shapes.specs.Shape.{variant_of};
+ghost use Rattle.schemars_shapes.specs.Shape.{entry_of, field_of, internal_variant_of, shape_of, variant_of};
 ghost use Rattle.schemars_types.specs.Rows.{Row};
 ghost use Rattle.schemars_impls.specs.Fields.{FieldsAreKnown, VariantsAreKnown};
 ghost use Rattle.schemars_impls.specs.Notes.{at_last, noted_entry, noted_field, noted_variant};

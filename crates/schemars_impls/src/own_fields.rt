@@ -9,9 +9,7 @@ ghost use Rattle.schemars_types.specs.Rows.{place_of};
 ghost use Rattle.schemars_impls.specs.Dictionary.{KeepsTo, RefusesAs};
 ghost use Rattle.schemars_impls.specs.Fields.{plain_field, FieldsAreKnown};
 ghost use Rattle.schemars_impls.specs.Keeps.{Keeps};
-ghost use Rattle.schemars_impls.specs.OwnRows.{HasArrayOf, HasMapOf, HasOptionOf, HasSeqOf};
-ghost use Rattle.schemars_impls.specs.OwnRows.{HasSetOf, IsArrayOf, IsMapOf, IsOptionOf};
-ghost use Rattle.schemars_impls.specs.OwnRows.{IsReserved, IsSeqOf, IsSetOf};
+ghost use Rattle.schemars_impls.specs.OwnRows.{HasArrayOf, HasMapOf, HasOptionOf, HasSeqOf, HasSetOf, IsArrayOf, IsMapOf, IsOptionOf, IsReserved, IsSeqOf, IsSetOf};
 
 use crate::fields::push_field;
 use crate::law::JsonSchema;

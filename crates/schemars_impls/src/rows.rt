@@ -10,10 +10,7 @@ ghost use Rattle.schemars_types.specs.Names.{array_id, map_id, map_name};
 ghost use Rattle.schemars_types.specs.Rows.{name_at, place_of, reserved};
 ghost use Rattle.schemars_impls.specs.Dictionary.{KeepsTo, RefusesAs};
 ghost use Rattle.schemars_impls.specs.Keeps.{Keeps};
-ghost use Rattle.schemars_impls.specs.OwnRows.{HasArrayOf, HasMapOf, HasOptionOf, HasRowOf};
-ghost use Rattle.schemars_impls.specs.OwnRows.{HasSeqOf, HasSetOf};
-ghost use Rattle.schemars_impls.specs.OwnRows.{IsArrayOf, IsMapOf, IsNumber, IsOptionOf};
-ghost use Rattle.schemars_impls.specs.OwnRows.{IsReserved, IsSeqOf, IsSetOf};
+ghost use Rattle.schemars_impls.specs.OwnRows.{HasArrayOf, HasMapOf, HasOptionOf, HasRowOf, HasSeqOf, HasSetOf, IsArrayOf, IsMapOf, IsNumber, IsOptionOf, IsReserved, IsSeqOf, IsSetOf};
 
 use crate::impls::maps::map_id_to;
 use crate::law::{JsonSchema, register};

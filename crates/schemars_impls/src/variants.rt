@@ -1,17 +1,11 @@
 //! The variants of a user-defined enum, which are added one after another.
 #![tactic(auto, using(crate::proofs::OwnTypes::adding))]
 
-ghost use Rattle.std.specs.Prelude.{◌≡◌, ◌++◌, List, [], ◌∷◌, None, Some, IfErr, OnErr, OnOk};
-ghost use Rattle.std.specs.Prelude.{false, map, option_map, string_bytes};
-ghost use Rattle.schemars_shapes.specs.Shape.{Shape as shape, bare_fields, entry_of, field_of};
-ghost use Rattle.schemars_shapes.specs.Shape.{internal_payload_of, internal_variant_of};
-ghost use Rattle.schemars_shapes.specs.Shape.{newtype_payload, no_payload};
-ghost use Rattle.schemars_shapes.specs.Shape.{payload_of, shape_of, struct_payload};
-ghost use Rattle.schemars_shapes.specs.Shape.{tuple_payload, variant_of, without_notes};
+ghost use Rattle.std.specs.Prelude.{◌≡◌, ◌++◌, List, [], ◌∷◌, None, Some, IfErr, OnErr, OnOk, false, map, option_map, string_bytes};
+ghost use Rattle.schemars_shapes.specs.Shape.{Shape as shape, bare_fields, entry_of, field_of, internal_payload_of, internal_variant_of, newtype_payload, no_payload, payload_of, shape_of, struct_payload, tuple_payload, variant_of, without_notes};
 ghost use Rattle.schemars_types.specs.Rows.{Row, place_of, unknown_in};
 ghost use Rattle.schemars_impls.specs.Dictionary.{IsIn, KeepsTo, RefusesAs};
-ghost use Rattle.schemars_impls.specs.Fields.{bare_variant, FieldsAreKnown, NumbersAreKnown};
-ghost use Rattle.schemars_impls.specs.Fields.{VariantsAreKnown};
+ghost use Rattle.schemars_impls.specs.Fields.{bare_variant, FieldsAreKnown, NumbersAreKnown, VariantsAreKnown};
 ghost use Rattle.schemars_impls.specs.Keeps.{Keeps};
 ghost use Rattle.schemars_impls.specs.OwnRows.{RefusesNumbers};
 

@@ -7,11 +7,7 @@ use Rattle.serde_json.specs.Find.{get_member}
 use Rattle.schemars_schema.specs.Json.{Text}
 use Rattle.schemars_text.specs.OrderedText.{is_listed}
 use Rattle.schemars_schema.specs.Verdict.{Verdict, Yes, No, Open, both, all_of}
-use Rattle.schemars_schema.specs.Acceptance.{Dialect, Context, Raw, Readings, keywords, all_keywords, items_say}
-use Rattle.schemars_schema.specs.Acceptance.{reference_says, type_says, const_says, enum_says}
-use Rattle.schemars_schema.specs.Acceptance.{each_says}
-use Rattle.schemars_schema.specs.Acceptance.{judged_beside, has_schema, reference_alone, is_reference}
-use Rattle.schemars_schema.specs.Acceptance.{judge, read_data, read_members, reading_at}
+use Rattle.schemars_schema.specs.Acceptance.{Dialect, Context, Raw, Readings, keywords, all_keywords, items_say, reference_says, type_says, const_says, enum_says, each_says, judged_beside, has_schema, reference_alone, is_reference, judge, read_data, read_members, reading_at}
 use Rattle.schemars_schema.proofs.Objects.{reading_at-members}
 use Rattle.schemars_laws.proofs.Keywords.{counts_say, members_say, last_say, fits-all, left_out, AgreeOutside, left_out-agree}
 use Rattle.schemars_laws.proofs.Seen.{judge_ext}

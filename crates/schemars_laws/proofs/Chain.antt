@@ -13,8 +13,7 @@ use Rattle.schemars_transform.specs.Built.{bool_rules, without_siblings, with_si
 use Rattle.schemars_transform.specs.declared.built_in.bool_schemas.ReplaceBoolSchemas.{ReplaceBoolSchemas}
 use Rattle.schemars_transform.specs.Unevaluated.{unevaluated_as_additional}
 use Rattle.schemars_laws.specs.Everywhere.{Everywhere}
-use Rattle.schemars_laws.specs.Classes.{HasPlainItems, HasPlainReference, HasPlainType, HasNoUnevaluated, IsTypes, IsConstAlone}
-use Rattle.schemars_laws.specs.Classes.{without_unevaluated, with_nullable_read, alone_by, without_const}
+use Rattle.schemars_laws.specs.Classes.{HasPlainItems, HasPlainReference, HasPlainType, HasNoUnevaluated, IsTypes, IsConstAlone, without_unevaluated, with_nullable_read, alone_by, without_const}
 use Rattle.schemars_laws.specs.Names.{HasPlainUnevaluated, NamedBy}
 use Rattle.schemars_laws.specs.Paths.{IsDefinitionAt, EachEverywhere, each_changed, components, components_of}
 use Rattle.schemars_laws.specs.Stages.{AreSomeTypes, Stands, IsForOpenApi, AfterNullable, AfterSiblings, Anything}

@@ -13,9 +13,8 @@ use Rattle.schemars_transform.specs.Built.{reference_moved, without_siblings, re
 use Rattle.schemars_transform.specs.Unevaluated.{unevaluated_as_additional, closed_by, replace_unevaluated_properties}
 use Rattle.schemars_laws.specs.Everywhere.{Everywhere, asked, asked_of_keywords}
 use Rattle.schemars_laws.specs.Names.{IsName, IsNamedBy, HasNameOf, Named, IsMap}
-use Rattle.schemars_laws.specs.Classes.{IsOnce, HasPlainItems, HasPlainReference, HasNoUnevaluated, IsDraft07}
+use Rattle.schemars_laws.specs.Classes.{IsOnce, HasPlainItems, HasPlainReference, HasNoUnevaluated, IsDraft07, alone_by, without_unevaluated}
 use Rattle.schemars_laws.specs.Laws.{MovesAcceptance, for_draft07, for_draft2019_09}
-use Rattle.schemars_laws.specs.Classes.{alone_by, without_unevaluated}
 use Rattle.schemars_laws.proofs.Laws.{replace_unevaluated_properties-at, remove_ref_siblings-at, replace_prefix_items-at, other, none}
 use Rattle.schemars_laws.proofs.Looked.{change_rules, walked, items-walked, changed-document}
 use Rattle.schemars_laws.proofs.Siblings.{schema-siblings, definitions-stay as siblings-stay, moved_members, get-moved}

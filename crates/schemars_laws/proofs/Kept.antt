@@ -8,8 +8,7 @@ use Rattle.serde_json.specs.Find.{get_member}
 use Rattle.schemars_schema.specs.Json.{Text}
 use Rattle.schemars_schema.specs.SchemaData.{IsSchema}
 use Rattle.schemars_schema.specs.References.{Place, NoSchemas, OneSchema, SchemaList, SchemaOrList, SchemasByName, place_under}
-use Rattle.schemars_schema.specs.Acceptance.{Context, Raw, Readings, Reading, judge, keywords, truth_value, all_named}
-use Rattle.schemars_schema.specs.Acceptance.{read_data, read_items, read_members, reading_at}
+use Rattle.schemars_schema.specs.Acceptance.{Context, Raw, Readings, Reading, judge, keywords, truth_value, all_named, read_data, read_items, read_members, reading_at}
 use Rattle.schemars_schema.proofs.Objects.{schema-judge, reading_at-members}
 use Rattle.schemars_walk.specs.Rewritten.{Rules, form_at, forms, in_items, in_names, in_keywords}
 use Rattle.schemars_walk.proofs.KeywordLaws.{keywords_get}

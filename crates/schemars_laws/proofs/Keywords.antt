@@ -5,11 +5,7 @@ use Rattle.serde_json.specs.Data.{Data}
 use Rattle.schemars_schema.specs.Json.{Text}
 use Rattle.schemars_text.specs.OrderedText.{is_listed}
 use Rattle.schemars_schema.specs.Verdict.{Verdict, all_of, any_of, one_of}
-use Rattle.schemars_schema.specs.Acceptance.{Context, Raw, Readings, all_keywords, items_say, judged_beside, is_covered}
-use Rattle.schemars_schema.specs.Acceptance.{reference_says, type_says, const_says, enum_says, minimum_says, maximum_says}
-use Rattle.schemars_schema.specs.Acceptance.{min_length_says, max_length_says, pattern_says, min_items_says, max_items_says}
-use Rattle.schemars_schema.specs.Acceptance.{unique_items_says, required_says, properties_say, pattern_properties_say}
-use Rattle.schemars_schema.specs.Acceptance.{additional_properties_say, each_says, not_says, unevaluated_properties_say}
+use Rattle.schemars_schema.specs.Acceptance.{Context, Raw, Readings, all_keywords, items_say, judged_beside, is_covered, reference_says, type_says, const_says, enum_says, minimum_says, maximum_says, min_length_says, max_length_says, pattern_says, min_items_says, max_items_says, unique_items_says, required_says, properties_say, pattern_properties_say, additional_properties_say, each_says, not_says, unevaluated_properties_say}
 
 -- about numbers and texts, and about lists as wholes
 abbrev pub counts_say : Context → Raw → Data → List Verdict

@@ -14,8 +14,7 @@ use Rattle.schemars_walk.proofs.KeywordLaws.{keywords_get}
 use Rattle.schemars_laws.specs.Names.{IsMap}
 use Rattle.schemars_laws.specs.Classes.{IsOnce, IsSchemaList, IsNoList, HasPlainItems}
 use Rattle.schemars_laws.proofs.Moved.{Moves}
-use Rattle.schemars_laws.proofs.Walking.{raw-walked as raw-walked_by, none-walked as none-walked_by, once-walked as once-walked_by, list-walked as list-walked_by}
-use Rattle.schemars_laws.proofs.Walking.{no_list-walked as no_list-walked_by, items-walked as items-walked_by}
+use Rattle.schemars_laws.proofs.Walking.{raw-walked as raw-walked_by, none-walked as none-walked_by, once-walked as once-walked_by, list-walked as list-walked_by, no_list-walked as no_list-walked_by, items-walked as items-walked_by}
 
 pub without-other : (k l : Text) (ms : Members) → l ≢ k → get_member l (without k ms) ≡ get_member l ms
 without-other k l ms apart = get_member-without l k ms (unequal l k apart)

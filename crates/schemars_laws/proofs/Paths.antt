@@ -1,6 +1,5 @@
 -- Where references lead in documents whose definitions stand at a path, and laws for those under components.
-use Rattle.std.proofs.Common.{◌≡◌, inl, inr, Option, Some, None, Bool, true, false, Ordering, Less, Equal, Greater, nat_cmp, codes}
-use Rattle.std.proofs.Common.{option_map, refl, sym, ap, ◌∙◌, subst}
+use Rattle.std.proofs.Common.{◌≡◌, inl, inr, Option, Some, None, Bool, true, false, Ordering, Less, Equal, Greater, nat_cmp, codes, option_map, refl, sym, ap, ◌∙◌, subst}
 use Rattle.std.specs.Prelude.{option_and_then, if◌then◌else◌}
 use Rattle.std.specs.Cmp.Lexicographic.{slice_cmp}
 use Rattle.std.specs.Ordering.{match_ordering}

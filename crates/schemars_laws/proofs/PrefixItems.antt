@@ -8,8 +8,7 @@ use Rattle.schemars_schema.specs.Json.{Text}
 use Rattle.schemars_schema.specs.SchemaData.{IsSchema}
 use Rattle.schemars_schema.specs.Edits.{without}
 use Rattle.schemars_schema.specs.Verdict.{Verdict}
-use Rattle.schemars_schema.specs.Acceptance.{Dialect, Context, Judge, judge, keywords, truth_value, read_data, read_items, read_members, reading_at}
-use Rattle.schemars_schema.specs.Acceptance.{items_say}
+use Rattle.schemars_schema.specs.Acceptance.{Dialect, Context, Judge, judge, keywords, truth_value, read_data, read_items, read_members, reading_at, items_say}
 use Rattle.schemars_schema.proofs.Objects.{schema-judge}
 use Rattle.schemars_transform.specs.Built.{prefix_as_items, prefix_moved, old_items_moved}
 use Rattle.schemars_laws.specs.Classes.{IsOnce, AreSchemas, IsSchemaList, IsNoList, HasPlainItems, by_items, by_prefix_items}

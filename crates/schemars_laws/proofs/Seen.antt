@@ -7,12 +7,8 @@ use Rattle.serde_json.specs.Data.{Data, null, boolean, number, string, array, ob
 use Rattle.schemars_schema.specs.Json.{Text}
 use Rattle.schemars_schema.specs.Verdict.{Verdict, all_of, any_of, one_of}
 use Rattle.schemars_schema.specs.References.{Place, NoSchemas, OneSchema, SchemaList, SchemaOrList, SchemasByName, place_under}
-use Rattle.schemars_schema.specs.Acceptance.{Context, Raw, Readings, Reading, Judge, Patterns, keywords, all_keywords, items_say}
-use Rattle.schemars_schema.specs.Acceptance.{properties_say, pattern_properties_say, additional_properties_say, each_says, not_says}
+use Rattle.schemars_schema.specs.Acceptance.{Context, Raw, Readings, Reading, Judge, Patterns, keywords, all_keywords, items_say, properties_say, pattern_properties_say, additional_properties_say, each_says, not_says, reference_says, reference_alone, judged_by, judged_by_reference, unevaluated_properties_say, judged_beside, is_covered, has_schema, judged_by_list}
 use Rattle.schemars_laws.proofs.Keywords.{all_say, fits-all}
-use Rattle.schemars_schema.specs.Acceptance.{reference_says}
-use Rattle.schemars_schema.specs.Acceptance.{reference_alone, judged_by, judged_by_reference}
-use Rattle.schemars_schema.specs.Acceptance.{unevaluated_properties_say, judged_beside, is_covered, has_schema, judged_by_list}
 
 -- the place under a keyword whose schemas are read, whether a walk reaches them or not
 abbrev pub place_read : Bool → Text → Place

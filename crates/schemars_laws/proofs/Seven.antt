@@ -11,8 +11,7 @@ use Rattle.schemars_schema.specs.References.{SchemaOrList}
 use Rattle.schemars_schema.specs.Acceptance.{draft2020_12}
 use Rattle.schemars_text.proofs.Members.{differ}
 use Rattle.schemars_walk.specs.Rewritten.{in_keywords}
-use Rattle.schemars_transform.specs.Built.{bool_rules, reference_moved, without_siblings, first_as_example, with_single_example}
-use Rattle.schemars_transform.specs.Built.{value_as_enum, const_as_enum, prefix_as_items, prefix_moved, old_items_moved}
+use Rattle.schemars_transform.specs.Built.{bool_rules, reference_moved, without_siblings, first_as_example, with_single_example, value_as_enum, const_as_enum, prefix_as_items, prefix_moved, old_items_moved}
 use Rattle.schemars_transform.specs.Nullable.{all_null, nulls_in, nullable_by, null_taken_out, type_without_null}
 use Rattle.schemars_transform.specs.Unevaluated.{unevaluated_as_additional, closed_by}
 use Rattle.schemars_laws.specs.Everywhere.{asked, demanded, asked_of_keywords}
@@ -25,8 +24,7 @@ use Rattle.schemars_laws.proofs.BoolSchemas.{bool_schemas}
 use Rattle.schemars_laws.proofs.Plain.{Alike, items-alike, alike-without}
 use Rattle.schemars_laws.proofs.Preserved.{Preserves, asked-without, asked-put, asked-replaced, asked-get}
 use Rattle.schemars_laws.specs.Stages.{IsTextWith, Stands, IsForOpenApi, AfterNullable, AfterSiblings, Anything}
-use Rattle.schemars_laws.proofs.Editing.{alike-put, alike-replaced, alike-moved, alike-then, alike-same, asked-moved, once-moved, gone-moved, once-put, absent-once}
-use Rattle.schemars_laws.proofs.Editing.{type-alike, values-alike, const-alike, stands-alike}
+use Rattle.schemars_laws.proofs.Editing.{alike-put, alike-replaced, alike-moved, alike-then, alike-same, asked-moved, once-moved, gone-moved, once-put, absent-once, type-alike, values-alike, const-alike, stands-alike}
 use Rattle.schemars_laws.proofs.Steps.{goes-down-here, by_change, place-bool, first-walked, nullable-walked, siblings-walked, stands-walked}
 
 module _ (N : Text → Type 0) where

@@ -14,12 +14,7 @@ use Rattle.schemars_text.specs.OrderedText.{is_listed}
 use Rattle.schemars_schema.specs.SchemaData.{IsSchema}
 use Rattle.schemars_schema.specs.Edits.{without, replaced, with_item, with_last, changed_at}
 use Rattle.schemars_schema.specs.Verdict.{Verdict, Yes, No, Open, both, all_of, is_yes}
-use Rattle.schemars_schema.specs.Acceptance.{Dialect, Context, Raw, Readings, Judge, judge, keywords, all_keywords, reference_alone, is_reference}
-use Rattle.schemars_schema.specs.Acceptance.{truth_value, read_data, read_items, read_members, reading_at, judged_by_reference, judged_by, judged_by_list}
-use Rattle.schemars_schema.specs.Acceptance.{judged_by_some, judged_beside, both_some}
-use Rattle.schemars_schema.specs.Acceptance.{reference_says, type_says, const_says, enum_says, items_say}
-use Rattle.schemars_schema.specs.Acceptance.{has_schema, is_covered}
-use Rattle.schemars_schema.specs.Acceptance.{each_says}
+use Rattle.schemars_schema.specs.Acceptance.{Dialect, Context, Raw, Readings, Judge, judge, keywords, all_keywords, reference_alone, is_reference, truth_value, read_data, read_items, read_members, reading_at, judged_by_reference, judged_by, judged_by_list, judged_by_some, judged_beside, both_some, reference_says, type_says, const_says, enum_says, items_say, has_schema, is_covered, each_says}
 use Rattle.schemars_schema.proofs.Objects.{schema-judge, reading_at-members, judge-agree}
 use Rattle.schemars_transform.specs.Built.{referring, reference_moved, without_siblings}
 use Rattle.schemars_laws.proofs.Keywords.{counts_say, members_say, last_say, fits-all, left_out, AgreeOutside, left_out-agree}
@@ -30,8 +25,7 @@ use Rattle.schemars_laws.proofs.Apart.{pulled, look_up}
 use Rattle.schemars_schema.proofs.Verdicts.{both-yes, both-assoc}
 use Rattle.schemars_schema.proofs.Silent.{items_none, const_none, unevaluated_none}
 use Rattle.schemars_text.proofs.Members.{differ, get_member-member, unequal}
-use Rattle.schemars_schema.proofs.Members.{get_member-replaced}
-use Rattle.schemars_schema.proofs.Members.{get_member-replaced_other}
+use Rattle.schemars_schema.proofs.Members.{get_member-replaced, get_member-replaced_other}
 use Rattle.schemars_laws.proofs.PrefixItems.{some-list}
 
 -- ---- `$ref` and `allOf` apart from the other keywords

@@ -8,8 +8,7 @@ use Rattle.serde_json.specs.Data.{Data, null, boolean, number, string, array, ob
 use Rattle.schemars_schema.specs.Json.{Text}
 use Rattle.schemars_text.specs.OrderedText.{is_listed}
 use Rattle.schemars_schema.specs.Verdict.{Verdict, verdict}
-use Rattle.schemars_schema.specs.Acceptance.{type_names, is_of_type, is_of_some_type, texts_in, are_type_names, when, types_in, is_null}
-use Rattle.schemars_schema.specs.Acceptance.{type_fits, type_says, where_some}
+use Rattle.schemars_schema.specs.Acceptance.{type_names, is_of_type, is_of_some_type, texts_in, are_type_names, when, types_in, is_null, type_fits, type_says, where_some}
 use Rattle.schemars_text.proofs.Members.{bytes_eq_comm}
 use Rattle.schemars_schema.specs.Edits.{holds_text}
 use Rattle.schemars_transform.specs.Nullable.{all_null, without_null, one_or_list, type_without_null}

@@ -9,8 +9,7 @@ use Rattle.schemars_schema.specs.Json.{Text}
 use Rattle.schemars_schema.specs.SchemaData.{IsSchema}
 use Rattle.schemars_schema.specs.Edits.{without}
 use Rattle.schemars_schema.specs.Verdict.{Yes}
-use Rattle.schemars_schema.specs.Acceptance.{Dialect, Context, Raw, Readings, judge, keywords, all_keywords, reference_alone, is_reference}
-use Rattle.schemars_schema.specs.Acceptance.{read_data, read_members, reading_at, unevaluated_properties_say, judged_beside, has_schema}
+use Rattle.schemars_schema.specs.Acceptance.{Dialect, Context, Raw, Readings, judge, keywords, all_keywords, reference_alone, is_reference, read_data, read_members, reading_at, unevaluated_properties_say, judged_beside, has_schema}
 use Rattle.schemars_schema.proofs.Objects.{judge-agree, reading_at-members}
 use Rattle.schemars_text.proofs.Members.{differ}
 use Rattle.schemars_transform.specs.Unevaluated.{unevaluated_as_additional, closed_by, property_names, properties_made, properties_named, object_with_names, with_names}

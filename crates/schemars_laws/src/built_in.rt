@@ -13,17 +13,9 @@ ghost use Rattle.schemars_transform.specs.declared.built_in.bool_schemas.Replace
 ghost use Rattle.schemars_transform.specs.Formats as formats;
 ghost use Rattle.schemars_transform.specs.declared.built_in.formats.RestrictFormats as restricts;
 ghost use Rattle.schemars_transform.specs.Unevaluated as unevaluated;
-ghost use Rattle.schemars_laws.specs.Classes.{IsConstAlone, HasPlainItems, HasPlainReference};
-ghost use Rattle.schemars_laws.specs.Classes.{HasPlainType, HasNoUnevaluated, IsDraft07};
-ghost use Rattle.schemars_laws.specs.Classes.{plain_nullable};
-ghost use Rattle.schemars_laws.specs.Classes.{without_const, with_const, by_items, by_prefix_items};
-ghost use Rattle.schemars_laws.specs.Classes.{alone_by, beside_by, with_nullable_read};
-ghost use Rattle.schemars_laws.specs.Classes.{without_nullable_read, with_unevaluated};
-ghost use Rattle.schemars_laws.specs.Classes.{without_unevaluated};
+ghost use Rattle.schemars_laws.specs.Classes.{IsConstAlone, HasPlainItems, HasPlainReference, HasPlainType, HasNoUnevaluated, IsDraft07, plain_nullable, without_const, with_const, by_items, by_prefix_items, alone_by, beside_by, with_nullable_read, without_nullable_read, with_unevaluated, without_unevaluated};
 ghost use Rattle.schemars_laws.specs.Stages.{Anything};
-ghost use Rattle.schemars_laws.specs.Laws.{MovesDrafts, MovesDocuments, MovesToOpenApi};
-ghost use Rattle.schemars_laws.specs.Laws.{LeavesReferencesAlone, for_draft07, for_draft2019_09};
-ghost use Rattle.schemars_laws.specs.Laws.{for_openapi3};
+ghost use Rattle.schemars_laws.specs.Laws.{MovesDrafts, MovesDocuments, MovesToOpenApi, LeavesReferencesAlone, for_draft07, for_draft2019_09, for_openapi3};
 
 /// Truth values as objects mean the same.
 pub fn replace_bool_schemas()

@@ -1,6 +1,5 @@
 -- What the document of an enum says whose values have name and content under two keys.
-use Rattle.std.proofs.Common.{◌≡◌, ℕ, zero, suc, ◌<◌, List, [], ◌∷◌, ◌++◌, map, Some, None, Bool, true, false, refl, sym}
-use Rattle.std.proofs.Common.{ap, ◌∙◌, subst, true≢false}
+use Rattle.std.proofs.Common.{◌≡◌, ℕ, zero, suc, ◌<◌, List, [], ◌∷◌, ◌++◌, map, Some, None, Bool, true, false, refl, sym, ap, ◌∙◌, subst, true≢false}
 use Rattle.std.specs.Prelude.{bytes_eq, if◌then◌else◌, is_some, ◌&&◌, not}
 use Rattle.std.specs.List.{list_any}
 use Rattle.std.specs.Option.{option_map_or}
@@ -14,18 +13,15 @@ use Rattle.schemars_schema.specs.Verdict.{verdict}
 use Rattle.schemars_schema.specs.Acceptance.{Context, judge, read_data}
 use Rattle.schemars_text.proofs.Members.{flipped}
 use Rattle.schemars_builders.specs.Variants.{unit_variant}
-use Rattle.schemars_shapes.specs.Shape.{Field, Flattened, Payload, Variant, no_payload, newtype_payload, tuple_payload, struct_payload}
-use Rattle.schemars_shapes.specs.Shape.{needed}
+use Rattle.schemars_shapes.specs.Shape.{Field, Flattened, Payload, Variant, no_payload, newtype_payload, tuple_payload, struct_payload, needed}
 use Rattle.schemars_types.specs.declared.contract.Contract.{Contract}
 use Rattle.schemars_types.specs.declared.contract.Contract.TheVariants.{Deserialize}
-use Rattle.schemars_types.specs.Meaning.{Choice, is_text, every_member, member_fits, tagged_fits, adjacent_fits, has_required}
-use Rattle.schemars_types.specs.Meaning.{has_fields, has_payload, has_tagged, has_beside, has_adjacent}
+use Rattle.schemars_types.specs.Meaning.{Choice, is_text, every_member, member_fits, tagged_fits, adjacent_fits, has_required, has_fields, has_payload, has_tagged, has_beside, has_adjacent}
 use Rattle.schemars_types.specs.Effective.{spread_payload, spread_variant}
 use Rattle.schemars_documents.specs.PlainTable.{AreDistinctVariants}
 use Rattle.schemars_documents.specs.Documents.{Keyword}
 use Rattle.schemars_documents.specs.Template.{Ask, Template, asks_of, asks_in, filled, filled_in}
-use Rattle.schemars_documents.specs.OfShape.{templates_of, payload_template, said, whole_template, adjacent_payload, adjacent_item}
-use Rattle.schemars_documents.specs.OfShape.{adjacent_template}
+use Rattle.schemars_documents.specs.OfShape.{templates_of, payload_template, said, whole_template, adjacent_payload, adjacent_item, adjacent_template}
 use Rattle.schemars_meaning.proofs.MapDocument.{map_document}
 use Rattle.schemars_meaning.proofs.MapKeywords.{keywords}
 use Rattle.schemars_meaning.proofs.Filling.{Fit, without_end, parted}

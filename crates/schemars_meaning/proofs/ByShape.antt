@@ -1,6 +1,5 @@
 -- What fills the template of a shape is the shape's document, shape by shape.
-use Rattle.std.proofs.Common.{◌≡◌, ℕ, zero, suc, List, [], ◌∷◌, ◌++◌, Bool, true, false, length, map, refl, sym, ap, ◌∙◌}
-use Rattle.std.proofs.Common.{subst, append-nil}
+use Rattle.std.proofs.Common.{◌≡◌, ℕ, zero, suc, List, [], ◌∷◌, ◌++◌, Bool, true, false, length, map, refl, sym, ap, ◌∙◌, subst, append-nil}
 use Rattle.std.specs.Prelude.{codes}
 use Rattle.serde_json.specs.Data.{Data, boolean, array, Items, no_items, item}
 use Rattle.serde_json.specs.View.{items_of}
@@ -14,20 +13,16 @@ use Rattle.schemars_shapes.specs.Shape.{Shape, Field, Flattened, Entry}
 use Rattle.schemars_types.specs.declared.contract.Contract.{Contract}
 use Rattle.schemars_types.specs.KeyOptions.{key_options}
 use Rattle.schemars_types.specs.Effective.{effective}
-use Rattle.schemars_documents.specs.Documents.{Keyword, typed, type_alone, int_document, non_zero_document, char_document}
-use Rattle.schemars_documents.specs.Documents.{formatted_document, count_at, empty_list_document, bytes_document}
-use Rattle.schemars_documents.specs.Documents.{schema_document, required_names, annotated}
+use Rattle.schemars_documents.specs.Documents.{Keyword, typed, type_alone, int_document, non_zero_document, char_document, formatted_document, count_at, empty_list_document, bytes_document, schema_document, required_names, annotated}
 use Rattle.schemars_documents.specs.PlainTable.{parts_in, ArePlainParts}
 use Rattle.schemars_documents.specs.Basis.{Basis}
 use Rattle.schemars_documents.specs.Template.{Ask, part, row, asks_of, asks_in, filled, filled_in}
-use Rattle.schemars_documents.specs.OfShape.{templates_of, tuple_template, template_of, entry_template, literal_document}
-use Rattle.schemars_documents.specs.OfShape.{values_template, external_template, untagged_template, internal_template}
+use Rattle.schemars_documents.specs.OfShape.{templates_of, tuple_template, template_of, entry_template, literal_document, values_template, external_template, untagged_template, internal_template, adjacent_template}
 use Rattle.schemars_documents.specs.Describes.{Fills}
 use Rattle.schemars_meaning.proofs.MapDocument.{map_document}
 use Rattle.schemars_meaning.proofs.Spread.{field_keywords, IsFieldsDocument, AnswersFields}
 use Rattle.schemars_meaning.proofs.Filling.{ArePartsWritten, Fit, rows_asked, parts_answered}
 use Rattle.schemars_meaning.proofs.Flattened.{struct_fills}
-use Rattle.schemars_documents.specs.OfShape.{adjacent_template}
 
 -- ---- lists
 

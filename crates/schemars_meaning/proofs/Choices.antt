@@ -5,13 +5,12 @@ use Rattle.serde_json.specs.Data.{Data, null, boolean, number, string, array, ob
 use Rattle.schemars_schema.specs.Verdict.{verdict, opposite, none_of, one_of}
 use Rattle.serde_json.specs.Find.{as_str}
 use Rattle.std.specs.List.{list_any}
-use Rattle.schemars_builders.specs.NullLaw.{text_items}
+use Rattle.schemars_builders.specs.NullLaw.{text_items, context2020_12}
 use Rattle.schemars_schema.specs.Json.{Text, IsJson, json_eq, alike, is_among}
 use Rattle.schemars_schema.specs.SchemaData.{IsSchema}
 use Rattle.schemars_schema.specs.Acceptance.{Patterns, Judge, Context, judge, read_data, read_items, all_keywords}
 use Rattle.schemars_schema.proofs.Verdicts.{both-yes}
 use Rattle.schemars_schema.proofs.Objects.{schema-judge}
-use Rattle.schemars_builders.specs.NullLaw.{context2020_12}
 use Rattle.schemars_builders.specs.Variants.{unit_variant}
 use Rattle.schemars_shapes.specs.Shape as shape
 use Rattle.schemars_shapes.specs.Shape.{Shape, needed}
@@ -22,8 +21,7 @@ use Rattle.schemars_types.specs.OpenStructs.{no_choices}
 use Rattle.serde_json.specs.View.{items_of}
 use Rattle.schemars_types.specs.KeyOptions.{key_options}
 use Rattle.schemars_documents.specs.Basis.{Basis}
-use Rattle.schemars_meaning.proofs.ByShape.{one_of_document, any_of_document, units_document, member_document, range_document}
-use Rattle.schemars_meaning.proofs.ByShape.{result_document, bound_document, either_document}
+use Rattle.schemars_meaning.proofs.ByShape.{one_of_document, any_of_document, units_document, member_document, range_document, result_document, bound_document, either_document}
 use Rattle.schemars_meaning.proofs.Verdicts.{none_verdict, one_verdict}
 use Rattle.schemars_meaning.proofs.Structs.{struct_says}
 

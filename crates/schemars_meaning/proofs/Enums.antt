@@ -9,23 +9,18 @@ use Rattle.schemars_schema.specs.Acceptance.{Patterns, Judge, Context, judge, re
 use Rattle.schemars_schema.specs.Annotations.{AreNotes}
 use Rattle.schemars_builders.specs.NullLaw.{context2020_12}
 use Rattle.schemars_builders.proofs.Nulls.{IsReady, AreReady}
-use Rattle.schemars_shapes.specs.Shape.{Field, Flattened, Fields, Payload, Variant, no_payload, newtype_payload, tuple_payload}
-use Rattle.schemars_shapes.specs.Shape.{struct_payload}
+use Rattle.schemars_shapes.specs.Shape.{Field, Flattened, Fields, Payload, Variant, no_payload, newtype_payload, tuple_payload, struct_payload}
 use Rattle.schemars_types.specs.Effective.{spread_variant}
 use Rattle.schemars_types.specs.declared.contract.Contract.{Contract}
 use Rattle.schemars_documents.specs.PlainTable.{ArePlainVariants, payload_parts, variant_parts}
 use Rattle.schemars_documents.specs.Basis.{Basis}
 use Rattle.schemars_documents.specs.Template.{Ask, part, Template, noted, Templates, asks_of, asks_in, filled, filled_in}
-use Rattle.schemars_documents.specs.OfShape.{templates_of, any_of_template, payload_template, bare_units, other_items, units_template}
-use Rattle.schemars_documents.specs.OfShape.{choice_of}
-use Rattle.schemars_documents.specs.OfShape.{external_template, payload_item, untagged_template, titled, title_alone, struct_template}
-use Rattle.schemars_documents.specs.OfShape.{internal_item, internal_template}
+use Rattle.schemars_documents.specs.OfShape.{templates_of, any_of_template, payload_template, bare_units, other_items, units_template, choice_of, external_template, payload_item, untagged_template, titled, title_alone, struct_template, internal_item, internal_template, adjacent_item, adjacent_template}
 use Rattle.schemars_meaning.proofs.Filling.{Fit, without_end, parted}
 use Rattle.schemars_meaning.proofs.ByShape.{tuple_fills}
 use Rattle.schemars_meaning.proofs.Ready.{tuple_ready, one_of_ready, any_of_ready, units_ready}
 use Rattle.schemars_meaning.proofs.Notes.{judge-annotated, ready-annotated, annotated-schema}
 use Rattle.schemars_meaning.proofs.Choices.{Say, any_of_says}
-use Rattle.schemars_documents.specs.OfShape.{adjacent_item, adjacent_template}
 
 -- ---- null can be added
 

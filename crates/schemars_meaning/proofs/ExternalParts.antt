@@ -14,8 +14,7 @@ use Rattle.schemars_shapes.specs.Units.{is_bare_unit}
 use Rattle.schemars_types.specs.declared.contract.Contract.{Contract}
 use Rattle.schemars_documents.specs.Documents.{annotated}
 use Rattle.schemars_documents.specs.Template.{Ask, Template, noted, asks_of, asks_in, filled, filled_in}
-use Rattle.schemars_documents.specs.OfShape.{templates_of, member_template, payload_template, named_template, bare_units, other_items}
-use Rattle.schemars_documents.specs.OfShape.{choice_of, external_template}
+use Rattle.schemars_documents.specs.OfShape.{templates_of, member_template, payload_template, named_template, bare_units, other_items, choice_of, external_template}
 use Rattle.schemars_types.specs.Meaning.{Choice, member_choice}
 use Rattle.schemars_meaning.proofs.Filling.{Fit, without_end, parted}
 use Rattle.schemars_meaning.proofs.Items.{IsItem, AnyItems, member_item}

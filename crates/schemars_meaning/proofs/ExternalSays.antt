@@ -1,6 +1,5 @@
 -- What the document of an enum says whose variants have their names as keys, and whose payloads may have enums among their members.
-use Rattle.std.proofs.Common.{◌≡◌, ℕ, ◌<◌, List, [], ◌∷◌, ◌++◌, map, Option, Some, None, Bool, true, false}
-use Rattle.std.proofs.Common.{refl, sym, ap, ◌∙◌, subst, true≢false}
+use Rattle.std.proofs.Common.{◌≡◌, ℕ, ◌<◌, List, [], ◌∷◌, ◌++◌, map, Option, Some, None, Bool, true, false, refl, sym, ap, ◌∙◌, subst, true≢false}
 use Rattle.std.specs.Prelude.{bytes_eq, if◌then◌else◌, is_some, ◌&&◌, ◌||◌}
 use Rattle.std.specs.List.{list_any}
 use Rattle.std.specs.Option.{option_map_or}
@@ -8,8 +7,7 @@ use Rattle.std.proofs.Math.Bool.{and_comm, and-true}
 use Rattle.std.proofs.lemmas.Bool.{and_parts}
 use Rattle.std.proofs.lemmas.Slice.Eq.{bytes_eq-Decides}
 use Rattle.std.proofs.lemmas.Option.{same_Some}
-use Rattle.serde_json.specs.Data.{Data, null, string, object, Members, no_members}
-use Rattle.serde_json.specs.Data.{member, depth}
+use Rattle.serde_json.specs.Data.{Data, null, string, object, Members, no_members, member, depth}
 use Rattle.serde_json.specs.Find.{get_member}
 use Rattle.schemars_schema.specs.Json.{Text, IsJson}
 use Rattle.schemars_schema.specs.SchemaData.{IsSchema}
@@ -17,19 +15,14 @@ use Rattle.schemars_schema.specs.Annotations.{AreNotes}
 use Rattle.schemars_schema.specs.Verdict.{verdict}
 use Rattle.schemars_schema.specs.Acceptance.{Context, judge, read_data}
 use Rattle.schemars_builders.specs.Variants.{unit_variant}
-use Rattle.schemars_shapes.specs.Shape.{Field, Flattened, Payload, Variant, no_payload, newtype_payload, tuple_payload, struct_payload}
-use Rattle.schemars_shapes.specs.Shape.{needed}
+use Rattle.schemars_shapes.specs.Shape.{Field, Flattened, Payload, Variant, no_payload, newtype_payload, tuple_payload, struct_payload, needed}
 use Rattle.schemars_shapes.specs.Units.{is_bare_unit}
 use Rattle.schemars_types.specs.declared.contract.Contract.{Contract}
 use Rattle.schemars_types.specs.declared.contract.Contract.TheVariants.{Deserialize}
-use Rattle.schemars_types.specs.Meaning.{is_map_of, is_text, every_member, member_fits, has_required}
-use Rattle.schemars_types.specs.Meaning.{none, exactly_one}
+use Rattle.schemars_types.specs.Meaning.{is_map_of, is_text, every_member, member_fits, has_required, none, exactly_one, Choice, has_fields, has_payload, has_variant}
 use Rattle.schemars_documents.specs.PlainTable.{IsNoVariant, AreDistinctVariants}
 use Rattle.schemars_documents.specs.Template.{Ask, Template, noted, asks_of, asks_in, filled, filled_in}
-use Rattle.schemars_documents.specs.OfShape.{templates_of, member_template, payload_template, named_template, bare_units}
-use Rattle.schemars_documents.specs.OfShape.{other_items, choice_of, external_template}
-use Rattle.schemars_types.specs.Meaning.{Choice, has_fields}
-use Rattle.schemars_types.specs.Meaning.{has_payload, has_variant}
+use Rattle.schemars_documents.specs.OfShape.{templates_of, member_template, payload_template, named_template, bare_units, other_items, choice_of, external_template}
 use Rattle.schemars_types.specs.Effective.{spread_payload, spread_variant}
 use Rattle.schemars_meaning.proofs.MapDocument.{map_document}
 use Rattle.schemars_meaning.proofs.MapKeywords.{keywords}
@@ -37,8 +30,7 @@ use Rattle.schemars_meaning.proofs.Filling.{Fit, without_end, parted}
 use Rattle.schemars_meaning.proofs.Offers.{AllSay, one_object, object_fits}
 use Rattle.schemars_meaning.proofs.UnitMembers.{units_schema}
 use Rattle.schemars_meaning.proofs.StructMeans.{value_says}
-use Rattle.schemars_meaning.proofs.Notes.{annotated_fits}
-use Rattle.schemars_meaning.proofs.Notes.{annotated-schema}
+use Rattle.schemars_meaning.proofs.Notes.{annotated_fits, annotated-schema}
 use Rattle.schemars_meaning.proofs.Fields.{field_found}
 use Rattle.schemars_meaning.proofs.Uniting.{form-keywords}
 use Rattle.schemars_meaning.proofs.Opened.{no_parts, map_form}

@@ -13,8 +13,7 @@ use Rattle.schemars_types.specs.Rows.{Row}
 use Rattle.schemars_types.specs.Effective.{effective, flattened_fields}
 use Rattle.schemars_documents.specs.Documents.{Keyword, annotated, required_names}
 use Rattle.schemars_documents.specs.PlainTable.{IsPlainPart, ArePlainParts}
-use Rattle.schemars_documents.specs.Template.{Ask, part, members_of, Template, asked, with_keywords, asks_of, asks_in, filled, filled_in}
-use Rattle.schemars_documents.specs.Template.{first, keyed}
+use Rattle.schemars_documents.specs.Template.{Ask, part, members_of, Template, asked, with_keywords, asks_of, asks_in, filled, filled_in, first, keyed}
 use Rattle.schemars_documents.specs.OfShape.{templates_of, property, map_template, with_flattened, struct_template, fields_template}
 use Rattle.schemars_meaning.proofs.MapDocument.{map_document, noted_by, AllNotes}
 use Rattle.schemars_meaning.proofs.Spread.{field_keywords, AreWritten, IsFieldsDocument, AnswersFields}

@@ -1,6 +1,5 @@
 -- The documents of maps put into one another, and into the content of a tagged variant.
-use Rattle.std.proofs.Common.{◌≡◌, List, [], ◌∷◌, ◌++◌, Option, Some, None, Bool, true, false}
-use Rattle.std.proofs.Common.{refl, sym, ap, ◌∙◌, true≢false}
+use Rattle.std.proofs.Common.{◌≡◌, List, [], ◌∷◌, ◌++◌, Option, Some, None, Bool, true, false, refl, sym, ap, ◌∙◌, true≢false}
 use Rattle.std.specs.Prelude.{◌&&◌, bytes_eq, codes, if◌then◌else◌, option_map, option_and_then}
 use Rattle.serde_json.specs.Data.{Data, string, array, object, no_items, Members, no_members, member, put}
 use Rattle.serde_json.specs.Find.{get, get_member, as_str, as_array}
@@ -12,25 +11,15 @@ use Rattle.schemars_schema.specs.References.{NoSchemas}
 use Rattle.schemars_text.proofs.Members.{differ}
 use Rattle.schemars_schema.proofs.SortedMembers.{IsSorted, sorted-put, same_members}
 use Rattle.schemars_walk.specs.Rewritten.{forms, in_keywords}
-use Rattle.schemars_builders.specs.Properties.{with_property, tagged, has_null_type, closed_where}
-use Rattle.schemars_builders.specs.Properties.{internally_tagged_variant}
+use Rattle.schemars_builders.specs.Properties.{with_property, tagged, has_null_type, closed_where, internally_tagged_variant}
 use Rattle.schemars_builders.specs.Variants.{unit_variant}
-use Rattle.schemars_flatten.specs.Flatten.{is_joined, is_merged}
-use Rattle.schemars_flatten.specs.Flatten.{with_keywords, moved_beside, united_all, flattened}
+use Rattle.schemars_flatten.specs.Flatten.{is_joined, is_merged, with_keywords, moved_beside, united_all, flattened}
 use Rattle.schemars_flatten.proofs.Lookups.{united_option, united_none, either_option}
 use Rattle.schemars_flatten.specs.Opening.{same_object_place, opening, opened_here, opened, has_type}
-use Rattle.schemars_flatten.specs.Parts.{unit_objects, with_units, first_as_objects, list_changed_at}
-use Rattle.schemars_flatten.specs.Parts.{units_as_objects, flattened_part}
+use Rattle.schemars_flatten.specs.Parts.{unit_objects, with_units, first_as_objects, list_changed_at, units_as_objects, flattened_part}
 use Rattle.schemars_documents.specs.Documents.{Keyword, type_alone}
-use Rattle.schemars_meaning.proofs.MapDocument.{map_document}
-use Rattle.schemars_meaning.proofs.MapDocument.{noted_by, AllNotes}
-use Rattle.schemars_meaning.proofs.MapKeywords.{either_none, put_all-append, by_name}
-use Rattle.schemars_meaning.proofs.MapKeywords.{noted, noted_by-object, sorted-noted, noted-at, noted-beside, keywords}
-use Rattle.schemars_meaning.proofs.MapKeywords.{properties_there, required_there, closed_there, sorted-keywords, type-at}
-use Rattle.schemars_meaning.proofs.MapKeywords.{properties-at, required-at, closed-at, keyword-lacks, value_or, changed_at-here}
-use Rattle.schemars_meaning.proofs.MapKeywords.{changed_at-beside, sorted-changed_at, lacks-first, lacks-later}
-use Rattle.schemars_meaning.proofs.MapKeywords.{sorted-with_keywords, NoChoice, with_keywords-at, properties-united}
-use Rattle.schemars_meaning.proofs.MapKeywords.{required-united}
+use Rattle.schemars_meaning.proofs.MapDocument.{map_document, noted_by, AllNotes}
+use Rattle.schemars_meaning.proofs.MapKeywords.{either_none, put_all-append, by_name, noted, noted_by-object, sorted-noted, noted-at, noted-beside, keywords, properties_there, required_there, closed_there, sorted-keywords, type-at, properties-at, required-at, closed-at, keyword-lacks, value_or, changed_at-here, changed_at-beside, sorted-changed_at, lacks-first, lacks-later, sorted-with_keywords, NoChoice, with_keywords-at, properties-united, required-united}
 
 -- ---- the content of a variant that is tagged by a member of its object
 

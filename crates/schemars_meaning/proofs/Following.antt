@@ -1,6 +1,5 @@
 -- A document accepts just what belongs to its row, through references and rows that lead back to themselves.
-use Rattle.std.proofs.Common.{◌≡◌, ◌⊎◌, inl, inr, ℕ, zero, suc, ◌+◌, ◌*◌, ◌<◌, ◌≤◌, List, [], ◌∷◌, Option, Some, None}
-use Rattle.std.proofs.Common.{Bool, true, false, refl, ap, ◌∙◌, arith, add-one}
+use Rattle.std.proofs.Common.{◌≡◌, ◌⊎◌, inl, inr, ℕ, zero, suc, ◌+◌, ◌*◌, ◌<◌, ◌≤◌, List, [], ◌∷◌, Option, Some, None, Bool, true, false, refl, ap, ◌∙◌, arith, add-one}
 use Rattle.std.specs.Prelude.{nat_lt, if◌then◌else◌, length}
 use Rattle.std.proofs.Math.Nat.{mul-le-mul_right}
 use Rattle.std.proofs.lemmas.Bool.Decides.{nat_tests}

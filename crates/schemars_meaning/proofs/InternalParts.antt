@@ -9,13 +9,11 @@ use Rattle.schemars_schema.specs.Acceptance.{Context, judge}
 use Rattle.schemars_builders.specs.Variants.{unit_variant}
 use Rattle.schemars_shapes.specs.Shape.{Field, Fields, Payload, Variant, no_payload, newtype_payload, tuple_payload, struct_payload}
 use Rattle.schemars_types.specs.declared.contract.Contract.{Contract}
-use Rattle.schemars_types.specs.Meaning.{is_text}
+use Rattle.schemars_types.specs.Meaning.{is_text, Choice, internal_choice}
 use Rattle.schemars_documents.specs.PlainTable.{AreDistinct, AreNoted}
 use Rattle.schemars_documents.specs.Documents.{annotated}
 use Rattle.schemars_documents.specs.Template.{Ask, part, tagged, asks_of, asks_in, filled, filled_in}
 use Rattle.schemars_documents.specs.OfShape.{templates_of, struct_template, content_template, internal_item, internal_template}
-use Rattle.schemars_types.specs.Meaning.{Choice}
-use Rattle.schemars_types.specs.Meaning.{internal_choice}
 use Rattle.schemars_meaning.proofs.Filling.{Fit, without_end, parted}
 use Rattle.schemars_meaning.proofs.Offers.{one_object}
 use Rattle.schemars_meaning.proofs.Items.{IsItem, AnyItems}

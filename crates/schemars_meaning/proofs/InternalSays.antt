@@ -1,7 +1,5 @@
 -- What the document of an enum says that is tagged inside its maps, whose structs may have enums among their members.
-use Rattle.std.proofs.Common.{◌≡◌, ℕ, ◌<◌, List, [], ◌∷◌, map, Option, Some, None, Bool, true, false, refl, sym, ap, ◌∙◌, subst}
-use Rattle.std.proofs.Common.{true≢false}
-use Rattle.std.proofs.Common.{Ordering, Less, Equal, Greater, nat_cmp, is_eq}
+use Rattle.std.proofs.Common.{◌≡◌, ℕ, ◌<◌, List, [], ◌∷◌, map, Option, Some, None, Bool, true, false, refl, sym, ap, ◌∙◌, subst, true≢false, Ordering, Less, Equal, Greater, nat_cmp, is_eq}
 use Rattle.std.specs.Prelude.{bytes_eq, if◌then◌else◌, is_some, ◌&&◌, ◌||◌, option_and_then, codes}
 use Rattle.std.specs.List.{list_any}
 use Rattle.std.specs.Ordering.{match_ordering}
@@ -20,22 +18,17 @@ use Rattle.schemars_schema.specs.Verdict.{verdict}
 use Rattle.schemars_schema.specs.Acceptance.{Context, judge, read_data}
 use Rattle.schemars_builders.specs.Variants.{unit_variant}
 use Rattle.schemars_builders.specs.Properties.{internally_tagged_variant}
-use Rattle.schemars_shapes.specs.Shape.{Field, Fields, Flattened, Payload, Variant, no_payload, newtype_payload, tuple_payload}
-use Rattle.schemars_shapes.specs.Shape.{struct_payload}
+use Rattle.schemars_shapes.specs.Shape.{Field, Fields, Flattened, Payload, Variant, no_payload, newtype_payload, tuple_payload, struct_payload}
 use Rattle.schemars_types.specs.declared.contract.Contract.{Contract}
-use Rattle.schemars_types.specs.Meaning.{holds, is_text, every_member, member_fits, tagged_fits, has_required, has_content}
-use Rattle.schemars_types.specs.Meaning.{none, exactly_one}
+use Rattle.schemars_types.specs.Meaning.{holds, is_text, every_member, member_fits, tagged_fits, has_required, has_content, none, exactly_one, Choice, every_part, shut, offers, has_tagged, has_internal}
 use Rattle.schemars_documents.specs.PlainTable.{IsNoVariant, AreDistinctVariants, AreDistinct, AreNoted}
 use Rattle.schemars_documents.specs.Documents.{type_alone}
 use Rattle.schemars_documents.specs.Template.{Ask, part, tagged, asks_of, asks_in, filled, filled_in}
 use Rattle.schemars_documents.specs.OfShape.{templates_of, struct_template, content_template, internal_item, internal_template}
-use Rattle.schemars_types.specs.Meaning.{Choice, every_part, shut}
-use Rattle.schemars_types.specs.Meaning.{offers, has_tagged, has_internal}
 use Rattle.schemars_types.specs.Effective.{spread_variant, effective, flattened_enums, enum_at}
 use Rattle.schemars_meaning.proofs.MapDocument.{map_document}
 use Rattle.schemars_meaning.proofs.Filling.{Fit, without_end, parted}
-use Rattle.schemars_meaning.proofs.Notes.{annotated-schema}
-use Rattle.schemars_meaning.proofs.Notes.{annotated_fits}
+use Rattle.schemars_meaning.proofs.Notes.{annotated-schema, annotated_fits}
 use Rattle.schemars_meaning.proofs.StructDocuments.{IsStruct}
 use Rattle.schemars_meaning.proofs.Tags.{no_keys, null_tagged, tagged_means}
 use Rattle.schemars_meaning.proofs.ExternalSays.{AllFit, one_says}

@@ -1,6 +1,5 @@
 -- The schemas of an enum's variants where the enum is flattened: maps that let further members in.
-use Rattle.std.proofs.Common.{◌≡◌, ℕ, ◌<◌, List, [], ◌∷◌, ◌++◌, map, Option, Some, None, Bool, true, false, refl, sym, ap}
-use Rattle.std.proofs.Common.{◌∙◌, subst, true≢false}
+use Rattle.std.proofs.Common.{◌≡◌, ℕ, ◌<◌, List, [], ◌∷◌, ◌++◌, map, Option, Some, None, Bool, true, false, refl, sym, ap, ◌∙◌, subst, true≢false}
 use Rattle.std.proofs.Math.Bool.{and_comm, and-true}
 use Rattle.std.proofs.lemmas.Slice.Eq.{bytes_eq-Decides}
 use Rattle.std.specs.Prelude.{codes, bytes_eq, if◌then◌else◌, is_some, ◌&&◌, ◌||◌, not}
@@ -16,9 +15,8 @@ use Rattle.schemars_schema.specs.Acceptance.{Context, judge}
 use Rattle.schemars_flatten.specs.Opening.{opened}
 use Rattle.schemars_shapes.specs.Shape.{Field, needed}
 use Rattle.schemars_types.specs.declared.contract.Contract.TheVariants.{Deserialize}
-use Rattle.schemars_types.specs.Meaning.{every_member, member_fits, has_required}
+use Rattle.schemars_types.specs.Meaning.{every_member, member_fits, has_required, Choice, has_fields, has_member, member_choice}
 use Rattle.schemars_documents.specs.Documents.{Keyword, annotated}
-use Rattle.schemars_types.specs.Meaning.{Choice, has_fields, has_member, member_choice}
 use Rattle.schemars_meaning.proofs.MapDocument.{map_document}
 use Rattle.schemars_meaning.proofs.MapKeywords.{noted, noted_by-object, keywords, closed_there}
 use Rattle.schemars_meaning.proofs.Named.{AreEntries}

@@ -9,13 +9,10 @@ use Rattle.schemars_schema.specs.Json.{Text, IsAbove}
 use Rattle.schemars_schema.specs.Edits.{without}
 use Rattle.schemars_text.proofs.Members.{get_member-later, differ, flipped, get_member-here}
 use Rattle.schemars_schema.proofs.Members.{get_member-without}
-use Rattle.schemars_schema.proofs.SortedMembers.{IsSorted, above-trans}
-use Rattle.schemars_schema.proofs.SortedMembers.{get_member-above}
-use Rattle.schemars_flatten.specs.Flatten.{is_choice, with_united, with_choice, both_choices, with_keyword}
-use Rattle.schemars_flatten.specs.Flatten.{with_keywords}
+use Rattle.schemars_schema.proofs.SortedMembers.{IsSorted, above-trans, get_member-above}
+use Rattle.schemars_flatten.specs.Flatten.{is_choice, with_united, with_choice, both_choices, with_keyword, with_keywords}
 use Rattle.schemars_flatten.proofs.Lookups.{united_option, united_none, united_here, united_beside}
-use Rattle.schemars_meaning.proofs.MapKeywords.{lacks-first}
-use Rattle.schemars_meaning.proofs.MapKeywords.{lacks-later, sorted-with_keywords}
+use Rattle.schemars_meaning.proofs.MapKeywords.{lacks-first, lacks-later, sorted-with_keywords}
 
 -- ---- a keyword that is taken out
 

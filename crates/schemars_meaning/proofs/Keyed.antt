@@ -1,14 +1,11 @@
 -- What the document of a map says under 2020-12, whose keys are those that the type of its keys allows.
-use Rattle.std.proofs.Common.{◌≡◌, ℕ, ◌<◌, ◌≤◌, List, [], ◌∷◌, ◌++◌, map, Option, Some, None, Bool, true, false, refl, sym, ap, ◌∙◌}
-use Rattle.std.proofs.Common.{arith, option_map, true≢false, inl, inr, subst}
+use Rattle.std.proofs.Common.{◌≡◌, ℕ, ◌<◌, ◌≤◌, List, [], ◌∷◌, ◌++◌, map, Option, Some, None, Bool, true, false, refl, sym, ap, ◌∙◌, arith, option_map, true≢false, inl, inr, subst, Ordering, Less, Equal, Greater, nat_cmp, filter, not}
 use Rattle.std.specs.Prelude.{codes, bytes_eq, if◌then◌else◌, is_some, ◌&&◌, ◌||◌}
 use Rattle.std.proofs.lemmas.Slice.Eq.{bytes_eq-Decides}
-use Rattle.serde_json.specs.Data.{Data, null, boolean, number, string, array, object, Members, no_members, member, put}
-use Rattle.serde_json.specs.Data.{depth, members_depth}
+use Rattle.serde_json.specs.Data.{Data, null, boolean, number, string, array, object, Members, no_members, member, put, depth, members_depth}
 use Rattle.serde_json.specs.Find.{get_member, as_object}
 use Rattle.std.specs.Cmp.Lexicographic.{slice_cmp}
 use Rattle.std.specs.Ordering.{match_ordering}
-use Rattle.std.proofs.Common.{Ordering, Less, Equal, Greater, nat_cmp, filter, not}
 use Rattle.std.proofs.lemmas.Map.Lookups.{exact_bytes}
 use Rattle.std.proofs.Math.Bool.{or-false, or-true}
 use Rattle.std.specs.List.{list_any}
@@ -18,9 +15,7 @@ use Rattle.schemars_schema.specs.Verdict.{Verdict, Yes, No, both, verdict}
 use Rattle.schemars_schema.specs.Json.{Text, IsJson, AreJsonMembers}
 use Rattle.schemars_text.specs.OrderedText.{is_listed}
 use Rattle.schemars_schema.specs.SchemaData.{IsSchema, object_of, put_all}
-use Rattle.schemars_schema.specs.Acceptance.{Patterns, Judge, Context, judge, read_data, all_keywords, matches, matches_some}
-use Rattle.schemars_schema.specs.Acceptance.{by_patterns, each_member, schema_named, where_some, Reading, type_says, properties_say}
-use Rattle.schemars_schema.specs.Acceptance.{pattern_properties_say, additional_properties_say, is_covered}
+use Rattle.schemars_schema.specs.Acceptance.{Patterns, Judge, Context, judge, read_data, all_keywords, matches, matches_some, by_patterns, each_member, schema_named, where_some, Reading, type_says, properties_say, pattern_properties_say, additional_properties_say, is_covered}
 use Rattle.schemars_schema.proofs.Verdicts.{both-yes, both-verdict, both-middle, each_agree}
 use Rattle.schemars_schema.proofs.Objects.{schema-judge}
 use Rattle.schemars_schema.proofs.Silent.{silent}
@@ -31,13 +26,10 @@ use Rattle.schemars_shapes.specs.IntegerKeys.{pattern_of}
 use Rattle.schemars_types.specs.KeyOptions.{KeyOptions, keys, is_key_allowed}
 use Rattle.schemars_types.specs.Meaning.{every_member, has_keys, holds}
 use Rattle.schemars_documents.specs.Documents.{Keyword, typed}
-use Rattle.schemars_documents.specs.Template.{Ask, part, Template, no_templates, template, finished, row, asks_of, asks_in, filled}
-use Rattle.schemars_documents.specs.Template.{filled_in, keyed}
-use Rattle.schemars_documents.specs.OfShape.{KeywordTemplate, templates_of, values_template, object_with, values_of, other_values}
-use Rattle.schemars_documents.specs.OfShape.{typed_template as typed_at, all_patterns, pattern_properties_at, properties_at}
+use Rattle.schemars_documents.specs.Template.{Ask, part, Template, no_templates, template, finished, row, asks_of, asks_in, filled, filled_in, keyed}
+use Rattle.schemars_documents.specs.OfShape.{KeywordTemplate, templates_of, values_template, object_with, values_of, other_values, typed_template as typed_at, all_patterns, pattern_properties_at, properties_at}
 use Rattle.schemars_meaning.proofs.MapDocument.{properties_keyword}
-use Rattle.schemars_meaning.proofs.Named.{AreEntries, schema_named-judges_in, judges_in, all_named-schemas, AreSchemas-put_all}
-use Rattle.schemars_meaning.proofs.Named.{each_yes, IsNoMap}
+use Rattle.schemars_meaning.proofs.Named.{AreEntries, schema_named-judges_in, judges_in, all_named-schemas, AreSchemas-put_all, each_yes, IsNoMap}
 use Rattle.schemars_meaning.proofs.Maps.{judges_of, named_says, properties_value, named_part}
 use Rattle.schemars_meaning.proofs.Filling.{Fit, without_end, parted}
 

@@ -6,9 +6,7 @@ use Rattle.serde_json.specs.Data.{Data, string, object, Members}
 use Rattle.serde_json.specs.Find.{get_member}
 use Rattle.schemars_schema.specs.Json.{Text}
 use Rattle.schemars_schema.specs.Verdict.{Verdict, both, verdict, all_of, one_of}
-use Rattle.schemars_schema.specs.Acceptance.{Context, Judge, Raw, Reading, judge, read_data, all_keywords, is_covered}
-use Rattle.schemars_schema.specs.Acceptance.{type_says, required_says, properties_say, additional_properties_say}
-use Rattle.schemars_schema.specs.Acceptance.{each_says, unevaluated_properties_say, judged_by_list, has_schema, judged_beside}
+use Rattle.schemars_schema.specs.Acceptance.{Context, Judge, Raw, Reading, judge, read_data, all_keywords, is_covered, type_says, required_says, properties_say, additional_properties_say, each_says, unevaluated_properties_say, judged_by_list, has_schema, judged_beside}
 use Rattle.schemars_schema.proofs.Verdicts.{both-yes}
 use Rattle.schemars_schema.proofs.Objects.{says, judge-object, says-agree, IsKeyword}
 use Rattle.schemars_schema.proofs.Silent.{items_none, const_none}

@@ -1,6 +1,5 @@
 -- Look-ups at keywords of a map with notes, and where members are put in, changed and united.
-use Rattle.std.proofs.Common.{◌≡◌, List, [], ◌∷◌, ◌++◌, Option, Some, None, Bool, true, false, append-nil}
-use Rattle.std.proofs.Common.{refl, sym, ap, ◌∙◌, subst, true≢false}
+use Rattle.std.proofs.Common.{◌≡◌, List, [], ◌∷◌, ◌++◌, Option, Some, None, Bool, true, false, append-nil, refl, sym, ap, ◌∙◌, subst, true≢false}
 use Rattle.std.proofs.lemmas.Slice.Eq.{bytes_eq-Decides}
 use Rattle.std.specs.Prelude.{bytes_eq, codes, if◌then◌else◌}
 use Rattle.serde_json.specs.Data.{Data, boolean, string, array, object, Members, no_members, member, put, item}
@@ -11,17 +10,13 @@ use Rattle.schemars_schema.specs.SchemaData.{put_all, put_members, object_of}
 use Rattle.schemars_schema.specs.Edits.{replaced, without, changed_at}
 use Rattle.schemars_schema.specs.Annotations.{is_annotation, AreNotes}
 use Rattle.schemars_text.proofs.Members.{get_member-later, differ, flipped, get_member-here}
-use Rattle.schemars_schema.proofs.Members.{get_member-replaced}
-use Rattle.schemars_schema.proofs.Members.{get_member-replaced_other}
-use Rattle.schemars_schema.proofs.SortedMembers.{IsSorted, sorted-put, sorted-put_all, sorted-put_members}
-use Rattle.schemars_schema.proofs.SortedMembers.{sorted-replaced, sorted-without, same_members, get_member-above}
+use Rattle.schemars_schema.proofs.Members.{get_member-replaced, get_member-replaced_other}
+use Rattle.schemars_schema.proofs.SortedMembers.{IsSorted, sorted-put, sorted-put_all, sorted-put_members, sorted-replaced, sorted-without, same_members, get_member-above}
 use Rattle.schemars_builders.specs.NullLaw.{text_items}
-use Rattle.schemars_flatten.specs.Flatten.{is_choice, united, with_united, with_choice, both_choices, appended}
-use Rattle.schemars_flatten.specs.Flatten.{with_keyword, with_keywords}
+use Rattle.schemars_flatten.specs.Flatten.{is_choice, united, with_united, with_choice, both_choices, appended, with_keyword, with_keywords}
 use Rattle.schemars_flatten.proofs.Lookups.{united_option, united_none, united_here, united_beside, either_option}
 use Rattle.schemars_documents.specs.Documents.{Keyword, typed, annotated}
-use Rattle.schemars_meaning.proofs.MapDocument.{properties_keyword, required_keyword, closed_keyword}
-use Rattle.schemars_meaning.proofs.MapDocument.{noted_by, AllNotes}
+use Rattle.schemars_meaning.proofs.MapDocument.{properties_keyword, required_keyword, closed_keyword, noted_by, AllNotes}
 
 pub either_none : (a : Option Data) → either_option a None ≡ a
 either_none None = refl

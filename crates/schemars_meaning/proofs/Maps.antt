@@ -1,15 +1,11 @@
 -- What the document of a map with named members says under 2020-12.
-use Rattle.std.proofs.Common.{◌≡◌, List, [], ◌∷◌, Option, Some, None, Bool, true, false}
-use Rattle.std.proofs.Common.{refl, sym, ap, ◌∙◌}
+use Rattle.std.proofs.Common.{◌≡◌, List, [], ◌∷◌, Option, Some, None, Bool, true, false, refl, sym, ap, ◌∙◌}
 use Rattle.std.specs.Prelude.{codes, if◌then◌else◌, is_some}
 use Rattle.serde_json.specs.Data.{Data, null, boolean, number, string, array, object, Members, no_members}
 use Rattle.schemars_schema.specs.Verdict.{Verdict, Yes, No, both, verdict}
 use Rattle.schemars_schema.specs.Json.{Text}
 use Rattle.schemars_schema.specs.SchemaData.{object_of, put_all}
-use Rattle.schemars_schema.specs.Acceptance.{Patterns, Judge, Context, Reading, judge, read_data}
-use Rattle.schemars_schema.specs.Acceptance.{all_keywords, schema_named, each_member, where_some, have_all}
-use Rattle.schemars_schema.specs.Acceptance.{type_says, required_says, properties_say}
-use Rattle.schemars_schema.specs.Acceptance.{additional_properties_say, is_covered}
+use Rattle.schemars_schema.specs.Acceptance.{Patterns, Judge, Context, Reading, judge, read_data, all_keywords, schema_named, each_member, where_some, have_all, type_says, required_says, properties_say, additional_properties_say, is_covered}
 use Rattle.schemars_schema.proofs.Verdicts.{both-yes, each_agree}
 use Rattle.schemars_schema.proofs.Silent.{silent}
 use Rattle.schemars_builders.specs.NullLaw.{context2020_12, text_items}
@@ -17,8 +13,7 @@ use Rattle.schemars_builders.proofs.NullKeywords.{texts_in-text_items}
 use Rattle.std.proofs.Math.Bool.{or-false}
 use Rattle.schemars_documents.specs.Documents.{Keyword}
 use Rattle.schemars_meaning.proofs.MapDocument.{map_document}
-use Rattle.schemars_meaning.proofs.Named.{judges_in, all_named-schemas, AreEntries, AreSchemas-put_all, each_yes}
-use Rattle.schemars_meaning.proofs.Named.{IsNoMap}
+use Rattle.schemars_meaning.proofs.Named.{judges_in, all_named-schemas, AreEntries, AreSchemas-put_all, each_yes, IsNoMap}
 
 -- ---- the keywords that are there or not
 

@@ -9,7 +9,7 @@ use Rattle.schemars_builders.specs.NullLaw.{context2020_12}
 use Rattle.schemars_builders.proofs.Nulls.{IsReady, ready-schema, ready-law, ready-allow_null}
 use Rattle.schemars_types.specs.KeyOptions.{key_options}
 use Rattle.schemars_meaning.proofs.Ready.{int_ready, non_zero_ready, bytes_ready, map_ready, tuple_ready, one_of_ready, fields_ready}
-use Rattle.schemars_meaning.proofs.Enums.{IsNewtypeIn, external_ready, untagged_ready, internal_ready}
+use Rattle.schemars_meaning.proofs.Enums.{IsNewtypeIn, external_ready, untagged_ready, internal_ready, adjacent_ready}
 use Rattle.schemars_meaning.proofs.Keyed.{values_ready, values_say}
 use Rattle.schemars_shapes.specs.Shape as shape
 use Rattle.schemars_shapes.specs.Shape.{Shape, Field, Flattened, Fields}
@@ -23,15 +23,12 @@ use Rattle.schemars_types.specs.Effective.{effective, spread}
 use Rattle.schemars_documents.specs.Template.{Ask, part, asks_of, filled}
 use Rattle.schemars_documents.specs.OfShape.{struct_template}
 use Rattle.schemars_meaning.proofs.Filling.{Fit}
-use Rattle.schemars_meaning.proofs.EachShape.{bytes_say, schema_says, null_says, bool_says, number_says, text_says}
-use Rattle.schemars_meaning.proofs.EachShape.{formatted_says, char_says, any_says, seq_says, set_says, array_says}
-use Rattle.schemars_meaning.proofs.EachShape.{up_to_says, tuple_says, int_says, non_zero_says}
+use Rattle.schemars_meaning.proofs.EachShape.{bytes_say, schema_says, null_says, bool_says, number_says, text_says, formatted_says, char_says, any_says, seq_says, set_says, array_says, up_to_says, tuple_says, int_says, non_zero_says}
 use Rattle.schemars_schema.proofs.Literals.{literal_is_schema, literal_judged}
 use Rattle.schemars_builders.proofs.LiteralNulls.{literal_ready}
 use Rattle.schemars_documents.proofs.Literals.{literal_document-schema}
 use Rattle.schemars_meaning.proofs.Choices.{result_says, bound_says, range_says, either_says}
 use Rattle.std.specs.Prelude.{codes}
-use Rattle.schemars_meaning.proofs.Enums.{adjacent_ready}
 
 -- ---- null can be added to each document
 

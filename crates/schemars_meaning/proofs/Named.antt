@@ -1,6 +1,5 @@
 -- Schemas under names, and the judges that they make.
-use Rattle.std.proofs.Common.{◌≡◌, List, [], ◌∷◌, Option, Some, Bool, Ordering, Less, Equal, Greater}
-use Rattle.std.proofs.Common.{nat_cmp, is_eq, refl, ◌∙◌, option_map}
+use Rattle.std.proofs.Common.{◌≡◌, List, [], ◌∷◌, Option, Some, Bool, Ordering, Less, Equal, Greater, nat_cmp, is_eq, refl, ◌∙◌, option_map}
 use Rattle.std.specs.Prelude.{bytes_eq, if◌then◌else◌}
 use Rattle.std.specs.Ordering.{match_ordering}
 use Rattle.std.specs.Cmp.Lexicographic.{slice_cmp}
@@ -10,8 +9,7 @@ use Rattle.serde_json.specs.Find.{get_member}
 use Rattle.schemars_schema.specs.Verdict.{Yes}
 use Rattle.schemars_schema.specs.Json.{Text}
 use Rattle.schemars_schema.specs.SchemaData.{IsSchema, put_all}
-use Rattle.schemars_schema.specs.Acceptance.{Judge, Context, judge, read_data, read_members}
-use Rattle.schemars_schema.specs.Acceptance.{all_named, schema_named, each_member}
+use Rattle.schemars_schema.specs.Acceptance.{Judge, Context, judge, read_data, read_members, all_named, schema_named, each_member}
 use Rattle.schemars_schema.proofs.Objects.{schema-judge}
 use Rattle.schemars_documents.specs.Documents.{Keyword}
 

@@ -1,6 +1,5 @@
 -- What becomes of the documents of maps and choices where they are parts of another object.
-use Rattle.std.proofs.Common.{◌≡◌, List, [], ◌∷◌, map, Option, Some, None, Bool, true, false, option_map, refl, sym, ap, ◌∙◌}
-use Rattle.std.proofs.Common.{subst}
+use Rattle.std.proofs.Common.{◌≡◌, List, [], ◌∷◌, map, Option, Some, None, Bool, true, false, option_map, refl, sym, ap, ◌∙◌, subst}
 use Rattle.std.proofs.lemmas.Slice.Eq.{bytes_eq-Decides}
 use Rattle.std.specs.Prelude.{codes, bytes_eq}
 use Rattle.serde_json.specs.Data.{Data, array, object, item, Members, no_members, member}
@@ -17,13 +16,10 @@ use Rattle.schemars_walk.specs.Rewritten.{form_at, forms, in_items, in_keywords}
 use Rattle.schemars_flatten.specs.Opening.{opening, opened, opened_here, opened_at, same_object_place}
 use Rattle.schemars_documents.specs.Documents.{Keyword}
 use Rattle.schemars_meaning.proofs.MapDocument.{AllNotes}
-use Rattle.schemars_meaning.proofs.MapKeywords.{noted, noted-beside, sorted-noted, keywords, sorted-keywords, type-at}
-use Rattle.schemars_meaning.proofs.MapKeywords.{properties-at, required-at}
-use Rattle.schemars_meaning.proofs.MapKeywords.{closed-at, keyword-lacks, closed_there}
+use Rattle.schemars_meaning.proofs.MapKeywords.{noted, noted-beside, sorted-noted, keywords, sorted-keywords, type-at, properties-at, required-at, closed-at, keyword-lacks, closed_there}
 use Rattle.schemars_meaning.proofs.MapForm.{Keywords, look_up}
 use Rattle.schemars_meaning.proofs.Offers.{one_object}
-use Rattle.schemars_meaning.proofs.StructForm.{Part, Parts, objects, all_there, one_there, additional_there, unevaluated_there}
-use Rattle.schemars_meaning.proofs.StructForm.{additional_beside, unevaluated_beside, any_keywords, struct_keywords}
+use Rattle.schemars_meaning.proofs.StructForm.{Part, Parts, objects, all_there, one_there, additional_there, unevaluated_there, additional_beside, unevaluated_beside, any_keywords, struct_keywords}
 use Rattle.schemars_meaning.proofs.Joining.{without-here}
 use Rattle.schemars_meaning.proofs.Uniting.{IsForm, by_seven, look_up-other, part_keywords}
 

@@ -1,6 +1,5 @@
 -- What rows answer where they are flattened: structs with their enums, and enums whose variants are maps.
-use Rattle.std.proofs.Common.{◌≡◌, ℕ, List, [], ◌∷◌, ◌++◌, map, Option, Some, None, Bool, true, false, option_map, refl, sym, ap}
-use Rattle.std.proofs.Common.{◌∙◌, subst}
+use Rattle.std.proofs.Common.{◌≡◌, ℕ, List, [], ◌∷◌, ◌++◌, map, Option, Some, None, Bool, true, false, option_map, refl, sym, ap, ◌∙◌, subst}
 use Rattle.std.specs.Prelude.{codes, if◌then◌else◌, option_and_then}
 use Rattle.serde_json.specs.Data.{Data, array, object, string, Members, no_members, member}
 use Rattle.serde_json.specs.Find.{get, get_member, as_str, as_array}
@@ -9,27 +8,22 @@ use Rattle.schemars_schema.specs.Json.{Text}
 use Rattle.schemars_schema.specs.Annotations.{is_annotation, AreNotes}
 use Rattle.schemars_schema.specs.Acceptance.{Context}
 use Rattle.schemars_flatten.specs.Opening.{opened}
-use Rattle.schemars_flatten.specs.Parts.{flattened_part, units_of, unit_objects, first_units}
+use Rattle.schemars_flatten.specs.Parts.{flattened_part, units_of, unit_objects, first_units, optional, choice_or_anything, with_empty_object, one_or_anything, list_changed_at}
 use Rattle.schemars_shapes.specs.Shape.{Field}
 use Rattle.schemars_types.specs.declared.contract.Contract.{Contract}
 use Rattle.schemars_documents.specs.Documents.{annotated, required_names}
 use Rattle.schemars_types.specs.Meaning.{Choice, every_part, claims}
-use Rattle.schemars_meaning.proofs.MapKeywords.{noted, noted_by-object, noted-beside, sorted-noted, closed_there, required_there}
-use Rattle.schemars_meaning.proofs.MapKeywords.{properties_there}
+use Rattle.schemars_meaning.proofs.MapKeywords.{noted, noted_by-object, noted-beside, sorted-noted, closed_there, required_there, properties_there}
 use Rattle.schemars_meaning.proofs.MapForm.{look_up}
 use Rattle.schemars_meaning.proofs.Offers.{one_object}
-use Rattle.schemars_meaning.proofs.StructForm.{Part, Parts, choices_in, any_keywords, struct_keywords, all_there, one_there}
-use Rattle.schemars_meaning.proofs.StructForm.{additional_there}
+use Rattle.schemars_meaning.proofs.StructForm.{Part, Parts, choices_in, any_keywords, struct_keywords, all_there, one_there, additional_there}
 use Rattle.schemars_meaning.proofs.Uniting.{IsForm, part_keywords, by_seven, look_up-other}
-use Rattle.schemars_meaning.proofs.Opened.{no_parts, opened_form, opened_parts, opened_part, opened_one, Part_form}
-use Rattle.schemars_meaning.proofs.Opened.{rest_open}
+use Rattle.schemars_meaning.proofs.Opened.{no_parts, opened_form, opened_parts, opened_part, opened_one, Part_form, rest_open}
 use Rattle.schemars_meaning.proofs.Items.{IsItem, AnyItems, any_items, opened_any, OneIs, choices_opened}
 use Rattle.schemars_meaning.proofs.Spread.{field_keywords, AreWritten}
 use Rattle.schemars_meaning.proofs.StructDocuments.{IsStruct, IsPart, HasNoUnits, part_form, units_missing}
 use Rattle.schemars_meaning.proofs.Joining.{without-here}
-use Rattle.schemars_schema.specs.Edits.{without, on_list}
-use Rattle.schemars_flatten.specs.Parts.{optional, choice_or_anything, with_empty_object, one_or_anything, list_changed_at}
-use Rattle.schemars_schema.specs.Edits.{removed, replaced, is_text}
+use Rattle.schemars_schema.specs.Edits.{without, on_list, removed, replaced, is_text}
 use Rattle.schemars_text.proofs.Members.{get_member-later}
 use Rattle.schemars_schema.proofs.Members.{get_member-without}
 use Rattle.schemars_schema.proofs.SortedMembers.{sorted-without}

@@ -10,9 +10,7 @@ use Rattle.schemars_shapes.specs.Shape.{Entry}
 use Rattle.schemars_types.specs.Rows.{Row, entry_at}
 use Rattle.schemars_documents.specs.Documents.{reference}
 use Rattle.schemars_documents.specs.Basis.{Basis}
-use Rattle.schemars_documents.specs.Template.{Template, Ask, part, members_of, content, finished, asked, list, members, nullable, noted}
-use Rattle.schemars_documents.specs.Template.{with_keywords, tagged, Templates, no_templates, template, first, behind, left, left_in}
-use Rattle.schemars_documents.specs.Template.{filled}
+use Rattle.schemars_documents.specs.Template.{Template, Ask, part, members_of, content, finished, asked, list, members, nullable, noted, with_keywords, tagged, Templates, no_templates, template, first, behind, left, left_in, filled}
 use Rattle.schemars_documents.specs.OfShape.{entry_template}
 use Rattle.schemars_documents.specs.Describes.{AreAnswered, IsOwnDocument, IsContent, IsAnswered, IsWritten, Describes}
 

@@ -1,7 +1,5 @@
 -- Null can be added to each document of a table that is plain under its contract.
-use Rattle.std.proofs.Common.{inl, inr, ℕ, zero, suc, ◌<◌, List, Option, Some, None, refl}
-use Rattle.std.proofs.Common.{sym}
-use Rattle.std.proofs.Common.{subst, arith}
+use Rattle.std.proofs.Common.{inl, inr, ℕ, zero, suc, ◌<◌, List, Option, Some, None, refl, sym, subst, arith}
 use Rattle.serde_json.specs.Data.{Data, null}
 use Rattle.schemars_schema.specs.Json.{Text}
 use Rattle.schemars_schema.specs.Acceptance.{Patterns, Judge}
@@ -10,8 +8,7 @@ use Rattle.schemars_builders.proofs.Nulls.{IsReady}
 use Rattle.schemars_shapes.specs.Shape as shape
 use Rattle.schemars_shapes.specs.Shape.{Fields, Shape, Entry}
 use Rattle.schemars_types.specs.Rows.{entry_at}
-use Rattle.schemars_types.specs.Effective.{flattened_in, part_enums}
-use Rattle.schemars_types.specs.Effective.{spread_in}
+use Rattle.schemars_types.specs.Effective.{flattened_in, part_enums, spread_in}
 use Rattle.schemars_documents.specs.PlainTable.{IsPlainShape, ArePartsUnder, IsEntryUnder, parts_in}
 use Rattle.schemars_documents.specs.Basis.{Basis}
 use Rattle.schemars_documents.specs.Template.{Ask, asks_of, filled}

@@ -1,6 +1,5 @@
 -- The references of the document of each shape are those of its answers.
-use Rattle.std.proofs.Common.{◌≡◌, ℕ, zero, suc, List, [], ◌∷◌, ◌++◌, map, Bool, true, false, Option, Some, None}
-use Rattle.std.proofs.Common.{refl, sym, ap, ◌∙◌, subst, Contains, append-nil, ℤ, pos}
+use Rattle.std.proofs.Common.{◌≡◌, ℕ, zero, suc, List, [], ◌∷◌, ◌++◌, map, Bool, true, false, Option, Some, None, refl, sym, ap, ◌∙◌, subst, Contains, append-nil, ℤ, pos}
 use Rattle.std.specs.List.{All, AllByRecursion}
 use Rattle.std.specs.Prelude.{codes, bytes_eq, not, if◌then◌else◌}
 use Rattle.std.proofs.lemmas.List.{map-append}
@@ -12,8 +11,7 @@ use Rattle.schemars_schema.specs.References.{found_in, references}
 use Rattle.schemars_schema.proofs.Literals.{literal_is_schema, literal_refers_nowhere}
 use Rattle.schemars_builders.specs.NullLaw.{zero_schema, text_items}
 use Rattle.schemars_shapes.specs.Shape as shape
-use Rattle.schemars_shapes.specs.Shape.{Shape, Field, Flattened, Fields, Entry, Payload, Variant, no_payload, newtype_payload}
-use Rattle.schemars_shapes.specs.Shape.{tuple_payload, struct_payload}
+use Rattle.schemars_shapes.specs.Shape.{Shape, Field, Flattened, Fields, Entry, Payload, Variant, no_payload, newtype_payload, tuple_payload, struct_payload}
 use Rattle.schemars_shapes.specs.IntKind.{format_of}
 use Rattle.schemars_shapes.specs.Units.{is_bare_unit}
 use Rattle.schemars_shapes.specs.declared.shape.IntegerKeys.{IntegerKeys}
@@ -25,30 +23,17 @@ use Rattle.schemars_types.specs.Meaning.{least_of, greatest_of, is_required}
 use Rattle.schemars_types.specs.Effective.{flattened_fields, effective, flattened_in, part_enums, spread_payload, spread_variant, spread_in}
 use Rattle.schemars_types.specs.KeyOptions.{KeyOptions, keys, or_any_text, all_options, key_options, distinct_options, once}
 use Rattle.schemars_documents.specs.Documents.{int_keywords, is_signed, required_names, bytes_document}
-use Rattle.schemars_documents.specs.PlainTable.{AreDistinct, AreNoted, IsPlainShape, IsPlainEntry, IsPlainPayload, AreNotedVariants}
-use Rattle.schemars_documents.specs.PlainTable.{ArePlainVariants, AreTagged, IsTagged, payload_parts, variant_parts, parts_in, IsNotedShape}
-use Rattle.schemars_documents.specs.PlainTable.{ArePlainParts, IsNotedPayload, IsNotedThroughout}
+use Rattle.schemars_documents.specs.PlainTable.{AreDistinct, AreNoted, IsPlainShape, IsPlainEntry, IsPlainPayload, AreNotedVariants, ArePlainVariants, AreTagged, IsTagged, payload_parts, variant_parts, parts_in, IsNotedShape, ArePlainParts, IsNotedPayload, IsNotedThroughout}
 use Rattle.schemars_documents.specs.Basis.{Basis}
-use Rattle.schemars_documents.specs.Template.{Template, Ask, members_of, asked, row}
-use Rattle.schemars_documents.specs.Template.{noted, with_keywords, tagged, Templates}
-use Rattle.schemars_documents.specs.Template.{asks_of, filled}
-use Rattle.schemars_documents.specs.OfShape.{KeywordTemplate, templates_of, object_with, property, map_template, template_of}
-use Rattle.schemars_documents.specs.OfShape.{entry_template, member_template, payload_template, named_template, bare_units}
-use Rattle.schemars_documents.specs.OfShape.{other_items, choice_of, payload_item, titled, fields_template, with_flattened}
-use Rattle.schemars_documents.specs.OfShape.{struct_template, content_template, typed_template, values_of, all_patterns}
-use Rattle.schemars_documents.specs.OfShape.{tuple_template, pattern_properties_at, properties_at, other_values, values_template}
-use Rattle.schemars_documents.specs.OfShape.{untagged_template, internal_item, internal_template}
+use Rattle.schemars_documents.specs.Template.{Template, Ask, members_of, asked, row, noted, with_keywords, tagged, Templates, asks_of, filled}
+use Rattle.schemars_documents.specs.OfShape.{KeywordTemplate, templates_of, object_with, property, map_template, template_of, entry_template, member_template, payload_template, named_template, bare_units, other_items, choice_of, payload_item, titled, fields_template, with_flattened, struct_template, content_template, typed_template, values_of, all_patterns, tuple_template, pattern_properties_at, properties_at, other_values, values_template, untagged_template, internal_item, internal_template, said, whole_template, adjacent_payload, adjacent_item, adjacent_template}
 use Rattle.schemars_documents.specs.Describes.{AreAnswered, references_of}
 use Rattle.schemars_documents.proofs.Literals.{literal_document-schema}
 use Rattle.schemars_meaning.proofs.Spread.{AnswersFields}
-use Rattle.schemars_meaning.proofs.ReferencesKept.{Among, among_left, among_right}
-use Rattle.schemars_meaning.proofs.ReferencesKept.{IsNoKey, AreApart, apart-filter, others_apart}
+use Rattle.schemars_meaning.proofs.ReferencesKept.{Among, among_left, among_right, IsNoKey, AreApart, apart-filter, others_apart}
 use Rattle.schemars_meaning.proofs.Schemas.{AreSchemas}
-use Rattle.schemars_meaning.proofs.SpreadMaps.{answered_left, IsMapAt, map_keeps, map_holds}
-use Rattle.schemars_meaning.proofs.SpreadMaps.{part_holds, tag_holds, struct_holds, names_in, more_names, names_apart}
-use Rattle.schemars_meaning.proofs.SpreadMaps.{tag_apart, apart-first}
+use Rattle.schemars_meaning.proofs.SpreadMaps.{answered_left, IsMapAt, map_keeps, map_holds, part_holds, tag_holds, struct_holds, names_in, more_names, names_apart, tag_apart, apart-first}
 use Rattle.schemars_meaning.proofs.NodeReferences.{AsSchema, AsNamed, AreItems, AreNamed, refers_schema, kept_schema}
-use Rattle.schemars_documents.specs.OfShape.{said, whole_template, adjacent_payload, adjacent_item, adjacent_template}
 use Rattle.schemars_text.proofs.Members.{flipped}
 use Rattle.schemars_builders.specs.Variants.{unit_variant}
 

@@ -13,7 +13,7 @@ use Rattle.schemars_shapes.specs.Shape.{Entry}
 use Rattle.schemars_types.specs.Rows.{Row, entry_at}
 use Rattle.schemars_documents.specs.Documents.{reference}
 use Rattle.schemars_types.specs.declared.contract.Contract.{Contract}
-use Rattle.schemars_documents.specs.PlainTable.{IsPlainEntry, IsPlainTable, IsEntryUnder, IsPlainUnder, IsNotedThroughout}
+use Rattle.schemars_documents.specs.PlainTable.{IsPlainEntry, IsPlainTable, IsEntryUnder, IsPlainUnder, IsNotedThroughout, HasPlainNotesThroughout}
 use Rattle.schemars_documents.specs.Basis.{Basis}
 use Rattle.schemars_documents.specs.Template.{Ask, filled}
 use Rattle.schemars_documents.specs.OfShape.{entry_template}
@@ -22,7 +22,6 @@ use Rattle.schemars_meaning.proofs.Parts.{answer_holds, described_holds, written
 use Rattle.schemars_flatten.proofs.References.{flattened_part-refers, opened_inside-refers}
 use Rattle.schemars_meaning.proofs.References.{plain-shape_noted, all_refer}
 use Rattle.schemars_meaning.proofs.Schemas.{AreSchemas, filled_schema}
-use Rattle.schemars_documents.specs.PlainTable.{HasPlainNotesThroughout}
 
 pub plain_rows : (rows : List Row) → IsPlainTable rows → HasPlainNotesThroughout rows
 plain_rows rows plain n = go (entry_at rows n) (plain n)

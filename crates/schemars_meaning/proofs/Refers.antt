@@ -1,6 +1,5 @@
 -- What holds of the references of schemas holds of those of an object that they are put into.
-use Rattle.std.proofs.Common.{◌≡◌, List, [], ◌∷◌, ◌++◌, Bool, true, false, Option, Some, None, Ordering, Less, Equal, Greater}
-use Rattle.std.proofs.Common.{nat_cmp, refl, sym, subst}
+use Rattle.std.proofs.Common.{◌≡◌, List, [], ◌∷◌, ◌++◌, Bool, true, false, Option, Some, None, Ordering, Less, Equal, Greater, nat_cmp, refl, sym, subst}
 use Rattle.std.specs.List.{All}
 use Rattle.std.specs.Prelude.{◌&&◌, codes, bytes_eq, is_some, if◌then◌else◌}
 use Rattle.std.specs.Ordering.{match_ordering}

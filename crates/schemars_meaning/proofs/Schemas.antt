@@ -13,15 +13,12 @@ use Rattle.schemars_types.specs.Meaning.{is_required}
 use Rattle.schemars_types.specs.KeyOptions.{KeyOptions, keys, key_options}
 use Rattle.schemars_documents.specs.Documents.{is_signed}
 use Rattle.schemars_documents.specs.Basis.{Basis}
-use Rattle.schemars_documents.specs.Template.{Template, members_of, finished, asked, list, members, nullable}
-use Rattle.schemars_documents.specs.Template.{noted, with_keywords, tagged, left, filled}
-use Rattle.schemars_documents.specs.OfShape.{template_of, entry_template, values_template, with_flattened, fields_template, bare_units}
-use Rattle.schemars_documents.specs.OfShape.{other_items, choice_of, untagged_template, internal_template, literal_document}
+use Rattle.schemars_documents.specs.Template.{Template, members_of, finished, asked, list, members, nullable, noted, with_keywords, tagged, left, filled}
+use Rattle.schemars_documents.specs.OfShape.{template_of, entry_template, values_template, with_flattened, fields_template, bare_units, other_items, choice_of, untagged_template, internal_template, literal_document, adjacent_template}
 use Rattle.schemars_documents.specs.Describes.{IsWritten, Describes}
 use Rattle.schemars_meaning.proofs.Notes.{annotated-schema}
 use Rattle.schemars_meaning.proofs.Parts.{first_all, described_holds, written_holds}
 use Rattle.schemars_meaning.proofs.ReferencesKept.{allow_null-schema}
-use Rattle.schemars_documents.specs.OfShape.{adjacent_template}
 
 abbrev pub AreSchemas : List Data → Type 0
 AreSchemas = AllByRecursion IsSchema

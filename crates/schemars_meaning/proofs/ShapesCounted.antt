@@ -1,7 +1,6 @@
 -- In a table that is plain under its contract the documents of structs, payloads and shapes say under 2020-12 what they mean, with
 -- steps counted down, where those of smaller values do.
-use Rattle.std.proofs.Common.{◌≡◌, ◌⊎◌, inl, inr, ℕ, zero, suc, ◌+◌, ◌*◌, ◌<◌, ◌≤◌, List, [], ◌∷◌, Bool, map, refl, sym, ap, ◌∙◌, subst}
-use Rattle.std.proofs.Common.{arith, ◌++◌}
+use Rattle.std.proofs.Common.{◌≡◌, ◌⊎◌, inl, inr, ℕ, zero, suc, ◌+◌, ◌*◌, ◌<◌, ◌≤◌, List, [], ◌∷◌, Bool, map, refl, sym, ap, ◌∙◌, subst, arith, ◌++◌}
 use Rattle.std.proofs.Math.Nat.{mul-le-mul_right}
 use Rattle.std.specs.Prelude.{◌||◌}
 use Rattle.std.specs.List.{list_any}
@@ -13,17 +12,14 @@ use Rattle.schemars_schema.specs.Acceptance.{Context, Judge, Patterns, judge}
 use Rattle.schemars_builders.specs.NullLaw.{context2020_12}
 use Rattle.schemars_builders.proofs.Nulls.{ready-schema, IsReady}
 use Rattle.schemars_shapes.specs.Shape as shape
-use Rattle.schemars_shapes.specs.Shape.{Field, Fields, Flattened, Payload, no_payload, newtype_payload, tuple_payload, struct_payload}
-use Rattle.schemars_shapes.specs.Shape.{Shape, Variant}
+use Rattle.schemars_shapes.specs.Shape.{Field, Fields, Flattened, Payload, no_payload, newtype_payload, tuple_payload, struct_payload, Shape, Variant}
 use Rattle.schemars_types.specs.Rows.{Row}
-use Rattle.schemars_types.specs.Effective.{effective, flattened_in, flattened_enums, part_enums, enum_at, spread_payload, spread_variant}
-use Rattle.schemars_types.specs.Effective.{spread_in}
+use Rattle.schemars_types.specs.Effective.{effective, flattened_in, flattened_enums, part_enums, enum_at, spread_payload, spread_variant, spread_in}
 use Rattle.schemars_types.specs.declared.contract.Contract.{Contract}
 use Rattle.schemars_types.specs.Meaning.{Choice, is_required, offers, has_payload, belongs_within, choices_within, has_shape}
 use Rattle.schemars_types.specs.KeyOptions.{key_options}
 use Rattle.schemars_flatten.proofs.Schemas.{flattened-schema}
-use Rattle.schemars_documents.specs.PlainTable.{IsPlainPayload, IsPartUnder, ArePartsUnder, payload_parts, ArePlainVariants, IsTagged}
-use Rattle.schemars_documents.specs.PlainTable.{AreTagged, IsPlainShape, parts_in, variant_parts}
+use Rattle.schemars_documents.specs.PlainTable.{IsPlainPayload, IsPartUnder, ArePartsUnder, payload_parts, ArePlainVariants, IsTagged, AreTagged, IsPlainShape, parts_in, variant_parts}
 use Rattle.schemars_documents.specs.Basis.{Basis}
 use Rattle.schemars_documents.specs.Template.{Ask, Template, members_of, asked, with_keywords, asks_of, filled, first, left}
 use Rattle.schemars_documents.specs.OfShape.{struct_template, payload_template, fields_template, with_flattened, template_of}

@@ -1,6 +1,5 @@
 -- The references of maps that fill templates, with the fields of flattened rows among their own.
-use Rattle.std.proofs.Common.{◌≡◌, List, [], ◌∷◌, ◌++◌, map, Bool, true, false}
-use Rattle.std.proofs.Common.{refl, sym, ap, ◌∙◌, subst, Contains, append_assoc, append-nil}
+use Rattle.std.proofs.Common.{◌≡◌, List, [], ◌∷◌, ◌++◌, map, Bool, true, false, refl, sym, ap, ◌∙◌, subst, Contains, append_assoc, append-nil}
 use Rattle.std.specs.List.{All}
 use Rattle.std.specs.Prelude.{bytes_eq}
 use Rattle.std.proofs.lemmas.List.{map-append}
@@ -21,9 +20,7 @@ use Rattle.schemars_types.specs.Meaning.{is_required}
 use Rattle.schemars_types.specs.Effective.{flattened_fields, effective, flattened_in}
 use Rattle.schemars_documents.specs.Documents.{Keyword, required_names, annotated}
 use Rattle.schemars_documents.specs.PlainTable.{IsNoName, AreDistinct, AreNoted, IsPlainPart, ArePlainParts}
-use Rattle.schemars_documents.specs.Template.{Template, Ask, part, members_of, finished, asked, list, members, nullable, noted}
-use Rattle.schemars_documents.specs.Template.{with_keywords, tagged, Templates, no_templates, template, asks_of, asks_in, first, behind}
-use Rattle.schemars_documents.specs.Template.{left, left_in, keyed, filled, filled_in}
+use Rattle.schemars_documents.specs.Template.{Template, Ask, part, members_of, finished, asked, list, members, nullable, noted, with_keywords, tagged, Templates, no_templates, template, asks_of, asks_in, first, behind, left, left_in, keyed, filled, filled_in}
 use Rattle.schemars_documents.specs.OfShape.{templates_of, property, map_template, fields_template, with_flattened, struct_template}
 use Rattle.schemars_documents.specs.Describes.{AreAnswered, references_of}
 use Rattle.schemars_meaning.proofs.Rows.{asks_at}
@@ -31,8 +28,7 @@ use Rattle.schemars_meaning.proofs.MapDocument.{map_document, noted_by, AllNotes
 use Rattle.schemars_meaning.proofs.Flattened.{noted_by-append, AllNotes-append, must_be_present}
 use Rattle.schemars_meaning.proofs.Flattening.{flattened-maps, tagged-map}
 use Rattle.schemars_meaning.proofs.Spread.{field_keywords, AreWritten, IsFieldsDocument, AnswersFields}
-use Rattle.schemars_meaning.proofs.ReferencesKept.{Among, among_left, among_right, among_append, among_equal, among_turn}
-use Rattle.schemars_meaning.proofs.ReferencesKept.{members-new, references-annotated, IsNoKey, AreApart, AreNew, still_new, none_there}
+use Rattle.schemars_meaning.proofs.ReferencesKept.{Among, among_left, among_right, among_append, among_equal, among_turn, members-new, references-annotated, IsNoKey, AreApart, AreNew, still_new, none_there}
 use Rattle.schemars_meaning.proofs.Refers.{named-put}
 
 -- ---- answers in order

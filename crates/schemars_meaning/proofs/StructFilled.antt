@@ -6,12 +6,10 @@ use Rattle.schemars_schema.specs.Acceptance.{Context}
 use Rattle.schemars_flatten.specs.Flatten.{flattened}
 use Rattle.schemars_shapes.specs.Shape.{Field, Flattened, Fields}
 use Rattle.schemars_types.specs.declared.contract.Contract.{Contract}
-use Rattle.schemars_types.specs.Meaning.{is_required}
+use Rattle.schemars_types.specs.Meaning.{is_required, Choice}
 use Rattle.schemars_documents.specs.Documents.{required_names}
-use Rattle.schemars_documents.specs.Template.{Ask, part, members_of, Template, asked, with_keywords, asks_of, filled}
-use Rattle.schemars_documents.specs.Template.{first}
+use Rattle.schemars_documents.specs.Template.{Ask, part, members_of, Template, asked, with_keywords, asks_of, filled, first}
 use Rattle.schemars_documents.specs.OfShape.{with_flattened, struct_template, fields_template}
-use Rattle.schemars_types.specs.Meaning.{Choice}
 use Rattle.schemars_types.specs.Effective.{flattened_fields}
 use Rattle.schemars_meaning.proofs.MapKeywords.{keywords}
 use Rattle.schemars_meaning.proofs.Flattened.{map_fills}

@@ -1,6 +1,5 @@
 -- The document of a struct with flattened enums says what the struct means.
-use Rattle.std.proofs.Common.{◌≡◌, ℕ, ◌<◌, ◌≤◌, List, [], Option, Some, None, Bool, true, false, option_map, refl, sym, ap, ◌∙◌, arith}
-use Rattle.std.proofs.Common.{subst}
+use Rattle.std.proofs.Common.{◌≡◌, ℕ, ◌<◌, ◌≤◌, List, [], Option, Some, None, Bool, true, false, option_map, refl, sym, ap, ◌∙◌, arith, subst}
 use Rattle.std.proofs.Math.Bool.{or-false}
 use Rattle.std.specs.Prelude.{if◌then◌else◌, is_some, ◌&&◌, ◌||◌, not}
 use Rattle.std.specs.Option.{option_map_or}
@@ -9,23 +8,18 @@ use Rattle.serde_json.specs.Find.{get_member}
 use Rattle.schemars_schema.specs.Json.{Text, IsJson, AreJsonMembers}
 use Rattle.schemars_schema.specs.SchemaData.{IsSchema, put_all}
 use Rattle.schemars_schema.specs.Verdict.{Verdict, Yes, No, both, verdict, all_of, one_of}
-use Rattle.schemars_schema.specs.Acceptance.{Context, Judge, judge, read_data, each_member, each_says}
-use Rattle.schemars_schema.specs.Acceptance.{where_some, have_all}
-use Rattle.schemars_schema.specs.Acceptance.{schema_named}
+use Rattle.schemars_schema.specs.Acceptance.{Context, Judge, judge, read_data, each_member, each_says, where_some, have_all, schema_named}
 use Rattle.schemars_schema.proofs.Verdicts.{both-yes, both-verdict, both-swap, both-assoc, both-middle}
 use Rattle.schemars_schema.proofs.Silent.{silent}
 use Rattle.schemars_shapes.specs.Shape.{Field}
 use Rattle.schemars_types.specs.declared.contract.Contract.{Contract}
-use Rattle.schemars_types.specs.Meaning.{field_named, member_fits, every_member, has_required}
+use Rattle.schemars_types.specs.Meaning.{field_named, member_fits, every_member, has_required, every_part, shut, has_fields}
 use Rattle.schemars_documents.specs.Documents.{Keyword, annotated}
 use Rattle.schemars_meaning.proofs.Notes.{annotated_fits}
-use Rattle.schemars_types.specs.Meaning.{every_part, shut, has_fields}
 use Rattle.schemars_meaning.proofs.MapKeywords.{closed_there}
 use Rattle.schemars_meaning.proofs.Named.{schema_named-judges_in, AreEntries, IsNoMap}
 use Rattle.schemars_meaning.proofs.MapForm.{Keywords, HasKeywords, object-says, says-fits, says-judges, object_type, form_fits}
-use Rattle.schemars_meaning.proofs.StructForm.{Parts, choices_in, all_in, one_in, all_there, one_there}
-use Rattle.schemars_meaning.proofs.StructForm.{struct_keywords}
-use Rattle.schemars_meaning.proofs.StructForm.{ChoicesSay, judges_of, named_says, rest_says, object_says, all_fits, one_fit, covered_by}
+use Rattle.schemars_meaning.proofs.StructForm.{Parts, choices_in, all_in, one_in, all_there, one_there, struct_keywords, ChoicesSay, judges_of, named_says, rest_says, object_says, all_fits, one_fit, covered_by}
 use Rattle.schemars_meaning.proofs.Fields.{Finds}
 
 -- what is required, what the names have, the parts and what is left

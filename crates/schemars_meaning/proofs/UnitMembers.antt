@@ -2,8 +2,7 @@
 use Rattle.std.proofs.Common.{◌≡◌, ℕ, List, [], ◌∷◌, ◌++◌, Option, Some, None, Bool, true, false, map, refl, sym, ap, ◌∙◌, subst}
 use Rattle.std.proofs.lemmas.Slice.Eq.{bytes_eq-Decides}
 use Rattle.std.specs.Prelude.{if◌then◌else◌, bytes_eq, ◌&&◌, ◌||◌, not, codes, option_map, option_and_then}
-use Rattle.serde_json.specs.Data.{Data, string, array, object, Items, item, Members, no_members, member}
-use Rattle.serde_json.specs.Data.{put}
+use Rattle.serde_json.specs.Data.{Data, string, array, object, Items, item, Members, no_members, member, put}
 use Rattle.serde_json.specs.Find.{get, get_member, as_str, as_array}
 use Rattle.serde_json.specs.View.{items_of}
 use Rattle.serde_json.proofs.Views.{get_member-put, get_member-put_other}
@@ -13,22 +12,18 @@ use Rattle.schemars_schema.specs.Annotations.{is_annotation, AreNotes}
 use Rattle.schemars_schema.specs.Verdict.{verdict}
 use Rattle.schemars_schema.specs.Acceptance.{Context, judge, is_null}
 use Rattle.schemars_text.proofs.Members.{get_member-later, differ}
-use Rattle.schemars_schema.proofs.Members.{get_member-replaced, get_member-replaced_other}
-use Rattle.schemars_schema.proofs.Members.{get_member-without}
+use Rattle.schemars_schema.proofs.Members.{get_member-replaced, get_member-replaced_other, get_member-without}
 use Rattle.schemars_schema.proofs.SortedMembers.{IsSorted, sorted-put, sorted-replaced, sorted-without}
 use Rattle.schemars_builders.specs.AllowNull.{null_schema}
 use Rattle.schemars_builders.specs.NullLaw.{text_items}
 use Rattle.schemars_flatten.specs.Flatten.{appended}
 use Rattle.schemars_flatten.specs.Opening.{opened}
-use Rattle.schemars_flatten.specs.Parts.{unit_object, unit_objects, with_items, with_units}
-use Rattle.schemars_flatten.specs.Parts.{first_as_objects, list_changed_at, units_as_objects, flattened_part}
+use Rattle.schemars_flatten.specs.Parts.{unit_object, unit_objects, with_items, with_units, first_as_objects, list_changed_at, units_as_objects, flattened_part}
 use Rattle.schemars_shapes.specs.Shape.{Variant}
 use Rattle.schemars_types.specs.declared.contract.Contract.{Contract}
-use Rattle.schemars_types.specs.Meaning.{exactly_one, none}
+use Rattle.schemars_types.specs.Meaning.{exactly_one, none, Choice, claimed_by, member_choice}
 use Rattle.schemars_documents.specs.Documents.{annotated}
-use Rattle.schemars_types.specs.Meaning.{Choice, claimed_by, member_choice}
-use Rattle.schemars_meaning.proofs.MapKeywords.{noted, noted_by-object, noted-beside, sorted-noted, closed_there}
-use Rattle.schemars_meaning.proofs.MapKeywords.{properties_there, required_there}
+use Rattle.schemars_meaning.proofs.MapKeywords.{noted, noted_by-object, noted-beside, sorted-noted, closed_there, properties_there, required_there}
 use Rattle.schemars_meaning.proofs.MapForm.{Keywords, look_up}
 use Rattle.schemars_meaning.proofs.Offers.{one_object}
 use Rattle.schemars_meaning.proofs.StructForm.{Part, Parts, any_keywords, all_there, one_there}

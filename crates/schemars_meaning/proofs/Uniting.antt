@@ -1,6 +1,5 @@
 -- The keywords of a struct with those of what is flattened into it.
-use Rattle.std.proofs.Common.{◌≡◌, List, [], ◌∷◌, ◌++◌, Option, Some, None, Bool, true, false, refl, sym, ap, ◌∙◌, subst}
-use Rattle.std.proofs.Common.{append-nil}
+use Rattle.std.proofs.Common.{◌≡◌, List, [], ◌∷◌, ◌++◌, Option, Some, None, Bool, true, false, refl, sym, ap, ◌∙◌, subst, append-nil}
 use Rattle.std.proofs.Math.Bool.{and-true, or-false, and_assoc, or_assoc, and_comm, or_comm}
 use Rattle.std.proofs.lemmas.Slice.Eq.{bytes_eq-Decides}
 use Rattle.std.specs.Prelude.{codes, bytes_eq, if◌then◌else◌, is_some, ◌&&◌, ◌||◌}
@@ -15,19 +14,14 @@ use Rattle.schemars_schema.proofs.Objects.{keyword-plain}
 use Rattle.schemars_text.proofs.Members.{differ}
 use Rattle.schemars_schema.proofs.Members.{get_member-without}
 use Rattle.schemars_schema.proofs.SortedMembers.{IsSorted, sorted-put, sorted-without}
-use Rattle.schemars_flatten.specs.Flatten.{with_keywords, moved, moved_beside, united_all, contains_key, has_subschema}
-use Rattle.schemars_flatten.specs.Flatten.{appended}
+use Rattle.schemars_flatten.specs.Flatten.{with_keywords, moved, moved_beside, united_all, contains_key, has_subschema, appended}
 use Rattle.schemars_flatten.proofs.Lookups.{united_option, united_none}
 use Rattle.schemars_documents.specs.Documents.{Keyword}
 use Rattle.schemars_types.specs.Meaning.{Choice, every_part, claims}
-use Rattle.schemars_meaning.proofs.MapKeywords.{sorted-with_keywords, closed_there}
-use Rattle.schemars_meaning.proofs.MapKeywords.{properties-united}
-use Rattle.schemars_meaning.proofs.MapKeywords.{required-united}
+use Rattle.schemars_meaning.proofs.MapKeywords.{sorted-with_keywords, closed_there, properties-united, required-united}
 use Rattle.schemars_meaning.proofs.MapForm.{Keywords, look_up, HasKeywords}
 use Rattle.schemars_meaning.proofs.Offers.{one_object}
-use Rattle.schemars_meaning.proofs.StructForm.{Part, Parts, objects, all_in, one_in, choices_in, all_there, one_there}
-use Rattle.schemars_meaning.proofs.StructForm.{any_keywords, additional_there, unevaluated_there}
-use Rattle.schemars_meaning.proofs.StructForm.{additional_beside, unevaluated_beside, struct_keywords, every_part-append, claims-append}
+use Rattle.schemars_meaning.proofs.StructForm.{Part, Parts, objects, all_in, one_in, choices_in, all_there, one_there, any_keywords, additional_there, unevaluated_there, additional_beside, unevaluated_beside, struct_keywords, every_part-append, claims-append}
 use Rattle.schemars_meaning.proofs.Joining.{without-here, one_left, with_both, Joined, joined}
 
 -- members in order, with these look-ups at every name that is no annotation

@@ -7,8 +7,7 @@ use Rattle.schemars_schema.specs.Verdict.{Yes, No}
 use Rattle.schemars_schema.specs.Acceptance.{Dialect, draft2020_12, draft2019_09, accepts, read_data, all_keywords, follow}
 use Rattle.schemars_schema.proofs.JsonLiterals.{entry}
 use Rattle.schemars_shapes.specs.Shape as shape
-use Rattle.schemars_shapes.specs.Shape.{Shape, Flattened, Required, Fields, Variant, no_payload, newtype_payload}
-use Rattle.schemars_shapes.specs.Shape.{in_place, needed}
+use Rattle.schemars_shapes.specs.Shape.{Shape, Flattened, Required, Fields, Variant, no_payload, newtype_payload, in_place, needed}
 use Rattle.schemars_types.specs.Rows.{Row}
 use Rattle.schemars_types.specs.declared.contract.Contract.{Contract}
 use Rattle.schemars_types.specs.declared.contract.Contract.TheVariants.{Deserialize, Serialize}

@@ -1,6 +1,5 @@
 -- Fields of structs and of the rows flattened into them.
-use Rattle.std.proofs.Common.{◌≡◌, ℕ, suc, List, [], ◌∷◌, ◌++◌, Option, Some, None, Bool, true, false, refl, sym, ap, ◌∙◌}
-use Rattle.std.proofs.Common.{map, append_assoc, append-nil, ◌<◌, ◌+◌, length, get_or, drop}
+use Rattle.std.proofs.Common.{◌≡◌, ℕ, suc, List, [], ◌∷◌, ◌++◌, Option, Some, None, Bool, true, false, refl, sym, ap, ◌∙◌, map, append_assoc, append-nil, ◌<◌, ◌+◌, length, get_or, drop}
 use Rattle.std.specs.Prelude.{is_some, if◌then◌else◌, option_and_then}
 use Rattle.std.proofs.lemmas.List.{map-append, drop_more}
 use Rattle.std.specs.Option.{option_map_or}
@@ -9,8 +8,7 @@ use Rattle.schemars_shapes.specs.declared.shape.Flattened as src
 use Rattle.schemars_shapes.specs.Shape as shape
 use Rattle.schemars_types.specs.Rows.{Row, entry_at}
 use Rattle.schemars_types.specs.Edges.{option_at}
-use Rattle.schemars_types.specs.Effective.{without_options, fields_within, effective, flattened_fields}
-use Rattle.schemars_types.specs.Effective.{part_fields, weakened, shape_fields}
+use Rattle.schemars_types.specs.Effective.{without_options, fields_within, effective, flattened_fields, part_fields, weakened, shape_fields}
 use Rattle.schemars_plain.specs.Decided.{Said, as_said, struct_of}
 
 -- ---- what is said of fields

@@ -1,7 +1,5 @@
 -- What the tests of fields, variants and flattened rows tell.
-use Rattle.std.proofs.Common.{◌≡◌, ℕ, List, [], ◌∷◌, ◌++◌, Option, Some, None, Bool, true, false, refl, sym, ap, ◌∙◌}
-use Rattle.std.proofs.Common.{true≢false, map, subst}
-use Rattle.std.proofs.Common.{◌<◌, length, inl, inr}
+use Rattle.std.proofs.Common.{◌≡◌, ℕ, List, [], ◌∷◌, ◌++◌, Option, Some, None, Bool, true, false, refl, sym, ap, ◌∙◌, true≢false, map, subst, ◌<◌, length, inl, inr}
 use Rattle.std.specs.Prelude.{not, ◌&&◌, ◌||◌, bytes_eq, option_and_then}
 use Rattle.std.specs.Bool.{Decides}
 use Rattle.std.specs.Option.{option_map_or}
@@ -10,17 +8,12 @@ use Rattle.schemars_schema.specs.Json.{Text}
 use Rattle.schemars_text.specs.OrderedText.{is_listed}
 use Rattle.schemars_text.proofs.Members.{bytes_eq_comm}
 use Rattle.schemars_shapes.specs.Shape as shape
-use Rattle.schemars_shapes.specs.Shape.{Shape, Field, Fields, Flattened, Payload, Variant, Entry, no_payload, newtype_payload}
-use Rattle.schemars_shapes.specs.Shape.{tuple_payload, struct_payload}
+use Rattle.schemars_shapes.specs.Shape.{Shape, Field, Fields, Flattened, Payload, Variant, Entry, no_payload, newtype_payload, tuple_payload, struct_payload}
 use Rattle.schemars_types.specs.Rows.{Row, entry_at}
 use Rattle.schemars_types.specs.Effective.{effective, flattened_in, spread_in}
-use Rattle.schemars_documents.specs.PlainTable.{IsNoName, AreDistinct, AreNoted, IsNoVariant, AreDistinctVariants, IsPlainPayload}
-use Rattle.schemars_documents.specs.PlainTable.{ArePlainVariants, IsTagged, AreTagged, payload_parts, variant_parts, IsOpenStruct}
-use Rattle.schemars_documents.specs.PlainTable.{IsPlainPart, ArePlainParts, IsPlainShape, IsPlainEntry, IsPlainTable}
+use Rattle.schemars_documents.specs.PlainTable.{IsNoName, AreDistinct, AreNoted, IsNoVariant, AreDistinctVariants, IsPlainPayload, ArePlainVariants, IsTagged, AreTagged, payload_parts, variant_parts, IsOpenStruct, IsPlainPart, ArePlainParts, IsPlainShape, IsPlainEntry, IsPlainTable}
 use Rattle.std.proofs.lemmas.Option.{slice_get_cases}
-use Rattle.schemars_plain.specs.Decided.{as_said, names_said, all_noted, all_differ, are_annotations, is_plain_list, is_named, struct_of}
-use Rattle.schemars_plain.specs.Decided.{is_plain_payload, is_plain_variant, are_plain_variants, names_of_variants, is_tagged, are_tagged}
-use Rattle.schemars_plain.specs.Decided.{spread_variant_in, is_open, is_plain_part, are_plain_parts, payloads_have_plain_parts}
+use Rattle.schemars_plain.specs.Decided.{as_said, names_said, all_noted, all_differ, are_annotations, is_plain_list, is_named, struct_of, is_plain_payload, is_plain_variant, are_plain_variants, names_of_variants, is_tagged, are_tagged, spread_variant_in, is_open, is_plain_part, are_plain_parts, payloads_have_plain_parts}
 use Rattle.schemars_plain.proofs.Literals.{always, itself, notes_decided}
 
 pub never : Decides false ⊥

@@ -1,6 +1,5 @@
 -- What the tests of names and flattened rows tell under a contract.
-use Rattle.std.proofs.Common.{◌≡◌, ℕ, List, [], ◌∷◌, ◌++◌, Option, Some, None, Bool, true, false, refl, sym, ap, ◌∙◌}
-use Rattle.std.proofs.Common.{true≢false, map, subst, ◌<◌, length, inl, inr, suc, arith}
+use Rattle.std.proofs.Common.{◌≡◌, ℕ, List, [], ◌∷◌, ◌++◌, Option, Some, None, Bool, true, false, refl, sym, ap, ◌∙◌, true≢false, map, subst, ◌<◌, length, inl, inr, suc, arith}
 use Rattle.std.specs.Prelude.{not, ◌&&◌, ◌||◌, ◌==◌, option_and_then}
 use Rattle.std.specs.Bool.{Decides}
 use Rattle.std.specs.Option.{option_map_or}
@@ -11,23 +10,14 @@ use Rattle.serde_json.specs.Data.{Members}
 use Rattle.schemars_schema.specs.Json.{Text}
 use Rattle.schemars_text.specs.OrderedText.{is_listed}
 use Rattle.schemars_shapes.specs.Shape as shape
-use Rattle.schemars_shapes.specs.Shape.{Shape, Field, Fields, Flattened, Payload, Variant, Entry, no_payload, newtype_payload}
-use Rattle.schemars_shapes.specs.Shape.{tuple_payload, struct_payload, payload_names}
+use Rattle.schemars_shapes.specs.Shape.{Shape, Field, Fields, Flattened, Payload, Variant, Entry, no_payload, newtype_payload, tuple_payload, struct_payload, payload_names}
 use Rattle.schemars_shapes.specs.Units.{is_none}
 use Rattle.schemars_types.specs.Rows.{Row, entry_at}
-use Rattle.schemars_types.specs.Effective.{effective, flattened_in, flattened_enums, part_enums, spread_in, spread_fields, enum_at}
-use Rattle.schemars_types.specs.Effective.{without_options}
+use Rattle.schemars_types.specs.Effective.{effective, flattened_in, flattened_enums, part_enums, spread_in, spread_fields, enum_at, without_options}
 use Rattle.schemars_types.specs.declared.contract.Contract.{Contract}
-use Rattle.schemars_documents.specs.PlainTable.{IsNoName, AreNoNames, AreOthers, AreApartFrom, AreApart, HasNamesApart, enum_names}
-use Rattle.schemars_documents.specs.PlainTable.{enum_names_at, all_payload_names, PayloadHasNamesApart, VariantsHaveNamesApart}
-use Rattle.schemars_documents.specs.PlainTable.{ShapeHasNamesApart, IsBare, HasBareUnits, HasVariant, HasNoEnums, VariantsHaveNoEnums}
-use Rattle.schemars_documents.specs.PlainTable.{IsPartShape, IsPartEntry, may_miss, IsPartUnder, ArePartsUnder, payload_parts}
-use Rattle.schemars_documents.specs.PlainTable.{variant_parts, IsEntryUnder, IsPlainUnder}
+use Rattle.schemars_documents.specs.PlainTable.{IsNoName, AreNoNames, AreOthers, AreApartFrom, AreApart, HasNamesApart, enum_names, enum_names_at, all_payload_names, PayloadHasNamesApart, VariantsHaveNamesApart, ShapeHasNamesApart, IsBare, HasBareUnits, HasVariant, HasNoEnums, VariantsHaveNoEnums, IsPartShape, IsPartEntry, may_miss, IsPartUnder, ArePartsUnder, payload_parts, variant_parts, IsEntryUnder, IsPlainUnder}
 use Rattle.schemars_plain.specs.Decided.{as_said, names_said, names_of_variants, spread_variant_in}
-use Rattle.schemars_plain.specs.Under.{none_in, apart_from, are_apart, field_names, payload_field_names, variant_field_names}
-use Rattle.schemars_plain.specs.Under.{names_in, names_at, tag_names, fields_apart, payload_apart, variants_apart, shape_apart}
-use Rattle.schemars_plain.specs.Under.{is_bare, has_bare_units, has_no_enums, variants_have_no_enums, is_part_enum, is_part_shape}
-use Rattle.schemars_plain.specs.Under.{is_part_entry, is_part_under, are_parts_under, payloads_have_parts_under}
+use Rattle.schemars_plain.specs.Under.{none_in, apart_from, are_apart, field_names, payload_field_names, variant_field_names, names_in, names_at, tag_names, fields_apart, payload_apart, variants_apart, shape_apart, is_bare, has_bare_units, has_no_enums, variants_have_no_enums, is_part_enum, is_part_shape, is_part_entry, is_part_under, are_parts_under, payloads_have_parts_under}
 use Rattle.schemars_plain.proofs.Literals.{always, itself}
 use Rattle.schemars_plain.proofs.Tables.{never, differ_decided, named_decided}
 

@@ -8,8 +8,7 @@ use Rattle.schemars_schema.specs.Edits.{is_text}
 use Rattle.schemars_text.specs.OrderedText.{is_listed}
 use Rattle.schemars_schema.specs.Acceptance.{type_names}
 use Rattle.schemars_schema.specs.Annotations.{is_annotation}
-use Rattle.schemars_shapes.specs.Shape.{Shape, Field, Fields, Flattened, Payload, Variant, Entry, struct}
-use Rattle.schemars_shapes.specs.Shape.{no_payload, newtype_payload, tuple_payload, struct_payload}
+use Rattle.schemars_shapes.specs.Shape.{Shape, Field, Fields, Flattened, Payload, Variant, Entry, struct, no_payload, newtype_payload, tuple_payload, struct_payload}
 use Rattle.schemars_types.specs.Rows.{Row, entry_at}
 use Rattle.schemars_types.specs.Effective.{flattened_in, part_enums, spread_variant, spread_payload}
 use Rattle.schemars_documents.specs.PlainTable.{payload_parts}

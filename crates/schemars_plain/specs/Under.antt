@@ -4,8 +4,7 @@ use Rattle.std.specs.Option.{option_map_or}
 use Rattle.schemars_schema.specs.Json.{Text}
 use Rattle.schemars_text.specs.OrderedText.{is_listed}
 use Rattle.schemars_shapes.specs.Shape as shape
-use Rattle.schemars_shapes.specs.Shape.{Shape, Fields, Flattened, Payload, Variant, Entry}
-use Rattle.schemars_shapes.specs.Shape.{no_payload, newtype_payload, tuple_payload, struct_payload}
+use Rattle.schemars_shapes.specs.Shape.{Shape, Fields, Flattened, Payload, Variant, Entry, no_payload, newtype_payload, tuple_payload, struct_payload}
 use Rattle.schemars_shapes.specs.Units.{is_none}
 use Rattle.schemars_types.specs.Rows.{Row, entry_at}
 use Rattle.schemars_types.specs.Effective.{effective, flattened_in, flattened_enums, part_enums, without_options}

@@ -2,10 +2,8 @@
 ghost use Rattle.std.specs.Prelude.{◌≡◌, ◌++◌, List, map, IfOk, OnOk, option_map, option_and_then};
 ghost use Rattle.schemars_shapes.specs.Shape.{field_of, fields_of};
 ghost use Rattle.schemars_types.specs.Rows.{entry_at};
-ghost use Rattle.schemars_types.specs.Effective.{fields_within, effective};
-ghost use Rattle.schemars_types.specs.Effective.{part_fields, flattened_in};
-ghost use Rattle.schemars_plain.specs.Decided.{as_said, all_noted, is_plain_list, names_said};
-ghost use Rattle.schemars_plain.specs.Decided.{struct_of, is_named};
+ghost use Rattle.schemars_types.specs.Effective.{fields_within, effective, part_fields, flattened_in};
+ghost use Rattle.schemars_plain.specs.Decided.{as_said, all_noted, is_plain_list, names_said, struct_of, is_named};
 ghost use Rattle.schemars_plain.specs.Under.{field_names};
 
 use crate::names::all_differ;

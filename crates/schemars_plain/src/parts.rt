@@ -1,11 +1,9 @@
 //! What is flattened into the maps of a row.
 ghost use Rattle.std.specs.Prelude.{◌≡◌, ◌↔◌, map, IsTrue};
-ghost use Rattle.schemars_shapes.specs.Shape.{shape_of, flattened_of, payload_of, variant_of};
-ghost use Rattle.schemars_shapes.specs.Shape.{internal_payload_of, internal_variant_of};
+ghost use Rattle.schemars_shapes.specs.Shape.{shape_of, flattened_of, payload_of, variant_of, internal_payload_of, internal_variant_of};
 ghost use Rattle.schemars_types.specs.Rows.{entry_at};
 ghost use Rattle.schemars_documents.specs.PlainTable.{payload_parts, parts_in, ArePlainParts};
-ghost use Rattle.schemars_plain.specs.Decided.{is_open, are_plain_parts};
-ghost use Rattle.schemars_plain.specs.Decided.{payloads_have_plain_parts};
+ghost use Rattle.schemars_plain.specs.Decided.{is_open, are_plain_parts, payloads_have_plain_parts};
 
 use crate::fields::struct_at;
 use schemars_types::{

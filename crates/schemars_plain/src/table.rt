@@ -4,8 +4,7 @@ ghost use Rattle.schemars_shapes.specs.Shape.{shape_of, variant_of, internal_vie
 ghost use Rattle.schemars_types.specs.Rows.{entry_at};
 ghost use Rattle.schemars_types.specs.Effective.{spread_in};
 ghost use Rattle.schemars_documents.specs.PlainTable.{IsPlainShape, IsPlainEntry, IsPlainTable};
-ghost use Rattle.schemars_plain.specs.Decided.{all_differ, names_of_variants, are_plain_variants};
-ghost use Rattle.schemars_plain.specs.Decided.{are_tagged, spread_variant_in};
+ghost use Rattle.schemars_plain.specs.Decided.{all_differ, names_of_variants, are_plain_variants, are_tagged, spread_variant_in};
 
 use crate::fields::are_plain;
 use crate::literal::is_plain_literal;

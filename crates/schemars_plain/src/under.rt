@@ -1,14 +1,9 @@
 //! Tables that are plain under a contract: Options and enums may be flattened too.
 ghost use Rattle.std.specs.Prelude.{◌≡◌, ◌↔◌, ◌&&◌, map, not, IsTrue, IfOk, option_map, Some, None};
-ghost use Rattle.schemars_shapes.specs.Shape.{shape_of, flattened_of, payload_of, variant_of};
-ghost use Rattle.schemars_shapes.specs.Shape.{internal_payload_of, internal_variant_of, internal_view};
+ghost use Rattle.schemars_shapes.specs.Shape.{shape_of, flattened_of, payload_of, variant_of, internal_payload_of, internal_variant_of, internal_view};
 ghost use Rattle.schemars_types.specs.Rows.{entry_at};
-ghost use Rattle.schemars_documents.specs.PlainTable.{payload_parts, parts_in, may_miss};
-ghost use Rattle.schemars_documents.specs.PlainTable.{IsEntryUnder, IsPlainUnder};
-ghost use Rattle.schemars_plain.specs.Under.{payload_apart, variants_apart, shape_apart};
-ghost use Rattle.schemars_plain.specs.Under.{is_bare, has_bare_units, has_no_enums, variants_have_no_enums};
-ghost use Rattle.schemars_plain.specs.Under.{is_part_enum, is_part_shape, is_part_entry, is_part_under};
-ghost use Rattle.schemars_plain.specs.Under.{are_parts_under, payloads_have_parts_under};
+ghost use Rattle.schemars_documents.specs.PlainTable.{payload_parts, parts_in, may_miss, IsEntryUnder, IsPlainUnder};
+ghost use Rattle.schemars_plain.specs.Under.{payload_apart, variants_apart, shape_apart, is_bare, has_bare_units, has_no_enums, variants_have_no_enums, is_part_enum, is_part_shape, is_part_entry, is_part_under, are_parts_under, payloads_have_parts_under};
 
 use crate::enums::{fields_apart, flattened_enums};
 use crate::notes::{are_notes, has_no_notes};

@@ -1,12 +1,8 @@
 //! The variants of enums.
 ghost use Rattle.std.specs.Prelude.{◌≡◌, ◌&&◌, map, IfOk};
 ghost use Rattle.serde_json.specs.View.{members_view};
-ghost use Rattle.schemars_shapes.specs.Shape.{payload_of, variant_of};
-ghost use Rattle.schemars_shapes.specs.Shape.{internal_payload_of, internal_variant_of};
-ghost use Rattle.schemars_plain.specs.Decided.{is_plain_payload, is_plain_variant};
-ghost use Rattle.schemars_plain.specs.Decided.{are_plain_variants, names_of_variants, all_differ};
-ghost use Rattle.schemars_plain.specs.Decided.{is_tagged, are_tagged};
-ghost use Rattle.schemars_plain.specs.Decided.{spread_variant_in, spread_payload_in};
+ghost use Rattle.schemars_shapes.specs.Shape.{payload_of, variant_of, internal_payload_of, internal_variant_of};
+ghost use Rattle.schemars_plain.specs.Decided.{is_plain_payload, is_plain_variant, are_plain_variants, names_of_variants, all_differ, is_tagged, are_tagged, spread_variant_in, spread_payload_in};
 
 use crate::fields::{are_plain, has_name};
 use crate::names::all_differ;

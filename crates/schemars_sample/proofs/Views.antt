@@ -2,9 +2,7 @@
 use Rattle.std.proofs.Common.{◌≡◌, [], rules, String, Global, Vec}
 use Rattle.std.specs.Prelude.{string_bytes}
 use Rattle.schemars_sample.specs.Example.{example_of, entries_view, struct, collected_map, struct_variant}
-use Rattle.schemars_sample.specs.declared.sample.Sample.{Sample}
-use Rattle.schemars_sample.specs.declared.sample.Sample.{Map, CollectMap, Struct, StructVariant}
-use Rattle.schemars_sample.specs.declared.sample.Sample.{the_lemmas}
+use Rattle.schemars_sample.specs.declared.sample.Sample.{Sample, Map, CollectMap, Struct, StructVariant, the_lemmas}
 
 pub example_of-Map : (v : Vec (String Global × Sample) Global) → example_of (Map v) ≡ struct [] (entries_view v.items)
 example_of-Map v = search (rules, the_lemmas)

@@ -1,17 +1,12 @@
 -- The JSON of an example value, as serializers write it.
-use Rattle.std.specs.Prelude.{ℕ, Bool, true, nat_lt, ◌^◌, ◌-◌, ◌&&◌, ℤ, pos, negsuc, int_le, if◌then◌else◌, List, [], ◌∷◌, map, Option, Some, None}
-use Rattle.std.specs.Prelude.{◌≡◌, false, option_map, option_and_then, encode_utf8}
+use Rattle.std.specs.Prelude.{ℕ, Bool, true, nat_lt, ◌^◌, ◌-◌, ◌&&◌, ℤ, pos, negsuc, int_le, if◌then◌else◌, List, [], ◌∷◌, map, Option, Some, None, ◌≡◌, false, option_map, option_and_then, encode_utf8}
 use Rattle.std.specs.Option.{IfSome}
-use Rattle.serde_json.specs.Data.{Data, null, boolean, number, unsigned, string, array, object}
+use Rattle.serde_json.specs.Data.{Data, null, boolean, number, unsigned, string, array, object, Members, no_members, member, put}
 use Rattle.serde_json.specs.View.{items_of}
 use Rattle.serde_json.specs.Written.{has_float}
-use Rattle.serde_json.specs.Data.{Members, no_members, member, put}
 use Rattle.serde_json.specs.Find.{of_integer, of_float}
 use Rattle.schemars_schema.specs.Json.{Text}
-use Rattle.schemars_sample.specs.Example.{Example, truth, whole, decimal, character, text, bytes, no_value, some_value}
-use Rattle.schemars_sample.specs.Example.{unit_struct, unit_variant, newtype_struct, newtype_variant, seq, tuple}
-use Rattle.schemars_sample.specs.Example.{tuple_variant, struct, collected_map, struct_variant}
-use Rattle.schemars_sample.specs.Example.{Examples, no_examples, example, Entries, no_entries, entry}
+use Rattle.schemars_sample.specs.Example.{Example, truth, whole, decimal, character, text, bytes, no_value, some_value, unit_struct, unit_variant, newtype_struct, newtype_variant, seq, tuple, tuple_variant, struct, collected_map, struct_variant, Examples, no_examples, example, Entries, no_entries, entry}
 
 -- a whole number from -2^63 to 2^64 - 1
 abbrev pub whole_json : ℤ → Option Data

@@ -1,6 +1,5 @@
 -- A whole number against a float, exactly: the float's whole part tells, since a float of 2^53 or more has no fraction.
-use Rattle.std.proofs.Common.{◌≡◌, ℕ, zero, suc, ◌+◌, ◌*◌, ◌/◌, ◌%◌, ◌^◌, ◌<◌, ◌≤◌, ℤ, pos, negsuc, Bool, true, false, T, refl, sym, ap, ◌∙◌, arith}
-use Rattle.std.proofs.Common.{true≢false, div-add-mod', mod-lt, nat_eq, div-le_self, subst, mul-pos, div-lt_iff_lt-mul, mul-div_cancel, min, ltb, w64, le_trans}
+use Rattle.std.proofs.Common.{◌≡◌, ℕ, zero, suc, ◌+◌, ◌*◌, ◌/◌, ◌%◌, ◌^◌, ◌<◌, ◌≤◌, ℤ, pos, negsuc, Bool, true, false, T, refl, sym, ap, ◌∙◌, arith, true≢false, div-add-mod', mod-lt, nat_eq, div-le_self, subst, mul-pos, div-lt_iff_lt-mul, mul-div_cancel, min, ltb, w64, le_trans, unsigned_abs}
 use Rattle.std.proofs.lemmas.Bool.Decides.{nat_tests}
 use Rattle.std.specs.Float.{Float, nan, inf, fin, binary64, two_to, minus_one}
 use Rattle.std.specs.Float.Ieee
@@ -18,7 +17,6 @@ use Rattle.serde_json.specs.Number.{num_of, is_valid}
 use Rattle.serde_json.specs.declared.number.N.{N}
 use Rattle.serde_json.specs.declared.number.N.TheVariants.{PosInt, NegInt}
 use Rattle.serde_json.specs.declared.number.N.TheVariants as the
-use Rattle.std.proofs.Common.{unsigned_abs}
 use Rattle.schemars_schema.specs.Numbers.{of_whole, value_of, number_eq}
 use Rattle.schemars_schema.proofs.ByValue.{eq-left, eq_sym, eq_whole, some_same, none_some}
 

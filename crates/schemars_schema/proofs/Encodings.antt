@@ -1,8 +1,5 @@
 -- A name is found again under its encoding.
-use Rattle.std.proofs.Common.{◌≡◌, ◌≢◌, ℕ, zero, suc, ◌+◌, ◌-◌, ◌*◌, ◌/◌, ◌%◌, ◌<◌, ◌≤◌, List, [], ◌∷◌, ◌++◌, length}
-use Rattle.std.proofs.Common.{Option, Some, None, Bool, true, false, refl, sym, ap, ◌∙◌, arith, true≢false}
-use Rattle.std.proofs.Common.{append_assoc, eqb-true, eq-eqb, take, drop, length-append, option_and_then, cond, get_or}
-use Rattle.std.proofs.Common.{subst, ⊎_elim}
+use Rattle.std.proofs.Common.{◌≡◌, ◌≢◌, ℕ, zero, suc, ◌+◌, ◌-◌, ◌*◌, ◌/◌, ◌%◌, ◌<◌, ◌≤◌, List, [], ◌∷◌, ◌++◌, length, Option, Some, None, Bool, true, false, refl, sym, ap, ◌∙◌, arith, true≢false, append_assoc, eqb-true, eq-eqb, take, drop, length-append, option_and_then, cond, get_or, subst, ⊎_elim}
 use Rattle.std.specs.Prelude.{nat_lt, ◌==◌, ◌&&◌, ◌||◌, if◌then◌else◌, option_map, IsUtf8, All}
 use Rattle.std.specs.List.{list_all}
 use Rattle.std.specs.Str.{is_utf8, IsAscii}
@@ -13,15 +10,13 @@ use Rattle.std.proofs.lemmas.Grind.{get_or_default_zero}
 use borrow.Author.Tests.{ltb-true}
 use Rattle.std.proofs.lemmas.Bool.Decides.{nat_tests}
 use Rattle.std.proofs.lemmas.List.{take_all}
-use Rattle.std.proofs.lemmas.Str.{IsUtf8-append, IsUtf8-encode, IsUtf8-nil, IsUtf8-from_is_utf8, IsUtf8-from_ascii}
-use Rattle.std.proofs.lemmas.Str.{encode_ascii, utf8_valid_len-IsUtf8}
+use Rattle.std.proofs.lemmas.Str.{IsUtf8-append, IsUtf8-encode, IsUtf8-nil, IsUtf8-from_is_utf8, IsUtf8-from_ascii, encode_ascii, utf8_valid_len-IsUtf8}
 use lib.Utf8.{encode, encodes, scalar, scalars, scalar_cases, next}
 use Rattle.serde_json.specs.Data.{Data, object, Members}
 use Rattle.serde_json.specs.Find.{unescape, get_member, step, walk, pointer}
 use Rattle.serde_json.proofs.Paths.{Lacks, walk_last}
 use Rattle.schemars_schema.specs.Json.{Text}
-use Rattle.schemars_schema.specs.Encoding.{is_hex_digit, hex_value, percent_decoded_bytes, text_of_bytes, percent_decoded}
-use Rattle.schemars_schema.specs.Encoding.{begins_escape, has_escape, stays, hex_digit, encoded_byte, encoded, lookup}
+use Rattle.schemars_schema.specs.Encoding.{is_hex_digit, hex_value, percent_decoded_bytes, text_of_bytes, percent_decoded, begins_escape, has_escape, stays, hex_digit, encoded_byte, encoded, lookup}
 
 -- ---- decoding
 

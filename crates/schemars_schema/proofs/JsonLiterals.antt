@@ -2,8 +2,7 @@
 use Rattle.std.proofs.Common.{ℕ, List, [], ◌∷◌}
 use Rattle.std.specs.Prelude.{codes, negsuc}
 use Prim.Native.String.{String}
-use Rattle.serde_json.specs.Data.{Data, number, unsigned, negative, string, array, object, Items, no_items, item}
-use Rattle.serde_json.specs.Data.{Members, no_members, member}
+use Rattle.serde_json.specs.Data.{Data, number, unsigned, negative, string, array, object, Items, no_items, item, Members, no_members, member}
 use Rattle.schemars_schema.specs.Json.{Text}
 
 abbrev pub text : String → Data

@@ -1,7 +1,5 @@
 -- Pointers, a token at a time.
-use Rattle.std.proofs.Common.{◌≡◌, ◌≢◌, ℕ, suc, ◌+◌, ◌*◌, ◌<◌, List, [], ◌∷◌, ◌++◌, length, get_or, take, drop, Option}
-use Rattle.std.proofs.Common.{Some, None, Bool, true, false, refl, sym, ap, ◌∙◌, arith, true≢false, option_and_then}
-use Rattle.std.proofs.Common.{append-nil, append_assoc, length-append, ne_eqb, inl, inr, ◌⊎◌}
+use Rattle.std.proofs.Common.{◌≡◌, ◌≢◌, ℕ, suc, ◌+◌, ◌*◌, ◌<◌, List, [], ◌∷◌, ◌++◌, length, get_or, take, drop, Option, Some, None, Bool, true, false, refl, sym, ap, ◌∙◌, arith, true≢false, option_and_then, append-nil, append_assoc, length-append, ne_eqb, inl, inr, ◌⊎◌}
 use Rattle.std.specs.Prelude.{◌==◌, ◌&&◌, if◌then◌else◌, All, IsUtf8}
 use Rattle.std.proofs.lemmas.List.{drop_more, take-append-drop, get_or-take, length-take}
 use Rattle.std.proofs.lemmas.Grind.{get_or_default_zero}

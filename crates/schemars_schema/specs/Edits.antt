@@ -1,7 +1,6 @@
 -- Plain JSON: what a text, a list or an object holds, and small changes of lists and of members.
 use Rattle.std.specs.Prelude.{◌||◌, ◌==◌, Bool, false, Option, Some, None, is_some, bytes_eq, if◌then◌else◌}
-use Rattle.serde_json.specs.Data.{Data, null, boolean, number, string, array, object, Items, no_items, item}
-use Rattle.serde_json.specs.Data.{Members, no_members, member, put}
+use Rattle.serde_json.specs.Data.{Data, null, boolean, number, string, array, object, Items, no_items, item, Members, no_members, member, put}
 use Rattle.serde_json.specs.Events.{members_len}
 use Rattle.serde_json.specs.Find.{get_member, as_object, as_str}
 use Rattle.schemars_schema.specs.Json.{Text}

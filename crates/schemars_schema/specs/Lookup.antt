@@ -1,6 +1,5 @@
 -- What a reference leads to: JSON Pointer in a fragment (RFC 6901, section 6).
-use Rattle.std.specs.Prelude.{◌≡◌, ◌≢◌, ◌⊎◌, ◌++◌, All, ◌==◌, [], ◌∷◌, Bool, true, false, if◌then◌else◌, Option, Some}
-use Rattle.std.specs.Prelude.{None, option_and_then}
+use Rattle.std.specs.Prelude.{◌≡◌, ◌≢◌, ◌⊎◌, ◌++◌, All, ◌==◌, [], ◌∷◌, Bool, true, false, if◌then◌else◌, Option, Some, None, option_and_then}
 use Rattle.serde_json.specs.Data.{Data, null, boolean, number, string, array, object}
 use Rattle.serde_json.specs.Find.{pointer}
 use Rattle.schemars_schema.specs.Json.{Text}

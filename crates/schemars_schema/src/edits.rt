@@ -3,9 +3,7 @@ ghost use Rattle.std.specs.Prelude.{◌≡◌, OnOk, map};
 ghost use Rattle.serde_json.specs.Data.{array, no_items};
 ghost use Rattle.serde_json.specs.Find.{as_str};
 ghost use Rattle.serde_json.specs.View.{view, items_view, members_view};
-ghost use Rattle.schemars_schema.specs.Edits.{is_text, holds_text, has_one_member, with_last};
-ghost use Rattle.schemars_schema.specs.Edits.{changed_at};
-ghost use Rattle.schemars_schema.specs.Edits.{put_missing};
+ghost use Rattle.schemars_schema.specs.Edits.{is_text, holds_text, has_one_member, with_last, changed_at, put_missing};
 ghost use Rattle.schemars_text.specs.OrderedText.{is_listed};
 
 use crate::schema::Schema;

@@ -1,17 +1,11 @@
 //! Names in references: JSON Pointers in the fragment of a URI.
-ghost use Rattle.std.specs.Prelude.{◌≡◌, ◌≢◌, ◌∷◌, ◌++◌, ◌<◌, Some, option_map, string_bytes, All};
-ghost use Rattle.std.specs.Prelude.{IfOk, OnOk, IsOkAnd};
-ghost use Rattle.std.specs.Prelude.{IsSomeAnd, IfSome, IsTrue, is_some, length};
+ghost use Rattle.std.specs.Prelude.{◌≡◌, ◌≢◌, ◌∷◌, ◌++◌, ◌<◌, Some, option_map, string_bytes, All, IfOk, OnOk, IsOkAnd, IsSomeAnd, IfSome, IsTrue, is_some, length};
 ghost use Rattle.std.specs.List.{list_all};
 ghost use Rattle.std.specs.Cow.{cow_str_bytes, IsBorrowedStr};
 ghost use Rattle.serde_json.specs.Data.{Data, object, Members};
 ghost use Rattle.serde_json.specs.Find.{unescape, get_member};
 ghost use Rattle.schemars_schema.specs.Json.{Text};
-ghost use Rattle.schemars_schema.specs.Encoding.{percent_decoded_bytes, percent_decoded};
-ghost use Rattle.schemars_schema.specs.Encoding.{begins_escape, has_escape};
-ghost use Rattle.schemars_schema.specs.Encoding.{is_hex_digit, hex_value, stays, hex_digit};
-ghost use Rattle.schemars_schema.specs.Encoding.{encoded_byte, encoded};
-ghost use Rattle.schemars_schema.specs.Encoding.{lookup};
+ghost use Rattle.schemars_schema.specs.Encoding.{percent_decoded_bytes, percent_decoded, begins_escape, has_escape, is_hex_digit, hex_value, stays, hex_digit, encoded_byte, encoded, lookup};
 
 use std::alloc::{AllocError, Global};
 use std::borrow::CowStr;

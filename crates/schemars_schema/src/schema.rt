@@ -1,6 +1,5 @@
 //! The type of schemas.
-ghost use Rattle.std.specs.Prelude.{◌≡◌, ℕ, None, codes, string_bytes, option_map, IfOk, OnOk};
-ghost use Rattle.std.specs.Prelude.{OnErr, OnSome};
+ghost use Rattle.std.specs.Prelude.{◌≡◌, ℕ, None, codes, string_bytes, option_map, IfOk, OnOk, OnErr, OnSome};
 ghost use Rattle.serde_json.specs.Data.{Data, boolean, object, string, member, no_members, put};
 ghost use Rattle.serde_json.specs.Find.{as_bool, as_object, get, get_member};
 ghost use Rattle.serde_json.specs.View.{view, members_view};

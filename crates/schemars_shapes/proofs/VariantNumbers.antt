@@ -5,8 +5,7 @@ use Rattle.std.proofs.lemmas.List.Folds.{find-append}
 use Rattle.std.proofs.lemmas.List.{at_drop_more}
 use Rattle.schemars_shapes.specs.declared.variant.Variant as src-variant
 use Rattle.schemars_shapes.specs.declared.variant.InternalVariant as src-internal_variant
-use Rattle.schemars_shapes.specs.Shape.{Variant, payload_of, variant_of, internal_payload_of, internal_variant_of}
-use Rattle.schemars_shapes.specs.Shape.{payload_numbers, variant_numbers}
+use Rattle.schemars_shapes.specs.Shape.{Variant, payload_of, variant_of, internal_payload_of, internal_variant_of, payload_numbers, variant_numbers}
 
 module _ {A : Type 0} (f : A → Variant) (p : ℕ → Bool) where
   first_in : List A → Option ℕ

@@ -1,8 +1,7 @@
 -- Entries without decimals in their notes and literals: numbers that are no 64-bit whole numbers.
 use Rattle.std.specs.Prelude.{List, [], ◌∷◌, Bool, false, ◌||◌}
 use Rattle.serde_json.specs.Written.{has_float, members_have_float}
-use Rattle.schemars_shapes.specs.Shape.{Shape, Field, Entry, Payload, Variant, struct, external, untagged, internal}
-use Rattle.schemars_shapes.specs.Shape.{adjacent, literal, struct_payload}
+use Rattle.schemars_shapes.specs.Shape.{Shape, Field, Entry, Payload, Variant, struct, external, untagged, internal, adjacent, literal, struct_payload}
 
 abbrev pub fields_have_float : List Field → Bool
 fields_have_float [] = false

@@ -1,7 +1,6 @@
 //! The variants of enums.
 ghost use Rattle.std.specs.Prelude.{◌≡◌, ◌&&◌, map, bytes_eq};
-ghost use Rattle.schemars_shapes.specs.Shape.{payload_of, variant_of, internal_payload_of};
-ghost use Rattle.schemars_shapes.specs.Shape.{internal_variant_of, internal_view, adjacent_view};
+ghost use Rattle.schemars_shapes.specs.Shape.{payload_of, variant_of, internal_payload_of, internal_variant_of, internal_view, adjacent_view};
 ghost use Rattle.schemars_shapes.specs.Equality.{bool_eq, payload_eq, variant_eq, variants_eq};
 ghost use Rattle.schemars_shapes.specs.Units.{is_bare_unit};
 

@@ -1,7 +1,5 @@
 -- Members that are found under some keys in one pass.
-use Rattle.std.proofs.Common.{◌≡◌, ◌<◌, ◌≤◌, ℕ, max, zero, suc, List, [], ◌∷◌, ◌++◌, length, get_or, set, take, map}
-use Rattle.std.proofs.Common.{Bor, Bool, true, false, not, ◌||◌, ◌&&◌}
-use Rattle.std.proofs.Common.{Option, Some, None, option_map, is_some, refl, sym, ap, ap₂, ◌∙◌, arith}
+use Rattle.std.proofs.Common.{◌≡◌, ◌<◌, ◌≤◌, ℕ, max, zero, suc, List, [], ◌∷◌, ◌++◌, length, get_or, set, take, map, Bor, Bool, true, false, not, ◌||◌, ◌&&◌, Option, Some, None, option_map, is_some, refl, sym, ap, ap₂, ◌∙◌, arith}
 use Rattle.std.proofs.lemmas.Bool.{or_parts}
 use Rattle.std.proofs.lemmas.List.{take-map}
 use Rattle.std.proofs.Math.ListN.{get_or-map}

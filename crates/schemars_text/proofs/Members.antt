@@ -1,6 +1,5 @@
 -- When two keys are the same, and what is found under a key.
-use Rattle.std.proofs.Common.{◌≡◌, ◌≢◌, Option, Some, Bool, true, false, Ordering, Less, Equal, Greater, refl, sym, ◌∙◌, ap}
-use Rattle.std.proofs.Common.{is_eq, true≢false, nat_cmp}
+use Rattle.std.proofs.Common.{◌≡◌, ◌≢◌, Option, Some, Bool, true, false, Ordering, Less, Equal, Greater, refl, sym, ◌∙◌, ap, is_eq, true≢false, nat_cmp}
 use Rattle.std.proofs.lemmas.Cmp.{nat_list_cmp_total, nat_list_eq_equiv, tied_itself}
 use Rattle.std.proofs.lemmas.Map.Text.{is_eq-slice_cmp}
 use Rattle.std.proofs.lemmas.Slice.Eq.{bytes_eq-Decides}

@@ -1,7 +1,5 @@
 -- Text that is written value by value, and members that are looked up by their keys.
-use Rattle.std.proofs.Common.{◌≡◌, ◌<◌, ◌+◌, ℕ, List, [], ◌∷◌, ◌++◌, length, get_or, drop, map, Bor}
-use Rattle.std.proofs.Common.{add-one, drop-cons, Bool, true, false, ◌||◌, Some, None, Ordering, Less, Equal}
-use Rattle.std.proofs.Common.{Greater, is_eq, nat_cmp, refl, sym, ap, ◌∙◌, append_assoc, append-nil}
+use Rattle.std.proofs.Common.{◌≡◌, ◌<◌, ◌+◌, ℕ, List, [], ◌∷◌, ◌++◌, length, get_or, drop, map, Bor, add-one, drop-cons, Bool, true, false, ◌||◌, Some, None, Ordering, Less, Equal, Greater, is_eq, nat_cmp, refl, sym, ap, ◌∙◌, append_assoc, append-nil}
 use Rattle.std.proofs.lemmas.Bool.{or_parts}
 use Rattle.std.proofs.lemmas.Map.Text.{is_eq-slice_cmp}
 use Rattle.std.proofs.lemmas.Slice.Eq.{bytes_eq-Decides}
@@ -15,8 +13,7 @@ use Rattle.serde_json.specs.Find.{get_member}
 use Rattle.serde_json.specs.Written.{comma_if, has_float, items_have_float, members_have_float}
 use Rattle.schemars_text.specs.Text.{Text}
 use Rattle.schemars_text.specs.Output.{Output, with_token, with_value, with_values}
-use Rattle.schemars_text.specs.OrderedText.{Layout, SchemaLayout, Written, written_at, each_written_at, arranged, texts}
-use Rattle.schemars_text.specs.OrderedText.{layout_under, layout_inside, with_commas, text_in, item_texts, member_texts}
+use Rattle.schemars_text.specs.OrderedText.{Layout, SchemaLayout, Written, written_at, each_written_at, arranged, texts, layout_under, layout_inside, with_commas, text_in, item_texts, member_texts}
 
 -- ---- text
 

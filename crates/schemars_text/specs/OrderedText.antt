@@ -1,7 +1,6 @@
 -- The text of a schema: compact JSON (RFC 8259) with the keywords of each schema object in a fixed order.
-use Rattle.std.specs.Prelude.{List, [], ◌∷◌, ◌++◌, ◌||◌, Bool, true, false, not, if◌then◌else◌, filter, map, codes, bytes_eq}
+use Rattle.std.specs.Prelude.{List, [], ◌∷◌, ◌++◌, ◌||◌, Bool, true, false, not, if◌then◌else◌, filter, map, codes, bytes_eq, nat_eq}
 use Rattle.std.specs.List.{starts_with}
-use Rattle.std.specs.Prelude.{nat_eq}
 use Rattle.json.specs.Print.{quoted}
 use Rattle.serde_json.specs.Data.{Data, null, boolean, number, string, array, object, Items, no_items, item, Members, no_members, member}
 use Rattle.serde_json.specs.Written.{compact_text, comma_if}

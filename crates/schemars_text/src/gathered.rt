@@ -1,9 +1,7 @@
 //! Text that is handed to a sink in blocks.
-ghost use Rattle.std.specs.Prelude.{◌≡◌, ◌<◌, ◌≤◌, ℕ, List, [], ◌∷◌, Option, length, take};
-ghost use Rattle.std.specs.Prelude.{false, not, cond, ◌&&◌};
+ghost use Rattle.std.specs.Prelude.{◌≡◌, ◌<◌, ◌≤◌, ℕ, List, [], ◌∷◌, Option, length, take, false, not, cond, ◌&&◌};
 ghost use Rattle.std.specs.Bool.{OnTrue};
-ghost use Rattle.json.specs.Print.{escape, escape_letter, escape_byte, quoted};
-ghost use Rattle.json.specs.Print.{begins, ends, token_text};
+ghost use Rattle.json.specs.Print.{escape, escape_letter, escape_byte, quoted, begins, ends, token_text};
 ghost use Rattle.json.specs.Reads.{token_of};
 ghost use Rattle.std.specs.Char.{digit_char};
 ghost use Rattle.schemars_text.specs.Target.{IsGathered};

@@ -1,21 +1,12 @@
 //! The walk over a schema that writes its text, with keywords in a fixed order.
-ghost use Rattle.std.specs.Prelude.{◌≡◌, ◌∷◌, ◌++◌, false, map};
-ghost use Rattle.std.specs.Prelude.{length, option_map};
+ghost use Rattle.std.specs.Prelude.{◌≡◌, ◌∷◌, ◌++◌, false, map, length, option_map};
 ghost use Rattle.json.specs.Print.{quoted};
 ghost use Rattle.json.specs.Token.{boolean, number, string};
 ghost use Rattle.serde_json.specs.Data.{Members};
 ghost use Rattle.serde_json.specs.Find.{get_member, is_float};
 ghost use Rattle.serde_json.specs.View.{view, number_view, items_view, members_view};
-ghost use Rattle.serde_json.specs.Written.{has_float, items_have_float, members_have_float};
-ghost use Rattle.serde_json.specs.Written.{number_text};
-ghost use Rattle.schemars_text.specs.OrderedText.{first_keywords, last_keywords};
-ghost use Rattle.schemars_text.specs.OrderedText.{holds_plain_json};
-ghost use Rattle.schemars_text.specs.OrderedText.{holds_named_schemas, SchemaLayout};
-ghost use Rattle.schemars_text.specs.OrderedText.{layout_under, layout_inside};
-ghost use Rattle.schemars_text.specs.OrderedText.{each_written_at, others, arranged, texts};
-ghost use Rattle.schemars_text.specs.OrderedText.{text_in};
-ghost use Rattle.schemars_text.specs.OrderedText.{item_texts, member_texts};
-ghost use Rattle.schemars_text.specs.OrderedText.{object_text};
+ghost use Rattle.serde_json.specs.Written.{has_float, items_have_float, members_have_float, number_text};
+ghost use Rattle.schemars_text.specs.OrderedText.{first_keywords, last_keywords, holds_plain_json, holds_named_schemas, SchemaLayout, layout_under, layout_inside, each_written_at, others, arranged, texts, text_in, item_texts, member_texts, object_text};
 ghost use Rattle.schemars_text.specs.Output.{with_token, with_value, with_values, layout_meant};
 ghost use Rattle.schemars_text.specs.Target.{Becomes};
 

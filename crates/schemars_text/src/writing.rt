@@ -1,6 +1,5 @@
 //! The text of a schema or of definitions, in memory or written to a sink.
-ghost use Rattle.std.specs.Prelude.{◌≡◌, ◌≢◌, ℕ, List, [], Err, false, not, string_bytes};
-ghost use Rattle.std.specs.Prelude.{IfOk, OnOk, IsTrue};
+ghost use Rattle.std.specs.Prelude.{◌≡◌, ◌≢◌, ℕ, List, [], Err, false, not, string_bytes, IfOk, OnOk, IsTrue};
 ghost use Rattle.json.specs.Lex.{tokens};
 ghost use Rattle.json.specs.Print.{print};
 ghost use Rattle.serde_json.specs.View.{view, members_view};

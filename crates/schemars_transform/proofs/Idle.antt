@@ -6,8 +6,7 @@ use Rattle.serde_json.specs.Events.{members_len}
 use Rattle.schemars_schema.specs.Json.{Text}
 use Rattle.schemars_schema.specs.References.{Place, NoSchemas, OneSchema, SchemaList, SchemaOrList, SchemasByName}
 use Rattle.schemars_walk.specs.Rewritten.{Rules, rewritten, form_at, forms, in_items, in_names, in_keywords}
-use Rattle.schemars_transform.specs.Needs.{keyword_named, is_changed, with_keyword, place_asked, needed_at, needs_of}
-use Rattle.schemars_transform.specs.Needs.{needed, needed_by_items, needed_by_names, needed_by_keywords}
+use Rattle.schemars_transform.specs.Needs.{keyword_named, is_changed, with_keyword, place_asked, needed_at, needs_of, needed, needed_by_items, needed_by_names, needed_by_keywords}
 use Rattle.schemars_transform.specs.declared.needs.Needs.{Needs}
 
 -- of each keyword of an object

@@ -13,8 +13,7 @@ use Rattle.schemars_text.proofs.Members.{get_member-later, get_member-member}
 use Rattle.schemars_walk.specs.Walk.{TransformStep}
 use Rattle.schemars_walk.specs.Order.{InOrder}
 use Rattle.schemars_walk.specs.Rewritten.{everywhere, all_changed, form_at, forms}
-use Rattle.schemars_transform.specs.Built.{bool_rules, replace_bool_schemas, reference_moved, without_siblings, first_as_example, with_single_example}
-use Rattle.schemars_transform.specs.Built.{value_as_enum, const_as_enum, prefix_moved, prefix_as_items}
+use Rattle.schemars_transform.specs.Built.{bool_rules, replace_bool_schemas, reference_moved, without_siblings, first_as_example, with_single_example, value_as_enum, const_as_enum, prefix_moved, prefix_as_items}
 use Rattle.schemars_transform.specs.Nullable.{has_null, nulls_in, nullable_by, with_nullable}
 use Rattle.schemars_transform.specs.Unevaluated.{closed_by, unevaluated_as_additional}
 use Rattle.schemars_transform.specs.Member.{OfMember}
@@ -23,9 +22,7 @@ use Rattle.schemars_transform.specs.declared.built_in.bool_schemas.ReplaceBoolSc
 use Rattle.schemars_transform.specs.declared.built_in.nullable.AddNullable as nullable
 use Rattle.schemars_transform.specs.declared.built_in.nullable.Nulls.TheVariants.{Missing}
 use Rattle.schemars_transform.specs.declared.gen_transform.GenTransform.{GenTransform}
-use Rattle.schemars_transform.specs.declared.gen_transform.GenTransform.TheVariants.{ReplaceBoolSchemas, RemoveRefSiblings, SetSingleExample}
-use Rattle.schemars_transform.specs.declared.gen_transform.GenTransform.TheVariants.{ReplaceConstValue, ReplacePrefixItems, AddNullable}
-use Rattle.schemars_transform.specs.declared.gen_transform.GenTransform.TheVariants.{ReplaceUnevaluatedProperties, RestrictFormats, Own}
+use Rattle.schemars_transform.specs.declared.gen_transform.GenTransform.TheVariants.{ReplaceBoolSchemas, RemoveRefSiblings, SetSingleExample, ReplaceConstValue, ReplacePrefixItems, AddNullable, ReplaceUnevaluatedProperties, RestrictFormats, Own}
 use Rattle.schemars_transform.specs.declared.needs.Needs.{Needs}
 use Rattle.schemars_transform.specs.declared.needs.Keyword.{Keyword}
 use Rattle.schemars_transform.specs.declared.needs.Keyword.TheVariants.{Other, Additional, Reference, Examples, Const, PrefixItems, Types, Unevaluated}

@@ -9,9 +9,7 @@ use Rattle.schemars_walk.specs.Order.{InOrder}
 use Rattle.schemars_transform.specs.Member.{OfMember, is_own, some_own}
 use Rattle.schemars_transform.specs.BuiltIn.{function_of, made_by, value_made_by, each_made_by}
 use Rattle.schemars_transform.specs.declared.gen_transform.GenTransform.{GenTransform}
-use Rattle.schemars_transform.specs.declared.gen_transform.GenTransform.TheVariants.{ReplaceBoolSchemas, RemoveRefSiblings, SetSingleExample}
-use Rattle.schemars_transform.specs.declared.gen_transform.GenTransform.TheVariants.{ReplaceConstValue, ReplacePrefixItems, AddNullable}
-use Rattle.schemars_transform.specs.declared.gen_transform.GenTransform.TheVariants.{ReplaceUnevaluatedProperties, RestrictFormats, Own}
+use Rattle.schemars_transform.specs.declared.gen_transform.GenTransform.TheVariants.{ReplaceBoolSchemas, RemoveRefSiblings, SetSingleExample, ReplaceConstValue, ReplacePrefixItems, AddNullable, ReplaceUnevaluatedProperties, RestrictFormats, Own}
 
 -- no transforms change nothing
 pub no_transforms : {S : Type 0} (Q : TransformStep S) (s : Data) (r : Answer) (us : List S) (v : Data)

@@ -9,16 +9,13 @@ use Rattle.schemars_schema.specs.SchemaData.{IsSchema, members_in}
 use Rattle.schemars_schema.specs.Edits.{replaced}
 use Rattle.schemars_schema.specs.References.{NoSchemas, SchemasByName, place_under}
 use Rattle.schemars_walk.specs.Rewritten.{Rules, rewritten, everywhere, all_changed, form_at, forms, in_names, in_keywords}
-use Rattle.schemars_transform.specs.Built.{bool_rules, replace_bool_schemas}
-use Rattle.schemars_transform.specs.Built.{without_siblings, with_single_example, const_as_enum, prefix_as_items}
+use Rattle.schemars_transform.specs.Built.{bool_rules, replace_bool_schemas, without_siblings, with_single_example, const_as_enum, prefix_as_items}
 use Rattle.schemars_transform.specs.Nullable.{with_nullable}
 use Rattle.schemars_transform.specs.Unevaluated.{unevaluated_as_additional}
 use Rattle.schemars_transform.specs.BuiltIn.{function_of, made_by, value_made_by, each_made_by}
 use Rattle.schemars_transform.specs.declared.built_in.bool_schemas.ReplaceBoolSchemas as bools
 use Rattle.schemars_transform.specs.declared.gen_transform.GenTransform.{GenTransform}
-use Rattle.schemars_transform.specs.declared.gen_transform.GenTransform.TheVariants.{ReplaceBoolSchemas, RemoveRefSiblings, SetSingleExample}
-use Rattle.schemars_transform.specs.declared.gen_transform.GenTransform.TheVariants.{ReplaceConstValue, ReplacePrefixItems, AddNullable}
-use Rattle.schemars_transform.specs.declared.gen_transform.GenTransform.TheVariants.{ReplaceUnevaluatedProperties, RestrictFormats, Own}
+use Rattle.schemars_transform.specs.declared.gen_transform.GenTransform.TheVariants.{ReplaceBoolSchemas, RemoveRefSiblings, SetSingleExample, ReplaceConstValue, ReplacePrefixItems, AddNullable, ReplaceUnevaluatedProperties, RestrictFormats, Own}
 use Rattle.schemars_transform.specs.Apart.{is_local, are_local}
 use Rattle.schemars_transform.proofs.Replaced.{turned, keywords-replaced, replaced-twice, replaced-found}
 use Rattle.schemars_transform.proofs.Turns.{IsApart, Turns, const_turns, example_turns, prefix_turns, reference_turns, null_turns, unevaluated_turns}

@@ -16,9 +16,7 @@ use Rattle.schemars_transform.specs.BuiltIn.{function_of, made_by, each_made_by}
 use Rattle.schemars_transform.specs.Member.{OfMember, is_own, some_own}
 use Rattle.schemars_transform.specs.Apart.{is_local, are_local, definition_keys, IsTaken}
 use Rattle.schemars_transform.specs.declared.gen_transform.GenTransform.{GenTransform}
-use Rattle.schemars_transform.specs.declared.gen_transform.GenTransform.TheVariants.{ReplaceBoolSchemas, RemoveRefSiblings, SetSingleExample}
-use Rattle.schemars_transform.specs.declared.gen_transform.GenTransform.TheVariants.{ReplaceConstValue, ReplacePrefixItems, AddNullable}
-use Rattle.schemars_transform.specs.declared.gen_transform.GenTransform.TheVariants.{ReplaceUnevaluatedProperties, RestrictFormats, Own}
+use Rattle.schemars_transform.specs.declared.gen_transform.GenTransform.TheVariants.{ReplaceBoolSchemas, RemoveRefSiblings, SetSingleExample, ReplaceConstValue, ReplacePrefixItems, AddNullable, ReplaceUnevaluatedProperties, RestrictFormats, Own}
 use Rattle.schemars_transform.proofs.Replaced.{replaced-found, replaced-missing}
 use Rattle.schemars_transform.proofs.Turns.{IsApart, defs_apart, definitions_apart}
 use Rattle.schemars_transform.proofs.Parted.{made_in_parts, parted}

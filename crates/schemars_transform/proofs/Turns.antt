@@ -11,11 +11,9 @@ use Rattle.schemars_schema.specs.SchemaData.{members_in, inserted}
 use Rattle.schemars_schema.specs.Edits.{without, removed, replaced, with_last}
 use Rattle.schemars_schema.specs.References.{SchemasByName, place_under}
 use Rattle.schemars_schema.proofs.Members.{get_member-replaced_other}
-use Rattle.schemars_transform.specs.Built.{referring, reference_moved, without_siblings, first_as_example, with_single_example}
-use Rattle.schemars_transform.specs.Built.{value_as_enum, const_as_enum, old_items_moved, prefix_moved, prefix_as_items}
+use Rattle.schemars_transform.specs.Built.{referring, reference_moved, without_siblings, first_as_example, with_single_example, value_as_enum, const_as_enum, old_items_moved, prefix_moved, prefix_as_items}
 use Rattle.schemars_transform.specs.Nullable.{nulls_in, type_without_null, null_taken_out, null_alone, null_among, nullable_by, with_nullable}
-use Rattle.schemars_transform.specs.Unevaluated.{Names, names_under, property_names, with_names, object_with_names, properties_made}
-use Rattle.schemars_transform.specs.Unevaluated.{properties_named, with_properties, closed_by, unevaluated_as_additional}
+use Rattle.schemars_transform.specs.Unevaluated.{Names, names_under, property_names, with_names, object_with_names, properties_made, properties_named, with_properties, closed_by, unevaluated_as_additional}
 use Rattle.schemars_transform.specs.declared.built_in.nullable.AddNullable.{AddNullable}
 use Rattle.schemars_transform.specs.declared.built_in.nullable.Nulls.{Nulls}
 use Rattle.schemars_transform.specs.declared.built_in.nullable.Nulls.TheVariants.{Missing, Alone, Among}

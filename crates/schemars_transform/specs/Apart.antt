@@ -7,9 +7,7 @@ use Rattle.schemars_schema.specs.SchemaData.{members_in}
 use Rattle.schemars_schema.specs.Edits.{replaced}
 use Rattle.std.specs.List.{list_all}
 use Rattle.schemars_transform.specs.declared.gen_transform.GenTransform.{GenTransform}
-use Rattle.schemars_transform.specs.declared.gen_transform.GenTransform.TheVariants.{ReplaceBoolSchemas, RemoveRefSiblings, SetSingleExample}
-use Rattle.schemars_transform.specs.declared.gen_transform.GenTransform.TheVariants.{ReplaceConstValue, ReplacePrefixItems, AddNullable}
-use Rattle.schemars_transform.specs.declared.gen_transform.GenTransform.TheVariants.{ReplaceUnevaluatedProperties, RestrictFormats, Own}
+use Rattle.schemars_transform.specs.declared.gen_transform.GenTransform.TheVariants.{ReplaceBoolSchemas, RemoveRefSiblings, SetSingleExample, ReplaceConstValue, ReplacePrefixItems, AddNullable, ReplaceUnevaluatedProperties, RestrictFormats, Own}
 
 -- whether a transform does the same at every schema, whatever is around it:
 -- formats are restricted by the draft that is named above; of a transform of one's own nothing is known

@@ -1,15 +1,12 @@
 -- What built-in transforms make of a schema.
 use Rattle.std.specs.Prelude.{◌≡◌, List, [], ◌∷◌}
 use Rattle.serde_json.specs.Data.{Data, null, boolean, number, string, array, object, Members, no_members, member}
-use Rattle.schemars_transform.specs.Built.{replace_bool_schemas, remove_ref_siblings, set_single_example}
-use Rattle.schemars_transform.specs.Built.{replace_const_value, replace_prefix_items}
+use Rattle.schemars_transform.specs.Built.{replace_bool_schemas, remove_ref_siblings, set_single_example, replace_const_value, replace_prefix_items}
 use Rattle.schemars_transform.specs.Nullable.{add_nullable}
 use Rattle.schemars_transform.specs.Unevaluated.{replace_unevaluated_properties}
 use Rattle.schemars_transform.specs.Formats.{restrict_formats}
 use Rattle.schemars_transform.specs.declared.gen_transform.GenTransform.{GenTransform}
-use Rattle.schemars_transform.specs.declared.gen_transform.GenTransform.TheVariants.{ReplaceBoolSchemas, RemoveRefSiblings, SetSingleExample}
-use Rattle.schemars_transform.specs.declared.gen_transform.GenTransform.TheVariants.{ReplaceConstValue, ReplacePrefixItems, AddNullable}
-use Rattle.schemars_transform.specs.declared.gen_transform.GenTransform.TheVariants.{ReplaceUnevaluatedProperties, RestrictFormats, Own}
+use Rattle.schemars_transform.specs.declared.gen_transform.GenTransform.TheVariants.{ReplaceBoolSchemas, RemoveRefSiblings, SetSingleExample, ReplaceConstValue, ReplacePrefixItems, AddNullable, ReplaceUnevaluatedProperties, RestrictFormats, Own}
 
 -- the function of a built-in transform; of one's own nothing is known
 abbrev pub function_of : {O : Type 0} → GenTransform O → Data → Data

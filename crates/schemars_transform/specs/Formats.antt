@@ -1,6 +1,5 @@
 -- Which formats stay.
-use Rattle.std.specs.Prelude.{◌||◌, List, [], ◌∷◌, Bool, true, false}
-use Rattle.std.specs.Prelude.{Option, Some, None, if◌then◌else◌, option_and_then, codes, bytes_eq, String}
+use Rattle.std.specs.Prelude.{◌||◌, List, [], ◌∷◌, Bool, true, false, Option, Some, None, if◌then◌else◌, option_and_then, codes, bytes_eq, String}
 use Rattle.std.specs.Global.{Global}
 use Rattle.std.specs.BTreeSet.{BTreeSet, contains_text}
 use Rattle.serde_json.specs.Data.{Data}

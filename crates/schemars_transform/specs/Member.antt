@@ -4,16 +4,13 @@ use Rattle.std.specs.Global.{Global}
 use Rattle.std.specs.List.{AllZip, list_any}
 use Rattle.schemars_walk.specs.Walk.{TransformStep}
 use Rattle.schemars_walk.specs.Order.{InOrder}
-use Rattle.schemars_transform.specs.Built.{Changes, replace_bool_schemas, remove_ref_siblings, set_single_example}
-use Rattle.schemars_transform.specs.Built.{replace_const_value, replace_prefix_items}
+use Rattle.schemars_transform.specs.Built.{Changes, replace_bool_schemas, remove_ref_siblings, set_single_example, replace_const_value, replace_prefix_items}
 use Rattle.schemars_transform.specs.Nullable.{add_nullable}
 use Rattle.schemars_transform.specs.Unevaluated.{replace_unevaluated_properties}
 use Rattle.schemars_transform.specs.Formats.{restrict_formats}
 use Rattle.schemars_transform.specs.declared.built_in.formats.RestrictFormats as formats
 use Rattle.schemars_transform.specs.declared.gen_transform.GenTransform.{GenTransform}
-use Rattle.schemars_transform.specs.declared.gen_transform.GenTransform.TheVariants.{ReplaceBoolSchemas, RemoveRefSiblings, SetSingleExample}
-use Rattle.schemars_transform.specs.declared.gen_transform.GenTransform.TheVariants.{ReplaceConstValue, ReplacePrefixItems, AddNullable}
-use Rattle.schemars_transform.specs.declared.gen_transform.GenTransform.TheVariants.{ReplaceUnevaluatedProperties, RestrictFormats, Own}
+use Rattle.schemars_transform.specs.declared.gen_transform.GenTransform.TheVariants.{ReplaceBoolSchemas, RemoveRefSiblings, SetSingleExample, ReplaceConstValue, ReplacePrefixItems, AddNullable, ReplaceUnevaluatedProperties, RestrictFormats, Own}
 
 -- a built-in transform changes the schema by its function and stays as it is; one of one's own does what it states
 abbrev pub OfMember : {O : Type 0} → TransformStep O → TransformStep (GenTransform O)

@@ -3,10 +3,7 @@ ghost use Rattle.std.specs.Prelude.{◌≡◌};
 ghost use Rattle.serde_json.specs.Data.{member, no_members};
 ghost use Rattle.serde_json.specs.View.{view, items_view, members_view};
 ghost use Rattle.schemars_walk.specs.Walk.{place_meant};
-ghost use Rattle.schemars_transform.specs.Needs.{keyword_named, place_asked, is_changed};
-ghost use Rattle.schemars_transform.specs.Needs.{with_keyword, needed, needed_at, needs_of};
-ghost use Rattle.schemars_transform.specs.Needs.{needed_by_items, needed_by_names};
-ghost use Rattle.schemars_transform.specs.Needs.{needed_by_keywords};
+ghost use Rattle.schemars_transform.specs.Needs.{keyword_named, place_asked, is_changed, with_keyword, needed, needed_at, needs_of, needed_by_items, needed_by_names, needed_by_keywords};
 
 use crate::built_in::nullable::has_null;
 use schemars_walk::rewrite::place::{Place, place_under};

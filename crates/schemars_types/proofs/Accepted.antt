@@ -12,8 +12,7 @@ use Rattle.schemars_types.proofs.EdgeLemmas.{Contains-filter, Contains-filtered,
 use Rattle.schemars_types.proofs.Names.{lists_differ_or_repeated}
 pub use Rattle.schemars_types.proofs.Names.{never_first_repeated}
 use Rattle.schemars_types.specs.Rows.{Row, entry_at}
-use Rattle.schemars_types.specs.Edges.{RefersWithin, DirectEdge, SameValueEdge, direct_targets, same_value_targets}
-use Rattle.schemars_types.specs.Edges.{is_row, same_value_numbers_at, height, rank, names_at}
+use Rattle.schemars_types.specs.Edges.{RefersWithin, DirectEdge, SameValueEdge, direct_targets, same_value_targets, is_row, same_value_numbers_at, height, rank, names_at}
 use Rattle.schemars_types.specs.Faults.{IsUndefined, HasRepeated, OnDirectCycle, OnEmptyCycle, IsAccepted, IsChecked}
 
 -- ---- names

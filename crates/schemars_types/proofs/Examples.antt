@@ -2,11 +2,9 @@
 use Rattle.std.proofs.Common.{◌≡◌, ℕ, List, [], ◌∷◌, Some, None, Bool, true, false, refl}
 use Rattle.std.specs.Prelude.{codes}
 use Prim.Native.String.{String}
-use Rattle.serde_json.specs.Data.{Data, boolean, number, unsigned, string, array, Items, no_items, item, Members}
-use Rattle.serde_json.specs.Data.{no_members, member}
+use Rattle.serde_json.specs.Data.{Data, boolean, number, unsigned, string, array, Items, no_items, item, Members, no_members, member}
 use Rattle.schemars_shapes.specs.declared.shape.IntKind.TheVariants.{U8, I8, I32, U64}
-use Rattle.schemars_shapes.specs.Shape.{Shape, int, non_zero, text, any, newtype, external, untagged, literal, in_place}
-use Rattle.schemars_shapes.specs.Shape.{Variant, Payload, no_payload, newtype_payload}
+use Rattle.schemars_shapes.specs.Shape.{Shape, int, non_zero, text, any, newtype, external, untagged, literal, in_place, Variant, Payload, no_payload, newtype_payload}
 use Rattle.schemars_schema.specs.Json.{Text}
 use Rattle.schemars_schema.specs.SchemaData.{object_of}
 use Rattle.schemars_schema.specs.Acceptance.{Patterns}

@@ -1,6 +1,5 @@
 -- Members of lists of numbers, the targets of a number, and what closed walks need.
-use Rattle.std.proofs.Common.{◌≡◌, ◌<◌, ◌+◌, inl, inr, All, ℕ, zero, suc, List, [], ◌∷◌, Vec, length, get_or, Contains}
-use Rattle.std.proofs.Common.{slice_index, refl, sym, subst, arith}
+use Rattle.std.proofs.Common.{◌≡◌, ◌<◌, ◌+◌, inl, inr, All, ℕ, zero, suc, List, [], ◌∷◌, Vec, length, get_or, Contains, slice_index, refl, sym, subst, arith}
 use Rattle.std.specs.declared.alloc.Global.{Global}
 use Rattle.std.proofs.lemmas.Bool.{cases_eq}
 use Rattle.std.proofs.lemmas.List.Elements.{All-contains}

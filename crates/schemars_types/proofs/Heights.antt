@@ -1,6 +1,5 @@
 -- Where no walk closes, the longest walks are bounded and fall along each edge.
-use Rattle.std.proofs.Common.{◌≡◌, ◌<◌, ◌≤◌, ◌||◌, inl, inr, ℕ, zero, suc, max, List, [], ◌∷◌, Bool, true, false}
-use Rattle.std.proofs.Common.{length, Contains, refl, sym, ap, subst, arith, eqb}
+use Rattle.std.proofs.Common.{◌≡◌, ◌<◌, ◌≤◌, ◌||◌, inl, inr, ℕ, zero, suc, max, List, [], ◌∷◌, Bool, true, false, length, Contains, refl, sym, ap, subst, arith, eqb}
 use Rattle.std.proofs.lemmas.Bool.{cases_eq, eqb-true}
 use Rattle.std.specs.List.{IsDistinct, AllByRecursion, list_any}
 use Rattle.std.proofs.lemmas.Map.Steps.{length-le_from_distinct_below}

@@ -1,10 +1,7 @@
 -- What a search meets, one number after another.
-use Rattle.std.proofs.Common.{◌≡◌, ◌<◌, ◌+◌, ◌⊎◌, inl, inr, ℕ, zero, suc, List, [], ◌∷◌, ◌++◌, Bool, true, false, Some}
-use Rattle.std.proofs.Common.{length, get_or, Contains, refl, sym, ap, ◌∙◌, subst, arith, length-set, length-append}
-use Rattle.std.proofs.Common.{replicate, slice_get}
+use Rattle.std.proofs.Common.{◌≡◌, ◌<◌, ◌+◌, ◌⊎◌, inl, inr, ℕ, zero, suc, List, [], ◌∷◌, ◌++◌, Bool, true, false, Some, length, get_or, Contains, refl, sym, ap, ◌∙◌, subst, arith, length-set, length-append, replicate, slice_get}
 use Rattle.std.proofs.Math.ListN.{set}
-use Rattle.std.proofs.lemmas.List.Elements.{Contains-append_left, Contains-append_right, Contains-append_cases}
-use Rattle.std.proofs.lemmas.List.Elements.{Contains-push, Contains-push_cases}
+use Rattle.std.proofs.lemmas.List.Elements.{Contains-append_left, Contains-append_right, Contains-append_cases, Contains-push, Contains-push_cases}
 use Rattle.schemars_types.proofs.GraphLemmas.{nothing_among}
 use Rattle.schemars_types.specs.Walks.{Walk, one, then, Leads}
 use Rattle.schemars_types.specs.Search.{Graph, targets_in, IsMet, unmet, Front, front_of, Meets, AreVisited}

@@ -1,6 +1,5 @@
 -- What `define` answers for a row that was just reserved.
-use Rattle.std.proofs.Common.{◌≡◌, ◌<◌, ◌≤◌, ◌+◌, ℕ, List, [], ◌∷◌, ◌++◌, length, find, nat_le, Bool, true, false}
-use Rattle.std.proofs.Common.{Option, Some, None, cond, if◌then◌else◌, refl, ap, ◌∙◌, sym, subst, arith, length-append}
+use Rattle.std.proofs.Common.{◌≡◌, ◌<◌, ◌≤◌, ◌+◌, ℕ, List, [], ◌∷◌, ◌++◌, length, find, nat_le, Bool, true, false, Option, Some, None, cond, if◌then◌else◌, refl, ap, ◌∙◌, sym, subst, arith, length-append}
 use Rattle.std.proofs.lemmas.Bool.Decides.{nat_tests}
 use Rattle.std.specs.List.{position_from}
 use Rattle.std.specs.Str.{bytes_eq}

@@ -1,6 +1,5 @@
 -- The rows of a table against the entries of its map: where an id stands, and a row that joins or is written.
-use Rattle.std.proofs.Common.{◌≡◌, ◌+◌, ℕ, zero, suc, List, [], ◌∷◌, ◌++◌, length, map, slice_get, Bool, true, false}
-use Rattle.std.proofs.Common.{false, Some, None, cond, String, string_bytes, refl, ap, ◌∙◌, sym, arith, position}
+use Rattle.std.proofs.Common.{◌≡◌, ◌+◌, ℕ, zero, suc, List, [], ◌∷◌, ◌++◌, length, map, slice_get, Bool, true, false, Some, None, cond, String, string_bytes, refl, ap, ◌∙◌, sym, arith, position}
 use Rattle.std.specs.declared.alloc.Global.{Global}
 use Rattle.std.specs.List.{position_from, AllByRecursion, IsDistinct}
 use Rattle.std.specs.Map.{keys_of, values_of}

@@ -1,6 +1,5 @@
 -- Texts that join a list one after another, each once.
-use Rattle.std.proofs.Common.{◌≡◌, ◌||◌, ◌&&◌, ◌∙◌, List, [], ◌∷◌, ◌++◌, Bool, true, false, not, cond, filter, refl, ap, sym}
-use Rattle.std.proofs.Common.{true≢false, append-nil}
+use Rattle.std.proofs.Common.{◌≡◌, ◌||◌, ◌&&◌, ◌∙◌, List, [], ◌∷◌, ◌++◌, Bool, true, false, not, cond, filter, refl, ap, sym, true≢false, append-nil}
 use Rattle.std.specs.Prelude.{bytes_eq}
 use Rattle.std.specs.List.{list_any}
 use Rattle.std.proofs.lemmas.List.Folds.{list_any-append}

@@ -1,6 +1,5 @@
 -- The rows of a time's numbers are rows of the table that its own row joins.
-use Rattle.std.proofs.Common.{◌≡◌, ◌<◌, ◌≤◌, ℕ, List, [], ◌∷◌, ◌++◌, Bool, true, false, None, length, find, nat_le, is_some}
-use Rattle.std.proofs.Common.{if◌then◌else◌, ap, ◌∙◌, sym, subst, arith, Result, Ok, Err, IfErr, OnErr}
+use Rattle.std.proofs.Common.{◌≡◌, ◌<◌, ◌≤◌, ℕ, List, [], ◌∷◌, ◌++◌, Bool, true, false, None, length, find, nat_le, is_some, if◌then◌else◌, ap, ◌∙◌, sym, subst, arith, Result, Ok, Err, IfErr, OnErr}
 use Rattle.schemars_schema.specs.Json.{Text}
 use Rattle.schemars_shapes.specs.declared.shape.IntKind.TheVariants.{U32, U64}
 use Rattle.schemars_shapes.specs.Shape.{Entry}

@@ -1,6 +1,5 @@
 -- The edges of a table, as pairs of rows: a row refers to another.
-use Rattle.std.specs.Prelude.{◌≡◌, ◌<◌, ◌⊎◌, ℕ, zero, suc, List, [], ◌∷◌, ◌++◌, length, filter, Contains, Bool, true, false}
-use Rattle.std.specs.Prelude.{nat_lt, Option, option_and_then}
+use Rattle.std.specs.Prelude.{◌≡◌, ◌<◌, ◌⊎◌, ℕ, zero, suc, List, [], ◌∷◌, ◌++◌, length, filter, Contains, Bool, true, false, nat_lt, Option, option_and_then}
 use Rattle.std.specs.Option.{option_map_or}
 use Rattle.schemars_schema.specs.Json.{Text}
 use Rattle.schemars_shapes.specs.Shape.{Shape, numbers_of, same_value_numbers, flattened_numbers, asked_numbers, option_of, names_of}

@@ -2,8 +2,7 @@
 -- This file is trusted: the theorem is stated in its words.
 use Rattle.std.specs.Prelude.{ℕ, zero, suc, List, [], ◌∷◌, ◌++◌, map, length, true, Some, None, is_some, ◌&&◌, if◌then◌else◌}
 use Rattle.std.specs.Option.{option_map_or}
-use Rattle.schemars_shapes.specs.Shape.{Required, Field, Flattened, Fields, Shape, struct, external, untagged, internal, adjacent}
-use Rattle.schemars_shapes.specs.Shape.{Payload, Variant, no_payload, newtype_payload, tuple_payload, struct_payload}
+use Rattle.schemars_shapes.specs.Shape.{Required, Field, Flattened, Fields, Shape, struct, external, untagged, internal, adjacent, Payload, Variant, no_payload, newtype_payload, tuple_payload, struct_payload}
 use Rattle.schemars_types.specs.Rows.{Row, entry_at}
 use Rattle.schemars_types.specs.Edges.{option_at}
 

@@ -5,9 +5,7 @@ use Rattle.schemars_schema.specs.Json.{Text}
 use Rattle.schemars_shapes.specs.Shape.{Shape, Entry}
 use Rattle.schemars_types.specs.Rows.{Row, place_of, reserved, defined, unknown_in, holds_another}
 use Rattle.schemars_types.specs.declared.error.TypesError.{TypesError}
-use Rattle.schemars_types.specs.declared.error.TypesError.TheVariants.{OutOfMemory, UndefinedType, RepeatedName}
-use Rattle.schemars_types.specs.declared.error.TypesError.TheVariants.{DirectCycle, EmptyCycle, AlreadyDefined}
-use Rattle.schemars_types.specs.declared.error.TypesError.TheVariants.{UnknownType}
+use Rattle.schemars_types.specs.declared.error.TypesError.TheVariants.{OutOfMemory, UndefinedType, RepeatedName, DirectCycle, EmptyCycle, AlreadyDefined, UnknownType}
 
 abbrev pub code_of : TypesError → ℕ
 code_of OutOfMemory = 1

@@ -1,7 +1,6 @@
 -- A table as the list of its rows.
 -- This file is trusted: the theorem is stated in its words.
-use Rattle.std.specs.Prelude.{ℕ, zero, suc, ◌++◌, List, [], ◌∷◌, Bool, false, not, nat_le, length, find, Option, Some}
-use Rattle.std.specs.Prelude.{None, map, is_some, slice_get, option_and_then, if◌then◌else◌, bytes_eq}
+use Rattle.std.specs.Prelude.{ℕ, zero, suc, ◌++◌, List, [], ◌∷◌, Bool, false, not, nat_le, length, find, Option, Some, None, map, is_some, slice_get, option_and_then, if◌then◌else◌, bytes_eq}
 use Rattle.std.specs.List.{position_from, IsDistinct}
 use Rattle.std.specs.Option.{option_map_or}
 use Rattle.schemars_schema.specs.Json.{Text}

@@ -1,6 +1,5 @@
 -- Graphs as the program holds them, and sets of rows that a search has met.
-use Rattle.std.specs.Prelude.{◌≡◌, ◌<◌, ◌≤◌, ◌+◌, ◌-◌, ◌⊎◌, ℕ, suc, List, [], ◌∷◌, length, Contains, slice_get, slice_index}
-use Rattle.std.specs.Prelude.{Bool, true, false, Some, Vec, map, filter, nat_le}
+use Rattle.std.specs.Prelude.{◌≡◌, ◌<◌, ◌≤◌, ◌+◌, ◌-◌, ◌⊎◌, ℕ, suc, List, [], ◌∷◌, length, Contains, slice_get, slice_index, Bool, true, false, Some, Vec, map, filter, nat_le}
 use Rattle.std.specs.declared.alloc.Global.{Global}
 use Rattle.std.specs.Option.{option_map_or}
 use Rattle.schemars_types.specs.Walks.{Walk, Leads}

@@ -1,10 +1,6 @@
-ghost use Rattle.std.specs.Prelude.{◌≡◌, ◌≢◌, ◌<◌, ◌↔◌, [], length, take, map, false, None, Some};
-ghost use Rattle.std.specs.Prelude.{IsTrue, IfOk, OnOk, OnErr, IfErr, Err, option_map};
-ghost use Rattle.std.specs.Prelude.{string_bytes};
-ghost use Rattle.std.specs.Prelude.{slice_get};
+ghost use Rattle.std.specs.Prelude.{◌≡◌, ◌≢◌, ◌<◌, ◌↔◌, [], length, take, map, false, None, Some, IsTrue, IfOk, OnOk, OnErr, IfErr, Err, option_map, string_bytes, slice_get};
 ghost use Rattle.schemars_shapes.specs.Shape.{entry_of, shape_of};
-ghost use Rattle.schemars_types.specs.Rows.{place_of, entry_at, unknown_in, reserved, defined};
-ghost use Rattle.schemars_types.specs.Rows.{HasDistinctIds};
+ghost use Rattle.schemars_types.specs.Rows.{place_of, entry_at, unknown_in, reserved, defined, HasDistinctIds};
 ghost use Rattle.schemars_types.specs.Edges.{RefersWithin};
 ghost use Rattle.schemars_types.specs.Refusals.{first_unknown, refusal_of};
 ghost use Rattle.schemars_types.specs.Extends.{begins_with, rows_have_float};

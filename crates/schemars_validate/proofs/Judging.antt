@@ -7,11 +7,7 @@ use Rattle.serde_json.specs.Find.{get_member, as_str, as_object}
 use Rattle.schemars_schema.specs.Json.{Text}
 use Rattle.schemars_schema.specs.Lookup.{resolved}
 use Rattle.schemars_schema.specs.Verdict.{Verdict, Yes, No, Open, both, opposite, all_of, any_of, one_of, is_yes}
-use Rattle.schemars_schema.specs.Acceptance.{Dialect, Patterns, Context, Judge, Raw, context, judge, all_keywords, reference_alone}
-use Rattle.schemars_schema.specs.Acceptance.{is_reference, follow, unanswered, read_data, where_some, each_member}
-use Rattle.schemars_schema.specs.Acceptance.{reference_says, judged_by, judged_by_some, judged_by_list, judged_by_reference, judged_beside}
-use Rattle.schemars_schema.specs.Acceptance.{unevaluated_properties_say, has_schema, schema_named, matches_some, named_in}
-use Rattle.schemars_schema.specs.Acceptance.{required_says}
+use Rattle.schemars_schema.specs.Acceptance.{Dialect, Patterns, Context, Judge, Raw, context, judge, all_keywords, reference_alone, is_reference, follow, unanswered, read_data, where_some, each_member, reference_says, judged_by, judged_by_some, judged_by_list, judged_by_reference, judged_beside, unevaluated_properties_say, has_schema, schema_named, matches_some, named_in, required_says}
 use Rattle.schemars_schema.proofs.Verdicts.{both-yes, both-assoc}
 use Rattle.schemars_schema.proofs.Objects.{says, judge-object}
 use Rattle.schemars_validate.specs.Schemas.{schema_at, schemas_in, schemas_by_name, judge_at, judges_in, named_judges_in, judges_of}

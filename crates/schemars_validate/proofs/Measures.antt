@@ -1,8 +1,7 @@
 -- The work that is left: references, and then the depth of the schema.
 use Rattle.std.proofs.Common.{◌≡◌, ℕ, zero, suc, ◌+◌, ◌-◌, ◌*◌, ◌<◌, ◌≤◌, max, [], ◌∷◌, ◌++◌, Bool, true, false, Option, Some, None, refl, arith}
 use Rattle.std.specs.Prelude.{◌==◌, is_some, option_and_then, if◌then◌else◌, bytes_eq, codes}
-use Rattle.serde_json.specs.Data.{Data, null, boolean, number, string, array, object, Items, no_items, item, Members, no_members, member}
-use Rattle.serde_json.specs.Data.{depth, items_depth, members_depth}
+use Rattle.serde_json.specs.Data.{Data, null, boolean, number, string, array, object, Items, no_items, item, Members, no_members, member, depth, items_depth, members_depth}
 use Rattle.serde_json.specs.Find.{get_member, get_item, step, walk, pointer, index_of, unescape}
 use Rattle.schemars_text.proofs.Members.{get_member-member}
 use Rattle.schemars_schema.specs.Json.{Text}

@@ -1,7 +1,5 @@
 -- A whole number and a float in order, exactly: the float's whole part tells, since a float of 2^53 or more has no fraction.
-use Rattle.std.proofs.Common.{◌≡◌, ℕ, zero, suc, ◌+◌, ◌*◌, ◌/◌, ◌%◌, ◌^◌, ◌<◌, ◌≤◌, ℤ, pos, negsuc, Bool, true, false, T, refl, sym, ap, ◌∙◌, arith}
-use Rattle.std.proofs.Common.{true≢false, div-add-mod', mod-lt, nat_le, nat_eq, div-le_self, mul-pos, div-lt_iff_lt-mul, mul-div_cancel, min, ltb}
-use Rattle.std.proofs.Common.{unsigned_abs}
+use Rattle.std.proofs.Common.{◌≡◌, ℕ, zero, suc, ◌+◌, ◌*◌, ◌/◌, ◌%◌, ◌^◌, ◌<◌, ◌≤◌, ℤ, pos, negsuc, Bool, true, false, T, refl, sym, ap, ◌∙◌, arith, true≢false, div-add-mod', mod-lt, nat_le, nat_eq, div-le_self, mul-pos, div-lt_iff_lt-mul, mul-div_cancel, min, ltb, unsigned_abs}
 use Rattle.std.proofs.lemmas.Bool.Decides.{nat_tests}
 use Rattle.std.specs.Float.{Float, nan, inf, fin, binary64, two_to, minus_one, float_is_finite, float_with_sign}
 use Rattle.std.specs.Float.Ieee

@@ -7,13 +7,9 @@ use Rattle.schemars_text.proofs.Members.{get_member-member}
 use Rattle.schemars_schema.specs.Json.{Text}
 use Rattle.schemars_schema.specs.SchemaData.{is_schema}
 use Rattle.schemars_schema.specs.Verdict.{Verdict, Yes, both, opposite}
-use Rattle.schemars_schema.specs.Acceptance.{Context, Judge, Reading, Patterns, Raw, judge, read_data, read_items, read_members, all_named, both_some}
-use Rattle.schemars_schema.specs.Acceptance.{truth_value, where_some, when, by_position, each_past, items_say, positions_say, past_say, past_list_say}
-use Rattle.schemars_schema.specs.Acceptance.{count_of_positions, each_says, not_says, schema_named, matches_some, by_patterns, each_member}
-use Rattle.schemars_schema.specs.Acceptance.{named_in, properties_say, pattern_properties_say, additional_properties_say, is_covered, matches}
+use Rattle.schemars_schema.specs.Acceptance.{Context, Judge, Reading, Patterns, Raw, judge, read_data, read_items, read_members, all_named, both_some, truth_value, where_some, when, by_position, each_past, items_say, positions_say, past_say, past_list_say, count_of_positions, each_says, not_says, schema_named, matches_some, by_patterns, each_member, named_in, properties_say, pattern_properties_say, additional_properties_say, is_covered, matches}
 use Rattle.schemars_schema.proofs.Verdicts.{both-yes, both-assoc, both-middle}
-use Rattle.schemars_validate.specs.Schemas.{are_schemas, are_named_schemas, schema_at, schemas_in, schemas_by_name, judge_at}
-use Rattle.schemars_validate.specs.Schemas.{judges_of, named_judges, named_judges_in}
+use Rattle.schemars_validate.specs.Schemas.{are_schemas, are_named_schemas, schema_at, schemas_in, schemas_by_name, judge_at, judges_of, named_judges, named_judges_in}
 use Rattle.schemars_validate.specs.Judged.{is_named, matches_one, is_matched}
 use Rattle.schemars_validate.specs.Parts.{each_item, items_by, items_or_none, first_schemas, other_schema, member_by, members_by, reads}
 

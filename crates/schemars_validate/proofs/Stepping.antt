@@ -1,13 +1,11 @@
 -- One turn of a loop over schemas, items or members.
-use Rattle.std.proofs.Common.{◌≡◌, ℕ, zero, suc, ◌<◌, ◌≤◌, List, [], ◌∷◌, Bool, true, false, Option, Some, None, length, get_or, refl, sym, ap, ◌∙◌, arith}
+use Rattle.std.proofs.Common.{◌≡◌, ℕ, zero, suc, ◌<◌, ◌≤◌, List, [], ◌∷◌, Bool, true, false, Option, Some, None, length, get_or, refl, sym, ap, ◌∙◌, arith, Bor, Iter}
 use Rattle.std.specs.Prelude.{◌||◌, if◌then◌else◌, is_some, option_map, option_and_then, max}
 use Rattle.serde_json.specs.Data.{Data, Items, no_items, item, Members, member, depth, items_depth, members_depth}
 use Rattle.serde_json.specs.View.{view, items_view, members_view}
 use Rattle.serde_json.specs.declared.value.Value.{Value}
 use Rattle.serde_json.specs.Find.{get_member}
 use Rattle.serde_json.proofs.Views.{Entry}
-use Rattle.std.proofs.Common.{Bor}
-use Rattle.std.proofs.Common.{Iter}
 use Rattle.std.specs.Slice.Iter.{iter_rest, iter_steps}
 use Rattle.schemars_schema.specs.Json.{Text}
 use Rattle.schemars_schema.specs.Verdict.{Verdict, Yes, both}

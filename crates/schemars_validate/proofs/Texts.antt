@@ -8,8 +8,7 @@ use Rattle.schemars_text.proofs.Members.{bytes_eq_comm}
 use Rattle.schemars_schema.specs.Json.{Text}
 use Rattle.schemars_schema.specs.Edits.{holds_text, is_text}
 use Rattle.schemars_schema.specs.Verdict.{Verdict, Yes, verdict}
-use Rattle.schemars_schema.specs.Acceptance.{type_says, type_fits, is_of_some_type, is_true, is_null}
-use Rattle.schemars_schema.specs.Acceptance.{texts_in, types_in, are_type_names, where_some, when, have_all, required_says}
+use Rattle.schemars_schema.specs.Acceptance.{type_says, type_fits, is_of_some_type, is_true, is_null, texts_in, types_in, are_type_names, where_some, when, have_all, required_says}
 use Rattle.schemars_validate.specs.Texts.{are_texts, texts_of, with_text}
 
 joined : (b : Bool) (t : Text) (ts : List Text) → option_map (λ us. t ∷ us) (when b ts) ≡ when b (t ∷ ts)

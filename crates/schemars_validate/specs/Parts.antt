@@ -4,12 +4,7 @@ use Rattle.serde_json.specs.Data.{Data, Items, no_items, item}
 use Rattle.serde_json.specs.Find.{as_array, as_object}
 use Rattle.schemars_schema.specs.Json.{Text}
 use Rattle.schemars_schema.specs.Verdict.{Verdict, Yes, both, all_of, any_of, one_of}
-use Rattle.schemars_schema.specs.Acceptance.{Dialect, Patterns, Context, Judge, Test, Raw, Readings, read_data, where_some}
-use Rattle.schemars_schema.specs.Acceptance.{type_says, const_says, enum_says, minimum_says, maximum_says}
-use Rattle.schemars_schema.specs.Acceptance.{min_length_says, max_length_says, pattern_says, min_items_says, max_items_says}
-use Rattle.schemars_schema.specs.Acceptance.{unique_items_says, items_say, required_says, properties_say, pattern_properties_say}
-use Rattle.schemars_schema.specs.Acceptance.{additional_properties_say, is_covered, each_says, not_says, reference_says}
-use Rattle.schemars_schema.specs.Acceptance.{schema_named, by_patterns, matches_some, each_member}
+use Rattle.schemars_schema.specs.Acceptance.{Dialect, Patterns, Context, Judge, Test, Raw, Readings, read_data, where_some, type_says, const_says, enum_says, minimum_says, maximum_says, min_length_says, max_length_says, pattern_says, min_items_says, max_items_says, unique_items_says, items_say, required_says, properties_say, pattern_properties_say, additional_properties_say, is_covered, each_says, not_says, reference_says, schema_named, by_patterns, matches_some, each_member}
 use Rattle.schemars_validate.specs.Schemas.{schema_at, schemas_in}
 
 -- the keywords that judge a value by itself, but for `required`

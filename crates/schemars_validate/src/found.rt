@@ -2,8 +2,7 @@
 ghost use Rattle.std.specs.Prelude.{◌≡◌, ◌||◌, ◌&&◌, not, None, IfOk, is_some, option_map, option_and_then, codes, if◌then◌else◌};
 ghost use Rattle.serde_json.specs.Find.{get_member, as_str};
 ghost use Rattle.serde_json.specs.View.{view, items_view, members_view};
-ghost use Rattle.schemars_validate.specs.Schemas.{are_schemas, are_named_schemas};
-ghost use Rattle.schemars_validate.specs.Schemas.{first_of, schema_at, schemas_in, schemas_by_name};
+ghost use Rattle.schemars_validate.specs.Schemas.{are_schemas, are_named_schemas, first_of, schema_at, schemas_in, schemas_by_name};
 ghost use Rattle.schemars_validate.specs.Parts.{first_schemas, other_schema, items_or_none};
 ghost use Rattle.schemars_schema.specs.Lookup.{resolved};
 ghost use Rattle.schemars_schema.specs.Acceptance.{is_reference};

@@ -4,13 +4,10 @@ ghost use Rattle.serde_json.specs.Data.{object};
 ghost use Rattle.serde_json.specs.Find.{get_member};
 ghost use Rattle.serde_json.specs.View.{view, items_view, members_view};
 ghost use Rattle.schemars_schema.specs.Verdict.{all_of};
-ghost use Rattle.schemars_schema.specs.Acceptance.{Raw, context, judge, follow, where_some};
-ghost use Rattle.schemars_schema.specs.Acceptance.{reference_says, judged_by, judged_by_reference, judged_by_some};
-ghost use Rattle.schemars_schema.specs.Acceptance.{by_patterns, matches_some, judged_beside};
+ghost use Rattle.schemars_schema.specs.Acceptance.{Raw, context, judge, follow, where_some, reference_says, judged_by, judged_by_reference, judged_by_some, by_patterns, matches_some, judged_beside};
 ghost use Rattle.schemars_validate.specs.Meant.{meant};
-ghost use Rattle.schemars_validate.specs.Judged.{marked, keys_of};
+ghost use Rattle.schemars_validate.specs.Judged.{marked, keys_of, unmarked_by};
 ghost use Rattle.schemars_validate.specs.Joined.{joined_by};
-ghost use Rattle.schemars_validate.specs.Judged.{unmarked_by};
 ghost use Rattle.schemars_validate.specs.Schemas.{judge_at, judges_of, judges_in, named_judges_in};
 ghost use Rattle.schemars_validate.specs.Parts.{besides, reads, items_by, members_by, member_by};
 

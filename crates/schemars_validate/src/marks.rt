@@ -2,10 +2,9 @@
 ghost use Rattle.std.specs.Prelude.{◌≡◌, IfOk, Some, None, option_map, true, is_some, if◌then◌else◌, ◌<◌, vec_len, slice_set};
 ghost use Rattle.serde_json.specs.Find.{get_member};
 ghost use Rattle.serde_json.specs.View.{view, members_view};
-ghost use Rattle.schemars_validate.specs.Judged.{marked, unmarked, keys_in, keys_of};
+ghost use Rattle.schemars_validate.specs.Judged.{marked, unmarked, keys_in, keys_of, is_marked, is_named, matches_one, is_matched, is_taken};
 ghost use Rattle.schemars_schema.specs.Verdict.{is_yes};
 ghost use Rattle.schemars_validate.specs.Meant.{meant};
-ghost use Rattle.schemars_validate.specs.Judged.{is_marked, is_named, matches_one, is_matched, is_taken};
 
 use crate::found::{MemberSchemas, member};
 use crate::patterns::Patterns;

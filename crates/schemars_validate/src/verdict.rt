@@ -1,7 +1,6 @@
 //! What a schema says of a value.
 ghost use Rattle.std.specs.Prelude.{◌≡◌, map, is_some, if◌then◌else◌};
-ghost use Rattle.schemars_schema.specs.Verdict.{Yes};
-ghost use Rattle.schemars_schema.specs.Verdict.{verdict, both, opposite, all_of};
+ghost use Rattle.schemars_schema.specs.Verdict.{Yes, verdict, both, opposite, all_of};
 ghost use Rattle.schemars_validate.specs.Meant.{meant};
 
 use serde_json::Value;

@@ -1,12 +1,10 @@
 //! What the expressions of a document answer about the texts of a value.
-ghost use Rattle.std.specs.Prelude.{◌≡◌, ◌++◌, ◌&&◌, ◌||◌, IfOk, OnOk, map};
-ghost use Rattle.std.specs.Prelude.{bytes_eq, string_bytes};
+ghost use Rattle.std.specs.Prelude.{◌≡◌, ◌++◌, ◌&&◌, ◌||◌, IfOk, OnOk, map, bytes_eq, string_bytes};
 ghost use Rattle.std.specs.List.{list_any};
 ghost use Rattle.serde_json.specs.View.{view, items_view, members_view};
 ghost use Rattle.schemars_schema.specs.Json.{Text};
 ghost use Rattle.schemars_validator.specs.Asked.{has_pair, pairs_of, some_has};
-ghost use Rattle.schemars_validator.specs.Texts.{texts_of, texts_in_items, texts_in_members};
-ghost use Rattle.schemars_validator.specs.Texts.{answers, IsReadBy};
+ghost use Rattle.schemars_validator.specs.Texts.{texts_of, texts_in_items, texts_in_members, answers, IsReadBy};
 
 use crate::expressions::Expression;
 use schemars_validate::Patterns;

@@ -1,6 +1,5 @@
 -- The members of an object in parts.
-use Rattle.std.proofs.Common.{◌≡◌, ℕ, zero, suc, ◌+◌, ◌<◌, ◌≤◌, max, List, [], ◌∷◌, ◌++◌, length, get_or, take, drop, set}
-use Rattle.std.proofs.Common.{map, zip, Bool, true, cond, String, Global, string_bytes, refl, sym, ap, ◌∙◌, add-one, arith}
+use Rattle.std.proofs.Common.{◌≡◌, ℕ, zero, suc, ◌+◌, ◌<◌, ◌≤◌, max, List, [], ◌∷◌, ◌++◌, length, get_or, take, drop, set, map, zip, Bool, true, cond, String, Global, string_bytes, refl, sym, ap, ◌∙◌, add-one, arith}
 use Rattle.std.specs.Map.{keys_of, values_of}
 use Rattle.std.specs.Map.Calls.{RetainsPairs}
 use Rattle.serde_json.specs.Data.{Data, Items, item, Members, no_members, member, depth, items_depth, members_depth}

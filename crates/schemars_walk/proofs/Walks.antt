@@ -1,7 +1,5 @@
 -- The walk, call by call.
-use Rattle.std.proofs.Common.{◌≡◌, ℕ, zero, suc, ◌+◌, ◌<◌, ◌≤◌, ◌-◌, Some, List, [], ◌∷◌, ◌++◌, length, get_or, take, drop, set}
-use Rattle.std.proofs.Common.{String, Global, string_bytes, string_cmp, Less, Greater, Ok, Err, OnOk}
-use Rattle.std.proofs.Common.{inl, inr, refl, sym, ap, ◌∙◌, subst, add-one, arith}
+use Rattle.std.proofs.Common.{◌≡◌, ℕ, zero, suc, ◌+◌, ◌<◌, ◌≤◌, ◌-◌, Some, List, [], ◌∷◌, ◌++◌, length, get_or, take, drop, set, String, Global, string_bytes, string_cmp, Less, Greater, Ok, Err, OnOk, inl, inr, refl, sym, ap, ◌∙◌, subst, add-one, arith}
 use Rattle.std.proofs.lemmas.Cmp.{nat_list_cmp_total}
 use Rattle.std.specs.List.{AllByRecursion}
 use Rattle.std.specs.List.Sorted.{IsStrictlySortedBy}
@@ -16,8 +14,7 @@ use Rattle.schemars_schema.specs.Json.{Text}
 use Rattle.serde_json.specs.Find.{as_array, as_object}
 use Rattle.schemars_schema.specs.References.{place_under}
 use Rattle.schemars_text.proofs.Lists.{nothing_left}
-use Rattle.schemars_walk.specs.Walk.{Answer, TransformStep, EachItem, EachMember, AtSchema}
-use Rattle.schemars_walk.specs.Walk.{AtList, AtSchemaOrList, AtNames, AtPlace, Walked, Recursed}
+use Rattle.schemars_walk.specs.Walk.{Answer, TransformStep, EachItem, EachMember, AtSchema, AtList, AtSchemaOrList, AtNames, AtPlace, Walked, Recursed}
 use Rattle.schemars_walk.specs.declared.transform.TransformError.{TransformError}
 use Rattle.schemars_walk.specs.declared.transform.TransformError.TheVariants.{Memory, TooDeep}
 use Rattle.schemars_walk.specs.declared.walk.Reach.{Reach}

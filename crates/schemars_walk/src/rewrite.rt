@@ -8,8 +8,7 @@ ghost use Rattle.schemars_schema.specs.Json.{Text};
 ghost use Rattle.schemars_schema.specs.References.{Place};
 ghost use Rattle.schemars_walk.specs.Walk.{place_meant};
 ghost use Rattle.schemars_walk.specs.Parts.{all_unread, member_places, in_places};
-ghost use Rattle.schemars_walk.specs.Rewritten.{Rules, rewritten, with_subschemas, read_at};
-ghost use Rattle.schemars_walk.specs.Rewritten.{as_schema_in, in_items, in_names, in_keywords};
+ghost use Rattle.schemars_walk.specs.Rewritten.{Rules, rewritten, with_subschemas, read_at, as_schema_in, in_items, in_names, in_keywords};
 
 pub mod change;
 pub mod place;

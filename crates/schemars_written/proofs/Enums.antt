@@ -1,6 +1,6 @@
 -- Variants of enums that are tagged by their names.
 use Rattle.std.proofs.Common.{◌≡◌, ◌⊎◌, inl, inr, ℕ, zero, suc, ◌+◌, ◌*◌, ◌<◌, ◌≤◌, List, [], ◌∷◌, ◌++◌, length, map, Bool, true, false, ◌||◌, Option, Some, None, refl, sym, ap, ◌∙◌, subst, arith}
-use Rattle.std.specs.Prelude.{bytes_eq, Contains}
+use Rattle.std.specs.Prelude.{bytes_eq, Contains, is_some, ◌&&◌}
 use Rattle.std.specs.List.{list_any}
 use Rattle.std.proofs.lemmas.Grind.{common_steps}
 use Rattle.std.proofs.lemmas.Slice.Eq.{bytes_eq-Decides}
@@ -17,7 +17,6 @@ use Rattle.serde_json.specs.Read.{of_json, of_members}
 use Rattle.schemars_text.proofs.Members.{get_member-here}
 use Rattle.schemars_types.specs.Edges.{rank}
 use Rattle.json.specs.Token as token
-use Rattle.std.specs.Prelude.{is_some, ◌&&◌}
 use Rattle.serde_json.specs.Sent.{Takes}
 use Rattle.schemars_schema.specs.Json.{Text}
 use Rattle.schemars_shapes.specs.Shape as shape

@@ -2,8 +2,7 @@
 ghost use Rattle.std.specs.Prelude.{◌≡◌, ◌∷◌, [], ℕ, All, length};
 ghost use Rattle.schemars_shapes.specs.Shape.{Shape as shape};
 ghost use Rattle.schemars_written.specs.Fits.{HasShape, OfSome};
-ghost use Rattle.schemars_written.proofs.Laws.{option_law, vec_law, array_law};
-ghost use Rattle.schemars_written.proofs.Laws.{single_law, pair_law, triple_law, quadruple_law};
+ghost use Rattle.schemars_written.proofs.Laws.{option_law, vec_law, array_law, single_law, pair_law, triple_law, quadruple_law};
 
 use crate::law::Agrees;
 use crate::row::shape_at;

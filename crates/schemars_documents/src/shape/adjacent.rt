@@ -3,8 +3,7 @@ ghost use Rattle.std.specs.Prelude.{◌≡◌, ◌∷◌, ◌++◌, map, IfOk, O
 ghost use Rattle.schemars_builders.specs.Variants.{unit_variant};
 ghost use Rattle.schemars_shapes.specs.Shape.{payload_of, variant_of, adjacent_view};
 ghost use Rattle.schemars_documents.specs.View.{template_view, property_view};
-ghost use Rattle.schemars_documents.specs.OfShape.{said, adjacent_payload, adjacent_item};
-ghost use Rattle.schemars_documents.specs.OfShape.{adjacent_template};
+ghost use Rattle.schemars_documents.specs.OfShape.{said, adjacent_payload, adjacent_item, adjacent_template};
 
 use crate::shape::enums::payload_template;
 use crate::shape::maps::whole_template;

@@ -3,8 +3,7 @@ ghost use Rattle.std.specs.Prelude.{◌≡◌, ◌∷◌, ◌++◌, [], map, IfO
 ghost use Rattle.schemars_builders.specs.Variants.{unit_variant};
 ghost use Rattle.schemars_documents.specs.Template.{row, finished};
 ghost use Rattle.schemars_documents.specs.View.{template_view};
-ghost use Rattle.schemars_documents.specs.OfShape.{member_template, result_template};
-ghost use Rattle.schemars_documents.specs.OfShape.{bound_template, either_template};
+ghost use Rattle.schemars_documents.specs.OfShape.{member_template, result_template, bound_template, either_template};
 
 use crate::shape::maps::member_template;
 use crate::template::SchemaTemplate;

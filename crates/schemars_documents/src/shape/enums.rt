@@ -6,11 +6,7 @@ ghost use Rattle.schemars_shapes.specs.Shape.{payload_of, variant_of};
 ghost use Rattle.schemars_builders.specs.NullLaw.{text_items};
 ghost use Rattle.schemars_documents.specs.Template.{noted};
 ghost use Rattle.schemars_documents.specs.View.{template_view};
-ghost use Rattle.schemars_documents.specs.OfShape.{object_with, typed_template, said};
-ghost use Rattle.schemars_documents.specs.OfShape.{payload_template};
-ghost use Rattle.schemars_documents.specs.OfShape.{named_template};
-ghost use Rattle.schemars_documents.specs.OfShape.{bare_units, other_items, external_template};
-ghost use Rattle.schemars_documents.specs.OfShape.{payload_item, untagged_template, titled};
+ghost use Rattle.schemars_documents.specs.OfShape.{object_with, typed_template, said, payload_template, named_template, bare_units, other_items, external_template, payload_item, untagged_template, titled};
 
 use crate::documents::type_alone;
 use crate::shape::lists::tuple_template;

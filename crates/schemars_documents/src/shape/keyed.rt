@@ -4,10 +4,8 @@ ghost use Rattle.schemars_types.specs.Faults.{IsChecked};
 ghost use Rattle.schemars_types.specs.KeyOptions.{key_options, keys};
 ghost use Rattle.schemars_types.specs.Found.{options_of};
 ghost use Rattle.schemars_documents.specs.Template.{row};
-ghost use Rattle.schemars_documents.specs.View.{template_view, value_view};
-ghost use Rattle.schemars_documents.specs.View.{keyword_view, property_view};
-ghost use Rattle.schemars_documents.specs.OfShape.{pattern_properties_at, other_values};
-ghost use Rattle.schemars_documents.specs.OfShape.{values_template, values_of};
+ghost use Rattle.schemars_documents.specs.View.{template_view, value_view, keyword_view, property_view};
+ghost use Rattle.schemars_documents.specs.OfShape.{pattern_properties_at, other_values, values_template, values_of};
 
 use crate::shape::maps::{add_properties, typed};
 use crate::template::nodes::{named, object_with, row, row_value, truth};

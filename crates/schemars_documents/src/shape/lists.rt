@@ -2,8 +2,7 @@
 ghost use Rattle.std.specs.Prelude.{◌≡◌, [], map, IfOk};
 ghost use Rattle.schemars_documents.specs.Template.{row};
 ghost use Rattle.schemars_documents.specs.View.{template_view};
-ghost use Rattle.schemars_documents.specs.OfShape.{list_template, set_template, array_template};
-ghost use Rattle.schemars_documents.specs.OfShape.{up_to_template, tuple_template};
+ghost use Rattle.schemars_documents.specs.OfShape.{list_template, set_template, array_template, up_to_template, tuple_template};
 
 use crate::documents::empty_list_document;
 use crate::template::nodes::{count, object_with, row, row_value, text, truth};

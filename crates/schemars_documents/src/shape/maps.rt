@@ -3,15 +3,8 @@ ghost use Rattle.std.specs.Prelude.{◌≡◌, ◌∷◌, ◌++◌, [], map, IfO
 ghost use Rattle.serde_json.specs.View.{items_view};
 ghost use Rattle.schemars_shapes.specs.Shape.{field_of, flattened_of, fields_of};
 ghost use Rattle.schemars_builders.specs.NullLaw.{text_items};
-ghost use Rattle.schemars_documents.specs.View.{ask_of, template_view};
-ghost use Rattle.schemars_documents.specs.View.{keyword_view, property_view};
-ghost use Rattle.schemars_documents.specs.OfShape.{typed_template, property, properties_at};
-ghost use Rattle.schemars_documents.specs.OfShape.{required_at};
-ghost use Rattle.schemars_documents.specs.OfShape.{closed_keyword, object_with};
-ghost use Rattle.schemars_documents.specs.OfShape.{map_template, fields_template, with_flattened};
-ghost use Rattle.schemars_documents.specs.OfShape.{members_asked};
-ghost use Rattle.schemars_documents.specs.OfShape.{struct_template};
-ghost use Rattle.schemars_documents.specs.OfShape.{member_template, whole_template, range_template};
+ghost use Rattle.schemars_documents.specs.View.{ask_of, template_view, keyword_view, property_view};
+ghost use Rattle.schemars_documents.specs.OfShape.{typed_template, property, properties_at, required_at, closed_keyword, object_with, map_template, fields_template, with_flattened, members_asked, struct_template, member_template, whole_template, range_template};
 
 use crate::documents::{is_required, required_names};
 use crate::template::nodes::{named, object_with, row, text, truth};

@@ -1,10 +1,8 @@
 //! The templates of enums whose variants are named by a member of their own maps.
 ghost use Rattle.std.specs.Prelude.{◌≡◌, map, IfOk};
-ghost use Rattle.schemars_shapes.specs.Shape.{internal_payload_of, internal_variant_of};
-ghost use Rattle.schemars_shapes.specs.Shape.{internal_view};
+ghost use Rattle.schemars_shapes.specs.Shape.{internal_payload_of, internal_variant_of, internal_view};
 ghost use Rattle.schemars_documents.specs.View.{template_view};
-ghost use Rattle.schemars_documents.specs.OfShape.{content_template, internal_item};
-ghost use Rattle.schemars_documents.specs.OfShape.{internal_template};
+ghost use Rattle.schemars_documents.specs.OfShape.{content_template, internal_item, internal_template};
 
 use crate::documents::type_alone;
 use crate::shape::maps::struct_template;

@@ -2,10 +2,8 @@
 ghost use Rattle.std.specs.Prelude.{◌≡◌, ◌∷◌, [], map, IfOk};
 ghost use Rattle.serde_json.specs.Data.{string, number, unsigned, boolean};
 ghost use Rattle.schemars_documents.specs.Template.{row, finished, list};
-ghost use Rattle.schemars_documents.specs.View.{template_view, value_view};
-ghost use Rattle.schemars_documents.specs.View.{keyword_view, property_view};
-ghost use Rattle.schemars_documents.specs.OfShape.{object_with, templates_of};
-ghost use Rattle.schemars_documents.specs.OfShape.{one_of_template, any_of_template};
+ghost use Rattle.schemars_documents.specs.View.{template_view, value_view, keyword_view, property_view};
+ghost use Rattle.schemars_documents.specs.OfShape.{object_with, templates_of, one_of_template, any_of_template};
 
 use crate::template::{Ask, SchemaTemplate, ValueTemplate};
 use schemars_types::TypeNo;

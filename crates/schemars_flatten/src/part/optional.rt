@@ -3,11 +3,7 @@ ghost use Rattle.std.specs.Prelude.{◌≡◌, codes, IfOk, OnOk};
 ghost use Rattle.serde_json.specs.View.{view, items_view};
 ghost use Rattle.schemars_flatten.specs.Flatten.{alone};
 ghost use Rattle.schemars_schema.specs.Edits.{on_list};
-ghost use Rattle.schemars_flatten.specs.Parts.{list_changed_at, is_empty_object};
-ghost use Rattle.schemars_flatten.specs.Parts.{holds_empty_object, with_empty_object};
-ghost use Rattle.schemars_flatten.specs.Parts.{one_or_anything};
-ghost use Rattle.schemars_flatten.specs.Parts.{choice_or_anything, optional, optional_where};
-ghost use Rattle.schemars_flatten.specs.Parts.{flattened_part};
+ghost use Rattle.schemars_flatten.specs.Parts.{list_changed_at, is_empty_object, holds_empty_object, with_empty_object, one_or_anything, choice_or_anything, optional, optional_where, flattened_part};
 
 use crate::merging::flatten;
 use crate::part::opening::open;

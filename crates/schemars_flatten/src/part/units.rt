@@ -5,11 +5,8 @@ ghost use Rattle.serde_json.specs.Find.{as_str};
 ghost use Rattle.serde_json.specs.View.{view, items_view, members_view};
 ghost use Rattle.schemars_flatten.specs.Flatten.{appended};
 ghost use Rattle.schemars_schema.specs.Edits.{changed_at, on_list};
-ghost use Rattle.schemars_flatten.specs.Parts.{unit_object, unit_object_first, unit_objects};
-ghost use Rattle.schemars_flatten.specs.Parts.{units_of, with_items, with_units};
+ghost use Rattle.schemars_flatten.specs.Parts.{unit_object, unit_object_first, unit_objects, units_of, with_items, with_units, first_units, first_as_objects, list_changed_at, units_as_objects};
 ghost use Rattle.schemars_builders.specs.AllowNull.{null_schema};
-ghost use Rattle.schemars_flatten.specs.Parts.{first_units, first_as_objects};
-ghost use Rattle.schemars_flatten.specs.Parts.{list_changed_at, units_as_objects};
 
 use crate::part::closing::has_type;
 use crate::union::push_all;

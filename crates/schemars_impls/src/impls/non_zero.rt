@@ -1,9 +1,6 @@
 //! Integers that are not 0.
 ghost use Rattle.std.specs.Prelude.{true};
-ghost use Rattle.schemars_shapes.specs.declared.shape.IntKind.TheVariants.{I8, I16, I32};
-ghost use Rattle.schemars_shapes.specs.declared.shape.IntKind.TheVariants.{I64, I128, Isize};
-ghost use Rattle.schemars_shapes.specs.declared.shape.IntKind.TheVariants.{U8, U16, U32};
-ghost use Rattle.schemars_shapes.specs.declared.shape.IntKind.TheVariants.{U64, U128, Usize};
+ghost use Rattle.schemars_shapes.specs.declared.shape.IntKind.TheVariants.{I8, I16, I32, I64, I128, Isize, U8, U16, U32, U64, U128, Usize};
 ghost use Rattle.schemars_shapes.specs.IntKind.{non_zero_name};
 ghost use Rattle.schemars_shapes.specs.Shape.{Shape as shape, in_place};
 ghost use Rattle.schemars_types.specs.Names.{non_zero_id};

@@ -1,6 +1,5 @@
 //! Types of several parts, and how the parts are added to a table, one after another.
-ghost use Rattle.std.specs.Prelude.{◌≡◌, ◌++◌, [], ◌∷◌, Some, IfErr, IfOk, OnErr, OnOk};
-ghost use Rattle.std.specs.Prelude.{codes, string_bytes};
+ghost use Rattle.std.specs.Prelude.{◌≡◌, ◌++◌, [], ◌∷◌, Some, IfErr, IfOk, OnErr, OnOk, codes, string_bytes};
 ghost use Rattle.std.specs.List.{flat_map};
 ghost use Rattle.schemars_types.specs.Rows.{place_of};
 ghost use Rattle.schemars_impls.specs.Describes.{Adds, AreKnown};

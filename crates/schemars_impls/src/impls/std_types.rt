@@ -1,8 +1,7 @@
 //! Options, results, bounds and ranges.
 ghost use Rattle.std.specs.Prelude.{codes, false, true};
 ghost use Rattle.schemars_shapes.specs.Shape.{Shape as shape, in_place, without_notes};
-ghost use Rattle.schemars_types.specs.Names.{result_id, result_name};
-ghost use Rattle.schemars_types.specs.Names.{bound_id, bound_name, range_id, range_name};
+ghost use Rattle.schemars_types.specs.Names.{result_id, result_name, bound_id, bound_name, range_id, range_name};
 ghost use Rattle.schemars_impls.specs.Dictionary.{alone, of_one, of_two};
 ghost use Rattle.schemars_impls.specs.Containers.{option_row};
 

@@ -2,8 +2,7 @@
 ghost use Rattle.std.specs.Prelude.{◌≡◌, [], ◌∷◌, None, codes, false, IfErr, IfOk, OnOk};
 ghost use Rattle.schemars_shapes.specs.declared.shape.IntKind.TheVariants.{U32, U64};
 ghost use Rattle.schemars_shapes.specs.IntKind.{format_of};
-ghost use Rattle.schemars_shapes.specs.Shape.{bare_fields, entry_of, field_of, fields_of};
-ghost use Rattle.schemars_shapes.specs.Shape.{needed, shape_of};
+ghost use Rattle.schemars_shapes.specs.Shape.{bare_fields, entry_of, field_of, fields_of, needed, shape_of};
 ghost use Rattle.schemars_types.specs.Rows.{unknown_in};
 ghost use Rattle.schemars_types.specs.Times.{time_entry};
 ghost use Rattle.schemars_impls.specs.Describes.{IsMade, OfTwo};

@@ -1,6 +1,5 @@
 //! What fields refer to, and their names.
-ghost use Rattle.std.specs.Prelude.{◌≡◌, ◌++◌, nat_le, find, map, bytes_eq, string_bytes, IfOk};
-ghost use Rattle.std.specs.Prelude.{OnOk, MatchOption};
+ghost use Rattle.std.specs.Prelude.{◌≡◌, ◌++◌, nat_le, find, map, bytes_eq, string_bytes, IfOk, OnOk, MatchOption};
 ghost use Rattle.std.specs.List.{IsDistinct};
 ghost use Rattle.schemars_shapes.specs.Shape.{field_of, fields_of, fields_numbers, flattened_rows};
 ghost use Rattle.schemars_shapes.specs.Repeated.{IsRepeated};

@@ -1,7 +1,6 @@
 //! What a shape refers to, and its names.
 ghost use Rattle.std.specs.Prelude.{◌≡◌, nat_le, find, string_bytes, IfOk, MatchOption};
-ghost use Rattle.schemars_shapes.specs.Shape.{shape_of, numbers_of, same_value_numbers};
-ghost use Rattle.schemars_shapes.specs.Shape.{flattened_numbers, asked_numbers, names_of};
+ghost use Rattle.schemars_shapes.specs.Shape.{shape_of, numbers_of, same_value_numbers, flattened_numbers, asked_numbers, names_of};
 ghost use Rattle.schemars_shapes.specs.Repeated.{AreDistinctLists, IsFirstRepeated};
 
 use crate::edges::unknown::first_unknown_among;

@@ -1,10 +1,7 @@
 //! What variants refer to, and their names.
-ghost use Rattle.std.specs.Prelude.{◌≡◌, ◌++◌, nat_le, find, map, bytes_eq, string_bytes, IfOk};
-ghost use Rattle.std.specs.Prelude.{OnOk, MatchOption};
+ghost use Rattle.std.specs.Prelude.{◌≡◌, ◌++◌, nat_le, find, map, bytes_eq, string_bytes, IfOk, OnOk, MatchOption};
 ghost use Rattle.std.specs.List.{IsDistinct};
-ghost use Rattle.schemars_shapes.specs.Shape.{payload_of, variant_of, payload_numbers};
-ghost use Rattle.schemars_shapes.specs.Shape.{variant_numbers, of_variants};
-ghost use Rattle.schemars_shapes.specs.Shape.{payload_names, variant_names};
+ghost use Rattle.schemars_shapes.specs.Shape.{payload_of, variant_of, payload_numbers, variant_numbers, of_variants, payload_names, variant_names};
 ghost use Rattle.schemars_shapes.specs.Repeated.{IsRepeated, AreDistinctLists, IsFirstRepeated};
 ghost use Rattle.schemars_shapes.specs.Rows.{rows_along};
 

@@ -5,11 +5,7 @@ ghost use Rattle.serde_json.specs.Find.{get};
 ghost use Rattle.serde_json.specs.View.{view, items_view};
 ghost use Rattle.schemars_schema.specs.SchemaData.{inserted};
 ghost use Rattle.schemars_schema.specs.Edits.{holds_text};
-ghost use Rattle.schemars_transform.specs.Nullable.{is_null_name, all_null, nulls_in, has_null};
-ghost use Rattle.schemars_transform.specs.Nullable.{without_null};
-ghost use Rattle.schemars_transform.specs.Nullable.{one_or_list};
-ghost use Rattle.schemars_transform.specs.Nullable.{type_without_null, null_taken_out, null_alone};
-ghost use Rattle.schemars_transform.specs.Nullable.{null_among};
+ghost use Rattle.schemars_transform.specs.Nullable.{is_null_name, all_null, nulls_in, has_null, without_null, one_or_list, type_without_null, null_taken_out, null_alone, null_among};
 
 use crate::built_in::keywords::put;
 use schemars_schema::Schema;

@@ -4,12 +4,7 @@ ghost use Rattle.serde_json.specs.Data.{no_members};
 ghost use Rattle.serde_json.specs.View.{view, items_view, members_view};
 ghost use Rattle.schemars_text.specs.OrderedText.{is_listed};
 ghost use Rattle.schemars_schema.specs.References.{with_same_object, with_same_objects};
-ghost use Rattle.schemars_transform.specs.Unevaluated.{keys, keys_in};
-ghost use Rattle.schemars_transform.specs.Unevaluated.{names_in, names_in_items, names_in_keywords};
-ghost use Rattle.schemars_transform.specs.Unevaluated.{names_under, property_names};
-ghost use Rattle.schemars_transform.specs.Unevaluated.{with_names, object_with_names};
-ghost use Rattle.schemars_transform.specs.Unevaluated.{properties_made};
-ghost use Rattle.schemars_transform.specs.Unevaluated.{with_properties};
+ghost use Rattle.schemars_transform.specs.Unevaluated.{keys, keys_in, names_in, names_in_items, names_in_keywords, names_under, property_names, with_names, object_with_names, properties_made, with_properties};
 
 use crate::built_in::keywords::put;
 use schemars_schema::Schema;

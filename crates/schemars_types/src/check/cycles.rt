@@ -1,10 +1,8 @@
 //! Closed walks in a graph, which is given by the targets of each number.
-ghost use Rattle.std.specs.Prelude.{◌≡◌, ◌<◌, ◌∷◌, [], length, All, Contains, slice_index, IfOk};
-ghost use Rattle.std.specs.Prelude.{OnOk, MatchOption};
+ghost use Rattle.std.specs.Prelude.{◌≡◌, ◌<◌, ◌∷◌, [], length, All, Contains, slice_index, IfOk, OnOk, MatchOption};
 ghost use Rattle.std.specs.Bool.{OnFalse, OnTrue};
 ghost use Rattle.schemars_types.specs.Walks.{Walk, Leads, OnCycle, IsFree, IsLeast};
-ghost use Rattle.schemars_types.specs.Search.{targets_in, front_of, IsClosed, Falls, Meets};
-ghost use Rattle.schemars_types.specs.Search.{AreVisited};
+ghost use Rattle.schemars_types.specs.Search.{targets_in, front_of, IsClosed, Falls, Meets, AreVisited};
 
 use std::alloc::{AllocError, Global};
 

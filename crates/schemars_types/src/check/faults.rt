@@ -1,12 +1,10 @@
 //! The faults of a table.
-ghost use Rattle.std.specs.Prelude.{◌≡◌, ◌<◌, ◌≤◌, ◌-◌, ◌++◌, ℕ, length, map, filter, None, IfOk};
-ghost use Rattle.std.specs.Prelude.{OnOk, MatchOption, string_bytes};
+ghost use Rattle.std.specs.Prelude.{◌≡◌, ◌<◌, ◌≤◌, ◌-◌, ◌++◌, ℕ, length, map, filter, None, IfOk, OnOk, MatchOption, string_bytes};
 ghost use Rattle.schemars_shapes.specs.Shape.{shape_of, numbers_of};
 ghost use Rattle.schemars_types.specs.Walks.{Leads, OnCycle, IsFree, IsLeast, FaultFrom, EdgeFrom};
 ghost use Rattle.schemars_types.specs.Search.{HasTargets, counted_from};
 ghost use Rattle.schemars_shapes.specs.Repeated.{AreDistinctLists, IsFirstRepeated};
-ghost use Rattle.schemars_types.specs.Edges.{is_inline_at, is_row, asked_in, below};
-ghost use Rattle.schemars_types.specs.Edges.{names_at, RefersWithin};
+ghost use Rattle.schemars_types.specs.Edges.{is_inline_at, is_row, asked_in, below, names_at, RefersWithin};
 ghost use Rattle.schemars_types.specs.EdgeKind.{targets_along, targets_from};
 ghost use Rattle.schemars_types.specs.Undefined.{IsUndefined};
 

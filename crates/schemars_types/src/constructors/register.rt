@@ -1,6 +1,5 @@
 //! How rows of common types are added to a table.
-ghost use Rattle.std.specs.Prelude.{◌≡◌, ◌++◌, [], ◌∷◌, codes, IfOk, OnErr, IfErr, string_bytes};
-ghost use Rattle.std.specs.Prelude.{find, nat_le, length};
+ghost use Rattle.std.specs.Prelude.{◌≡◌, ◌++◌, [], ◌∷◌, codes, IfOk, OnErr, IfErr, string_bytes, find, nat_le, length};
 ghost use Rattle.schemars_shapes.specs.Shape.{shape_of, without_notes, numbers_of};
 ghost use Rattle.schemars_types.specs.Refusals.{Registers, Refuses};
 ghost use Rattle.schemars_types.specs.Rows.{id_at, name_at, unknown_in};

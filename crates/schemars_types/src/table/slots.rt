@@ -1,6 +1,5 @@
 //! What a table holds under each id.
-ghost use Rattle.std.specs.Prelude.{◌≡◌, ◌&&◌, map, bytes_eq, string_bytes, Some};
-ghost use Rattle.std.specs.Prelude.{option_map};
+ghost use Rattle.std.specs.Prelude.{◌≡◌, ◌&&◌, map, bytes_eq, string_bytes, Some, option_map};
 ghost use Rattle.std.specs.Option.{option_eq};
 ghost use Rattle.schemars_shapes.specs.Shape.{entry_of};
 ghost use Rattle.schemars_shapes.specs.Equality.{entry_eq};

@@ -1,5 +1,4 @@
-use Rattle.std.proofs.Common.{◌≡◌, ◌<◌, ◌≤◌, false}
-use Rattle.std.proofs.Common.{Some, refl, ap, sym, ◌∙◌, subst, arith, rules, string_bytes}
+use Rattle.std.proofs.Common.{◌≡◌, ◌<◌, ◌≤◌, false, Some, refl, ap, sym, ◌∙◌, subst, arith, rules, string_bytes, reverse}
 use Rattle.std.specs.Prelude.{◌||◌}
 use Rattle.serde_json.specs.Data.{boolean}
 use Rattle.serde_json.specs.Find.{get_member}
@@ -12,7 +11,6 @@ use Rattle.schemars_build.specs.Making.{asked, IsBegun}
 use Rattle.schemars_build.specs.declared.build.Purpose.TheVariants as purpose
 use Rattle.std.proofs.lemmas.Str.{IsUtf8-string_bytes}
 use Rattle.std.proofs.lemmas.Result.{IfOk-weaker}
-use Rattle.std.proofs.Common.{reverse}
 use Rattle.schemars_build.proofs.Making.{filled_made, closes_own, closes_members, closes_content, closes_referred, closes_definition}
 use Rattle.schemars_build.proofs.Steps.{finished_with}
 use Rattle.serde_json.proofs.Views.{get_member-put}

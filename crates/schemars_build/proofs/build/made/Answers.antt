@@ -1,5 +1,4 @@
-use Rattle.std.proofs.Common.{◌≡◌, ◌<◌, [], List, reverse, None, Some}
-use Rattle.std.proofs.Common.{refl, ap, sym, ◌∙◌, subst}
+use Rattle.std.proofs.Common.{◌≡◌, ◌<◌, [], List, reverse, None, Some, refl, ap, sym, ◌∙◌, subst}
 use Rattle.schemars_build.specs.Plans.{plan_of}
 use Rattle.schemars_build.specs.Making.{wanted, AreWaiting, AreMaking, IsTaken, IsReply}
 use Rattle.schemars_build.specs.Work.{Step}

@@ -1,6 +1,4 @@
-use Rattle.std.proofs.Common.{◌≡◌, ◌≢◌, ◌≤◌, ℕ, Option, Bool, false, true, inl}
-use Rattle.std.proofs.Common.{Some, None, refl, ap, sym, ◌∙◌, subst, arith, string_bytes, not, is_some, eqb}
-use Rattle.std.proofs.Common.{true≢false}
+use Rattle.std.proofs.Common.{◌≡◌, ◌≢◌, ◌≤◌, ℕ, Option, Bool, false, true, inl, Some, None, refl, ap, sym, ◌∙◌, subst, arith, string_bytes, not, is_some, eqb, true≢false, reverse}
 use Rattle.std.specs.Prelude.{◌||◌, ◌&&◌, codes}
 use Rattle.serde_json.specs.Data.{Data}
 use Rattle.serde_json.specs.Find.{get_member}
@@ -13,11 +11,9 @@ use Rattle.schemars_build.specs.Work.{Work, Step, undone, reference_to}
 use Rattle.schemars_build.specs.Parts.{IsPart, IsMade}
 use Rattle.schemars_build.specs.Plans.{plan_of}
 use Rattle.schemars_build.specs.Reached.{AreReached}
-use Rattle.schemars_build.specs.Making.{own, defined, asked}
-use Rattle.schemars_build.specs.Making.{ComesFrom, IsRepliedBy, HasReplied, answer, document}
+use Rattle.schemars_build.specs.Making.{own, defined, asked, ComesFrom, IsRepliedBy, HasReplied, answer, document}
 use Rattle.schemars_build.specs.declared.build.Purpose.TheVariants as purpose
 use Rattle.std.specs.Option.{option_eq}
-use Rattle.std.proofs.Common.{reverse}
 use Rattle.std.proofs.lemmas.Result.{IfOk-weaker}
 use Rattle.std.proofs.lemmas.Bool.{eqb-true}
 use Rattle.std.proofs.lemmas.Bool.Decides.{nat_tests}

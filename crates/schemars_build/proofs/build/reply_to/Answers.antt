@@ -1,5 +1,4 @@
-use Rattle.std.proofs.Common.{◌≡◌, ◌<◌, ◌≤◌, ℕ, Bool, length, reverse}
-use Rattle.std.proofs.Common.{Option, refl, sym, subst, arith, rules}
+use Rattle.std.proofs.Common.{◌≡◌, ◌<◌, ◌≤◌, ℕ, Bool, length, reverse, Option, refl, sym, subst, arith, rules}
 use Rattle.std.specs.Result.{IfOk}
 use Rattle.serde_json.specs.Data.{Data}
 use Rattle.std.proofs.lemmas.Result.{IfOk-weaker}

@@ -1,5 +1,4 @@
-use Rattle.std.proofs.Common.{◌≡◌, ◌<◌, ◌≤◌, ◌+◌, ◌-◌, ◌++◌, ◌∷◌, [], map, length, take, reverse}
-use Rattle.std.proofs.Common.{refl, ap, ◌∙◌, subst, arith, rules, get_or, slice_index_or}
+use Rattle.std.proofs.Common.{◌≡◌, ◌<◌, ◌≤◌, ◌+◌, ◌-◌, ◌++◌, ◌∷◌, [], map, length, take, reverse, refl, ap, ◌∙◌, subst, arith, rules, get_or, slice_index_or}
 use Rattle.std.proofs.lemmas.Result.{IfOk-weaker}
 use Rattle.schemars_documents.specs.View.{ask_of}
 use Rattle.schemars_build.specs.Plans.{plan_of}

@@ -1,5 +1,4 @@
-use Rattle.std.proofs.Common.{◌≡◌, ◌-◌, ◌<◌, ℕ, List, [], ◌∷◌, length, reverse, Some, None}
-use Rattle.std.proofs.Common.{rules, refl, sym, ◌∙◌, subst, slice_set, slice_index_or, arith}
+use Rattle.std.proofs.Common.{◌≡◌, ◌-◌, ◌<◌, ℕ, List, [], ◌∷◌, length, reverse, Some, None, rules, refl, sym, ◌∙◌, subst, slice_set, slice_index_or, arith}
 use Rattle.std.specs.Vec.{vec_len}
 use Rattle.serde_json.specs.Data.{Data}
 use Rattle.schemars_build.specs.declared.build.Document.{Document}

@@ -3,11 +3,9 @@ use Rattle.schemars_shapes.specs.Shape.{Entry, entry_of}
 use Rattle.schemars_types.specs.Rows.{place_of, entry_at, reserved}
 use Rattle.schemars_impls.specs.Describes.{entry_under}
 use Rattle.schemars_impls.specs.Dictionary.{IsIn, RefusesType, RefusesAs}
-use Rattle.schemars_impls.proofs.Keeping.{keeps-refl, keeps-same, keeps-trans, reserved-then, place_of-kept, define-keeps}
-use Rattle.schemars_impls.proofs.Keeping.{reserved-same, defined-reserved, undefined-reserved, defined-there}
+use Rattle.schemars_impls.proofs.Keeping.{keeps-refl, keeps-same, keeps-trans, reserved-then, place_of-kept, define-keeps, reserved-same, defined-reserved, undefined-reserved, defined-there}
 use Rattle.schemars_impls.proofs.Following.{made-kept}
-use Rattle.schemars_impls.proofs.Registering.{is_some-map, part-refused, never-refused, registered-follows, registered-completes}
-use Rattle.schemars_impls.proofs.Registering.{present-follows, present-completes, reserved-name, never-present}
+use Rattle.schemars_impls.proofs.Registering.{is_some-map, part-refused, never-refused, registered-follows, registered-completes, present-follows, present-completes, reserved-name, never-present}
 use Rattle.schemars_impls.proofs.law.register.Goals as goal
 
 pub returns-in_err-schema_id-clause-keeps : goal.returns-in_err-schema_id-clause-keeps

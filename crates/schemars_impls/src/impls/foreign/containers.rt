@@ -1,8 +1,7 @@
 //! Lists and texts of bounded length, and maps and sets in the order of insertion.
 ghost use Rattle.std.specs.Prelude.{codes, true};
 ghost use Rattle.schemars_shapes.specs.Shape.{Shape as shape, in_place};
-ghost use Rattle.schemars_types.specs.Names.{map_id, map_name};
-ghost use Rattle.schemars_types.specs.Names.{set_id, set_name, up_to_id, up_to_name};
+ghost use Rattle.schemars_types.specs.Names.{map_id, map_name, set_id, set_name, up_to_id, up_to_name};
 ghost use Rattle.schemars_impls.specs.Dictionary.{alone, of_one};
 ghost use Rattle.schemars_impls.specs.Containers.{map_row, seq_row, set_row};
 

@@ -1,21 +1,17 @@
-use Rattle.std.proofs.Common.{◌≡◌, ◌<◌, ◌+◌, ◌*◌, ◌∙◌, [], ℕ, Some, map, refl, ap, sym, subst, arith, rules, nat_eq}
-use Rattle.std.proofs.Common.{Contains, true, false, ◌∷◌, drop}
+use Rattle.std.proofs.Common.{◌≡◌, ◌<◌, ◌+◌, ◌*◌, ◌∙◌, [], ℕ, Some, map, refl, ap, sym, subst, arith, rules, nat_eq, Contains, true, false, ◌∷◌, drop}
 use Rattle.std.proofs.lemmas.List.{drop_more}
 use Rattle.std.specs.List.{list_any}
 use Rattle.schemars_shapes.specs.declared.shape.Shape.TheVariants as src
 use Rattle.schemars_shapes.specs.Shape.{variant_of, payload_of, newtype_payload, payload_same, of_variants}
 use Rattle.schemars_types.specs.Edges.{SameValueEdge, rank}
-use Rattle.schemars_types.specs.KeyOptions.{keys, any_text, or_any_text, all_options, external_options}
-use Rattle.schemars_types.specs.KeyOptions.{members_options, untagged_options, typed_options}
+use Rattle.schemars_types.specs.KeyOptions.{keys, any_text, or_any_text, all_options, external_options, members_options, untagged_options, typed_options}
 use Rattle.schemars_types.specs.Found.{options_of, options_at, adding, some_takes_all, AreAmong, HoldsRows}
-use Rattle.schemars_types.proofs.Adding.{adding-there, among_added, holds_met, holds_more, other_shape, literal_or_any}
-use Rattle.schemars_types.proofs.Adding.{untagged_empty, untagged_all, members_behind, member_more}
+use Rattle.schemars_types.proofs.Adding.{adding-there, among_added, holds_met, holds_more, other_shape, literal_or_any, untagged_empty, untagged_all, members_behind, member_more}
 use Rattle.schemars_types.proofs.Asked.{newtype_at}
 use Rattle.schemars_types.proofs.Settling.{all_options-none}
 use Rattle.schemars_types.proofs.Shapes.{found_at, edge_of_shape}
 use Rattle.schemars_types.proofs.keys.+keys.Goals as goal
-use Rattle.schemars_types.proofs.keys.+keys.Goals.{add_untagged-then-is_empty-via-then-is_empty}
-use Rattle.schemars_types.proofs.keys.+keys.Goals.{add_untagged-then-is_empty-via-else-is_empty+then-some_takes_all}
+use Rattle.schemars_types.proofs.keys.+keys.Goals.{add_untagged-then-is_empty-via-then-is_empty, add_untagged-then-is_empty-via-else-is_empty+then-some_takes_all}
 
 -- ---- a row
 

@@ -1,37 +1,26 @@
 -- Each part says what its contract says; and each call has less work left.
-use Rattle.std.proofs.Common.{◌≡◌, ◌∙◌, ◌+◌, ◌<◌, ◌≤◌, List, Bool, false, Option, None, option_map, sym, ap, subst, arith, IfOk, OnOk}
+use Rattle.std.proofs.Common.{◌≡◌, ◌∙◌, ◌+◌, ◌<◌, ◌≤◌, List, Bool, false, Option, None, option_map, sym, ap, subst, arith, IfOk, OnOk, drop}
 use Rattle.std.specs.Prelude.{◌||◌, string_bytes, is_some, unwrap_or, codes, if◌then◌else◌, map}
 use Rattle.serde_json.specs.Data.{Data, object, Items, depth, items_depth, members_depth}
 use Rattle.serde_json.specs.Find.{get_member, as_object}
 use Rattle.serde_json.specs.View.{view, items_view, members_view}
 use Rattle.schemars_schema.specs.Json.{Text}
-use Rattle.schemars_schema.specs.Verdict.{Verdict, Yes, verdict, all_of, any_of, one_of}
+use Rattle.schemars_schema.specs.Verdict.{Verdict, Yes, verdict, all_of, any_of, one_of, both}
 use Rattle.schemars_schema.specs.Acceptance.{Context, Judge, Raw, context, judge, follow, where_some, all_keywords, reference_alone, judged_by_some, judged_beside, by_patterns, matches_some, each_member, matches}
 use Rattle.schemars_schema.proofs.Containers.{object-as_object}
 use Rattle.schemars_validate.specs.Meant.{meant}
-use Rattle.schemars_validate.specs.Judged.{marked, keys_of, is_taken, unmarked_by}
-use Rattle.schemars_validate.specs.Schemas.{schema_at, schemas_in, judge_at, judges_of, judges_in, named_judges_in}
-use Rattle.schemars_validate.specs.Parts.{reads, items_by, members_by}
-use Rattle.schemars_validate.proofs.Measures.{depth_at, items_depth_at, members_depth_at, schema_under, list_under, map_under}
-use Rattle.schemars_validate.proofs.Measures.{first_under, other_under, unevaluated_under, resolved_shallow, reference_less}
+use Rattle.schemars_validate.specs.Judged.{marked, keys_of, is_taken, unmarked_by, each_unmarked, is_marked}
+use Rattle.schemars_validate.specs.Schemas.{schema_at, schemas_in, judge_at, judges_of, judges_in, named_judges_in, named_judges}
+use Rattle.schemars_validate.specs.Parts.{reads, items_by, members_by, each_item, member_by}
+use Rattle.schemars_validate.proofs.Measures.{depth_at, items_depth_at, members_depth_at, schema_under, list_under, map_under, first_under, other_under, unevaluated_under, resolved_shallow, reference_less}
 use Rattle.schemars_validate.proofs.Readings.{judge_other}
-use Rattle.schemars_validate.proofs.Judging.{object_alone, object_whole, object_with, object_with_marks, object_without, object_without_marks}
-use Rattle.schemars_validate.proofs.Judging.{beside_says, beside_marks, negated, mapped_some, marked_none, kept_marks}
-use Rattle.schemars_validate.proofs.Judging.{no_text_says, no_text_marks, unanswered_says, unanswered_marks, answered_says, answered_marks}
-use Rattle.schemars_validate.proofs.Judging.{follow_zero, follow_lost, follow_found}
-use Rattle.std.proofs.Common.{drop}
+use Rattle.schemars_validate.proofs.Judging.{object_alone, object_whole, object_with, object_with_marks, object_without, object_without_marks, beside_says, beside_marks, negated, mapped_some, marked_none, kept_marks, no_text_says, no_text_marks, unanswered_says, unanswered_marks, answered_says, answered_marks, follow_zero, follow_lost, follow_found, next_marks}
 use Rattle.std.specs.Slice.Iter.{iter_rest}
 use Rattle.serde_json.proofs.Views.{Entry}
 use Rattle.schemars_text.proofs.Lists.{from_here, nothing_left}
-use Rattle.schemars_schema.specs.Verdict.{both}
 use Rattle.schemars_schema.proofs.Verdicts.{both-yes}
 use Rattle.schemars_validate.specs.Joined.{SoFar, so_far, with_one, with_each, taken_by}
-use Rattle.schemars_validate.specs.Judged.{each_unmarked, is_marked}
-use Rattle.schemars_validate.specs.Parts.{each_item, member_by}
-use Rattle.schemars_validate.specs.Schemas.{named_judges}
-use Rattle.schemars_validate.proofs.Judging.{next_marks}
-use Rattle.schemars_validate.proofs.Stepping.{one_more_said, item_under, entry_deep, item_says, next_deep, unmarked_member_says, asked_deep}
-use Rattle.schemars_validate.proofs.Stepping.{named_deep, others_deep, member_parts, one_matches, none_matches, or_no, no_item_says}
+use Rattle.schemars_validate.proofs.Stepping.{one_more_said, item_under, entry_deep, item_says, next_deep, unmarked_member_says, asked_deep, named_deep, others_deep, member_parts, one_matches, none_matches, or_no, no_item_says}
 use Rattle.schemars_validate.proofs.judge.+judge.Goals as goal
 
 -- ---- a schema

@@ -12,11 +12,8 @@ use Rattle.schemars_walk.specs.Walk.{place_meant}
 use Rattle.schemars_walk.specs.Parts.{member_places, in_places}
 use Rattle.schemars_walk.specs.declared.rewrite.place.Place.TheVariants.{Nothing}
 use Rattle.schemars_walk.specs.Rewritten.{forms, in_items, rewritten, with_subschemas}
-use Rattle.schemars_walk.proofs.Rewrites.{depth_past, depth_at, item_done, items_done}
-use Rattle.schemars_walk.proofs.Rewrites.{items_more, items_none, a_list, no_list, either_list}
-use Rattle.schemars_walk.proofs.Rewrites.{either_schema, some_names, no_names, no_schema, rewritten_by, subschemas_of_object}
-use Rattle.schemars_walk.proofs.Parts.{as_many, depth_of_values, same_members, keywords_unread, keywords_together, names_together}
-use Rattle.schemars_walk.proofs.Parts.{value_done, values_done}
+use Rattle.schemars_walk.proofs.Rewrites.{depth_past, depth_at, item_done, items_done, items_more, items_none, a_list, no_list, either_list, either_schema, some_names, no_names, no_schema, rewritten_by, subschemas_of_object}
+use Rattle.schemars_walk.proofs.Parts.{as_many, depth_of_values, same_members, keywords_unread, keywords_together, names_together, value_done, values_done}
 use Rattle.schemars_walk.proofs.rewrite.+rewrite.Goals as goal
 
 pub rewrite-returns : goal.rewrite-returns

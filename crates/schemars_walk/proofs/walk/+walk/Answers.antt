@@ -7,9 +7,7 @@ use Rattle.serde_json.specs.View.{view, items_view, members_view}
 use Rattle.serde_json.proofs.Views.{view-Array, view-Object}
 use Rattle.schemars_schema.specs.References.{place_under}
 use Rattle.schemars_walk.specs.Walk.{AtSchema, AtPlace, Visited}
-use Rattle.schemars_walk.proofs.Walks.{turn, turn_sorted_at, turn_stops, turn_full, turns_end, item_turn, item_turn_stops}
-use Rattle.schemars_walk.proofs.Walks.{item_turns_end, at_list, at_schema_or_list, at_names}
-use Rattle.schemars_walk.proofs.Walks.{walked, recursed_stop, recursed_more, recursed_none}
+use Rattle.schemars_walk.proofs.Walks.{turn, turn_sorted_at, turn_stops, turn_full, turns_end, item_turn, item_turn_stops, item_turns_end, at_list, at_schema_or_list, at_names, walked, recursed_stop, recursed_more, recursed_none}
 use Rattle.schemars_walk.proofs.walk.+walk.Goals as goal
 
 pub visit-returns-in_err-transform-in-Levels : goal.visit-returns-in_err-transform-in-Levels

@@ -10,11 +10,7 @@ use Rattle.serde_json.specs.View.{number_view}
 use Rattle.schemagen_json.specs.declared.borrowed_value.BorrowedValue.{String, Number, Bool, Null, the_lemmas}
 use Rattle.schemagen_json.specs.BorrowedValue.{data_of, members_data}
 use Rattle.schemagen_json.proofs.Members.{data_of-Array, data_of-Object, members_data-push}
-use Rattle.schemagen_json.proofs.Reading.{nothing_read, string_read, boolean_read, null_read, number_read, number_refused}
-use Rattle.schemagen_json.proofs.Reading.{array_opened, object_opened, array_too_deep, object_too_deep, read_at}
-use Rattle.schemagen_json.proofs.Reading.{items_before, items_before-none, one_more_item, none_before}
-use Rattle.schemagen_json.proofs.Reading.{item_read, item_refused, items_closed, member_read, member_refused, name_refused}
-use Rattle.schemagen_json.proofs.Reading.{members_closed}
+use Rattle.schemagen_json.proofs.Reading.{nothing_read, string_read, boolean_read, null_read, number_read, number_refused, array_opened, object_opened, array_too_deep, object_too_deep, read_at, items_before, items_before-none, one_more_item, none_before, item_read, item_refused, items_closed, member_read, member_refused, name_refused, members_closed}
 use Rattle.schemagen_json.proofs.borrowed_value.reading.+read.Goals as goal
 
 pub read-returns-in_err-token-clause-not_json : goal.read-returns-in_err-token-clause-not_json

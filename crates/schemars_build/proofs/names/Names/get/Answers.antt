@@ -1,5 +1,4 @@
-use Rattle.std.proofs.Common.{◌≡◌, ◌≤◌, ◌<◌, ◌∙◌, ℕ, List, Bool, Some, None, true, false, ap, sym, subst, refl, option_map, slice_get}
-use Rattle.std.proofs.Common.{string_bytes, length, get_or, true≢false}
+use Rattle.std.proofs.Common.{◌≡◌, ◌≤◌, ◌<◌, ◌∙◌, ℕ, List, Bool, Some, None, true, false, ap, sym, subst, refl, option_map, slice_get, string_bytes, length, get_or, true≢false}
 use Rattle.std.specs.Prelude.{not}
 use Rattle.std.proofs.lemmas.Option.{slice_get_past, slice_get_read}
 use Rattle.schemars_build.specs.declared.names.Owner.{Owner}

@@ -1,5 +1,4 @@
-use Rattle.std.proofs.Common.{◌≡◌, ◌++◌, ◌∷◌, [], List, Bool, true, false, Some, if◌then◌else◌, length, string_bytes, length-append}
-use Rattle.std.proofs.Common.{ap, ◌∙◌, sym, arith, subst}
+use Rattle.std.proofs.Common.{◌≡◌, ◌++◌, ◌∷◌, [], List, Bool, true, false, Some, if◌then◌else◌, length, string_bytes, length-append, ap, ◌∙◌, sym, arith, subst}
 use Rattle.std.specs.List.{list_any}
 use Rattle.std.specs.String.{string_eq}
 use Rattle.schemars_build.specs.declared.names.Owner.{Owner}

@@ -1,9 +1,7 @@
-use Rattle.std.proofs.Common.{◌≡◌, ◌∙◌, sym, string_bytes}
-use Rattle.std.proofs.Common.{ℕ, Some, subst}
+use Rattle.std.proofs.Common.{◌≡◌, ◌∙◌, sym, string_bytes, ℕ, Some, subst, ap}
 use Rattle.std.specs.HashMap.{get_by_text}
 use Rattle.schemars_schema.specs.Json.{Text}
 use Rattle.schemars_build.specs.Naming.{Naming}
-use Rattle.std.proofs.Common.{ap}
 use Rattle.schemars_build.proofs.PlacedLemmas.{placed_same}
 use Rattle.schemars_build.specs.Owners.{naming_of, AreUsed, place_of_owner}
 use Rattle.schemars_build.proofs.TriedLemmas.{lookup_copied}

@@ -5,8 +5,7 @@ use Rattle.schemars_headline.proofs.Calls.{err_told}
 use Rattle.schemars_headline.proofs.Larger.{more_types_own}
 use Rattle.schemars_types.specs.Faults.{IsChecked}
 use Rattle.schemars_generate.specs.ByType.{IsJoined, IsTypeRefusal, IsRootOfTypeRefusal, with_rows}
-use Rattle.schemars_generate.specs.Generator.{state, state_of}
-use Rattle.schemars_generate.specs.Generator.{Transforms}
+use Rattle.schemars_generate.specs.Generator.{state, state_of, Transforms}
 use Rattle.schemars_generate.specs.Through.{IsTransformed, IsUntransformed, IsRootRefusal}
 use Rattle.schemars_generate.specs.declared.error.GenerateError.{GenerateError}
 use Rattle.schemars_generate.proofs.ByType.{root_in_table, type_memory}

@@ -1,6 +1,5 @@
-use Rattle.std.proofs.Common.{◌≡◌, List, [], ◌∷◌, Option, Some, None, String, string_bytes, MatchOption, IfOk, map, subst}
+use Rattle.std.proofs.Common.{◌≡◌, List, [], ◌∷◌, Option, Some, None, String, string_bytes, MatchOption, IfOk, map, subst, inr}
 use Rattle.std.specs.Prelude.{bytes_eq}
-use Rattle.std.proofs.Common.{inr}
 use Rattle.std.specs.List.{IsDistinct}
 use Rattle.std.specs.Global.{Global}
 use Rattle.std.proofs.lemmas.Result.{IfOk-weaker}

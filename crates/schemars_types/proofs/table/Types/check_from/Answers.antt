@@ -5,8 +5,7 @@ use Rattle.schemars_shapes.specs.Repeated.{IsFirstRepeated}
 use Rattle.schemars_types.specs.Edges.{names_at}
 use Rattle.schemars_types.specs.Faults.{IsUndefined, HasRepeated, OnDirectCycle, OnEmptyCycle}
 use Rattle.schemars_types.proofs.Accepted.{checked}
-use Rattle.schemars_types.proofs.Further.{all_defined, least_undefined, none_repeated_from, least_repeated_from}
-use Rattle.schemars_types.proofs.Further.{direct_cycles_from, empty_cycles_from}
+use Rattle.schemars_types.proofs.Further.{all_defined, least_undefined, none_repeated_from, least_repeated_from, direct_cycles_from, empty_cycles_from}
 use Rattle.schemars_types.proofs.table.Types.check_from.Goals as goal
 
 -- the row that is reported, which was never defined

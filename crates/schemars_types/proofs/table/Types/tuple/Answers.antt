@@ -1,6 +1,5 @@
 -- Without parts it has texts of its own, and else they are of its parts.
-use Rattle.std.proofs.Common.{◌≡◌, ℕ, ◌==◌, List, [], ◌∷◌, ◌++◌, true, false, length, map, ap, ◌∙◌, sym, refl, arith}
-use Rattle.std.proofs.Common.{codes, string_bytes}
+use Rattle.std.proofs.Common.{◌≡◌, ℕ, ◌==◌, List, [], ◌∷◌, ◌++◌, true, false, length, map, ap, ◌∙◌, sym, refl, arith, codes, string_bytes}
 use Rattle.std.specs.List.{join_by}
 use Rattle.std.proofs.lemmas.Bool.Decides.{nat_tests}
 use Rattle.std.proofs.lemmas.Result.{err_from_is_err_and}
