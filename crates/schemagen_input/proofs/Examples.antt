@@ -5,7 +5,7 @@ use Rattle.serde_json.proofs.OnLiterals.{serde_json_on_literals}
 use Rattle.schemars_schema.specs.Json.{Text}
 use Rattle.serde_json.specs.Data.{null, boolean, number, unsigned, string, array, no_items, item, Members, no_members, member}
 use Rattle.schemars_shapes.specs.declared.shape.IntKind.TheVariants.{U8, I32, I128}
-use Rattle.schemars_shapes.specs.Shape.{Shape, Field, Flattened, Fields, Required, bare_fields, without_notes, in_place, int, non_zero, formatted, char, any, option, seq, struct, external, untagged, internal, Payload, Variant, no_payload, newtype_payload, tuple_payload, struct_payload, adjacent}
+use Rattle.schemars_shapes.specs.Shape.{Shape, Field, Flattened, Fields, Required, bare_fields, without_notes, in_place, int, non_zero, formatted, char, any, option, seq, struct, enum, by_name, by_nothing, by_tag, Payload, Variant, no_payload, newtype_payload, tuple_payload, struct_payload, by_tag_and_content}
 use Rattle.schemars_types.specs.Rows.{Row}
 use Rattle.schemagen_input.specs.Forms.{required}
 use Rattle.schemagen_input.specs.Input.{input_of}
@@ -129,14 +129,14 @@ any_row = refl
 -- a variant is a unit where nothing else is said
 unit_and_newtype : said
     (codes "{\"types\":[{\"id\":\"E\",\"name\":\"E\",\"shape\":{\"external\":{\"variants\":[{\"name\":\"A\"},{\"payload\":{\"newtype\":0},\"notes\":{},\"name\":\"B\"}]}}}],\"root\":0}")
-    ≡ Some (named (codes "E") (external (variant (codes "A") no_payload ∷ variant (codes "B") (newtype_payload 0) ∷ [])) ∷ [], 0)
+    ≡ Some (named (codes "E") (enum by_name (variant (codes "A") no_payload ∷ variant (codes "B") (newtype_payload 0) ∷ [])) ∷ [], 0)
 unfolding serde_json_on_literals said named variant
 unit_and_newtype = refl
 
 other_payloads : said
     (codes "{\"types\":[{\"id\":\"E\",\"name\":\"E\",\"shape\":{\"untagged\":{\"variants\":[{\"name\":\"A\",\"payload\":\"unit\"},{\"name\":\"B\",\"payload\":{\"tuple\":[0,0]}},{\"name\":\"C\",\"payload\":{\"struct\":{\"closed\":true,\"fields\":[{\"name\":\"b\",\"type\":0}]}}}]}}}],\"root\":0}")
     ≡ Some (
-      named (codes "E") (untagged (
+      named (codes "E") (enum by_nothing (
           variant (codes "A") no_payload ∷ variant (codes "B") (tuple_payload (0 ∷ 0 ∷ []))
           ∷ variant (codes "C") (struct_payload (bare_fields (field (codes "b") 0 (required true true) ∷ []) true)) ∷ [])) ∷ [],
       0,
@@ -145,7 +145,7 @@ unfolding serde_json_on_literals said named field variant
 other_payloads = refl
 
 no_variants : said (codes "{\"types\":[{\"id\":\"E\",\"name\":\"E\",\"shape\":{\"untagged\":{}}}],\"root\":0}")
-    ≡ Some (named (codes "E") (untagged []) ∷ [], 0)
+    ≡ Some (named (codes "E") (enum by_nothing []) ∷ [], 0)
 unfolding serde_json_on_literals said named
 no_variants = refl
 
@@ -153,7 +153,7 @@ no_variants = refl
 tagged_variants : said
     (codes "{\"types\":[{\"id\":\"E\",\"name\":\"E\",\"shape\":{\"internal\":{\"tag\":\"t\",\"variants\":[{\"name\":\"A\"},{\"name\":\"B\",\"payload\":{\"struct\":{\"closed\":true,\"fields\":[{\"name\":\"b\",\"type\":0}]}}}]}}}],\"root\":0}")
     ≡ Some (
-      named (codes "E") (internal (codes "t") false (
+      named (codes "E") (enum (by_tag (codes "t") false) (
           variant (codes "A") no_payload
           ∷ variant (codes "B") (struct_payload (bare_fields (field (codes "b") 0 (required true true) ∷ []) true)) ∷ [])) ∷ [],
       0,
@@ -163,7 +163,7 @@ tagged_variants = refl
 
 closed_tagged : said
     (codes "{\"types\":[{\"id\":\"E\",\"name\":\"E\",\"shape\":{\"internal\":{\"tag\":\"t\",\"closed\":true}}}],\"root\":0}")
-    ≡ Some (named (codes "E") (internal (codes "t") true []) ∷ [], 0)
+    ≡ Some (named (codes "E") (enum (by_tag (codes "t") true) []) ∷ [], 0)
 unfolding serde_json_on_literals said named
 closed_tagged = refl
 
@@ -174,7 +174,7 @@ tagged_without_a_tag = refl
 
 tagged_newtype : said
     (codes "{\"types\":[{\"id\":\"E\",\"name\":\"E\",\"shape\":{\"internal\":{\"tag\":\"t\",\"variants\":[{\"name\":\"A\",\"payload\":{\"newtype\":0}}]}}}],\"root\":0}")
-    ≡ Some (named (codes "E") (internal (codes "t") false (variant (codes "A") (newtype_payload 0) ∷ [])) ∷ [], 0)
+    ≡ Some (named (codes "E") (enum (by_tag (codes "t") false) (variant (codes "A") (newtype_payload 0) ∷ [])) ∷ [], 0)
 unfolding serde_json_on_literals said named variant
 tagged_newtype = refl
 
@@ -187,7 +187,7 @@ tagged_tuple = refl
 adjacent_variants : said
     (codes "{\"types\":[{\"id\":\"E\",\"name\":\"E\",\"shape\":{\"adjacent\":{\"tag\":\"t\",\"content\":\"c\",\"variants\":[{\"name\":\"A\"},{\"name\":\"B\",\"payload\":{\"tuple\":[0,0]},\"notes\":{\"title\":\"t\"}},{\"name\":\"C\",\"payload\":{\"struct\":{\"fields\":[{\"name\":\"t\",\"type\":0}]}}}]}}}],\"root\":0}")
     ≡ Some (
-      named (codes "E") (adjacent (codes "t") (codes "c") false (
+      named (codes "E") (enum (by_tag_and_content (codes "t") (codes "c") false) (
           variant (codes "A") no_payload ∷ noted_tuple (codes "B") (0 ∷ 0 ∷ [])
           ∷ variant (codes "C") (struct_payload (bare_fields (field (codes "t") 0 (required true true) ∷ []) false)) ∷ [])) ∷ [],
       0,
@@ -198,7 +198,7 @@ adjacent_variants = refl
 -- one text for both keys is read here, and refused by the table
 adjacent_by_one_key : said
     (codes "{\"types\":[{\"id\":\"E\",\"name\":\"E\",\"shape\":{\"adjacent\":{\"tag\":\"t\",\"content\":\"t\",\"closed\":true}}}],\"root\":0}")
-    ≡ Some (named (codes "E") (adjacent (codes "t") (codes "t") true []) ∷ [], 0)
+    ≡ Some (named (codes "E") (enum (by_tag_and_content (codes "t") (codes "t") true) []) ∷ [], 0)
 unfolding serde_json_on_literals said named
 adjacent_by_one_key = refl
 
@@ -239,19 +239,19 @@ unknown_payload = refl
 
 variant_with_notes : said
     (codes "{\"types\":[{\"id\":\"E\",\"name\":\"E\",\"shape\":{\"external\":{\"variants\":[{\"name\":\"A\",\"notes\":{\"title\":\"t\"}}]}}}],\"root\":0}")
-    ≡ Some (named (codes "E") (external (noted_unit (codes "A") ∷ [])) ∷ [], 0)
+    ≡ Some (named (codes "E") (enum by_name (noted_unit (codes "A") ∷ [])) ∷ [], 0)
 unfolding serde_json_on_literals said named noted_unit titled
 variant_with_notes = refl
 
 field_of_a_variant_with_notes : said
     (codes "{\"types\":[{\"id\":\"E\",\"name\":\"E\",\"shape\":{\"untagged\":{\"variants\":[{\"name\":\"A\",\"payload\":{\"struct\":{\"fields\":[{\"name\":\"b\",\"type\":0,\"notes\":{\"title\":\"t\"}}]}}}]}}}],\"root\":0}")
-    ≡ Some (named (codes "E") (untagged (variant (codes "A") (struct_payload (bare_fields (noted_field ∷ []) false)) ∷ [])) ∷ [], 0)
+    ≡ Some (named (codes "E") (enum by_nothing (variant (codes "A") (struct_payload (bare_fields (noted_field ∷ []) false)) ∷ [])) ∷ [], 0)
 unfolding serde_json_on_literals said named variant noted_field titled
 field_of_a_variant_with_notes = refl
 
 tagged_variant_with_notes : said
     (codes "{\"types\":[{\"id\":\"E\",\"name\":\"E\",\"shape\":{\"internal\":{\"tag\":\"t\",\"variants\":[{\"name\":\"A\",\"notes\":{\"title\":\"t\"}}]}}}],\"root\":0}")
-    ≡ Some (named (codes "E") (internal (codes "t") false (noted_unit (codes "A") ∷ [])) ∷ [], 0)
+    ≡ Some (named (codes "E") (enum (by_tag (codes "t") false) (noted_unit (codes "A") ∷ [])) ∷ [], 0)
 unfolding serde_json_on_literals said named noted_unit titled
 tagged_variant_with_notes = refl
 

@@ -5,7 +5,7 @@ use Rattle.std.specs.Option.{option_map_or}
 use Rattle.serde_json.specs.Data.{Data, null, boolean, number, string, array, object, Items, no_items, item, Members}
 use Rattle.serde_json.specs.Find.{get}
 use Rattle.schemars_schema.specs.Json.{Text}
-use Rattle.schemars_shapes.specs.Shape.{Payload, no_payload, newtype_payload, tuple_payload, struct_payload, Variant, Entry, internal}
+use Rattle.schemars_shapes.specs.Shape.{Payload, no_payload, newtype_payload, tuple_payload, struct_payload, Variant, Entry, enum, by_tag}
 use Rattle.schemars_types.specs.Rows.{Row, with_entry}
 use Rattle.schemagen_json.specs.Members.{lone_in}
 use Rattle.schemagen_input.specs.Forms.{read_each, items_under, variant_in, variant_inside, payload_inside, internal_variant_in, internals_in, needed_member, internal_in, adjacent_in}
@@ -87,9 +87,9 @@ said_pass d =
 internal_passes : (d : Data) → Passes is_library_shape (internal_in d)
 internal_passes d = search (either_passes, then_passes, none_passes, inside)
   where
-    inside : (tag : Text) (closed : Bool) → Passes is_library_shape (option_map (internal tag closed) (internals_in d))
+    inside : (tag : Text) (closed : Bool) → Passes is_library_shape (option_map (enum (by_tag tag closed)) (internals_in d))
     inside tag closed =
-        map_keeps (list_all is_inside) is_library_shape (internal tag closed) (internals_in d) (λ xs all. all) (said_pass d)
+        map_keeps (list_all is_inside) is_library_shape (enum (by_tag tag closed)) (internals_in d) (λ xs all. all) (said_pass d)
 
 adjacent_passes : (d : Data) → Passes is_library_shape (adjacent_in d)
 adjacent_passes d = search (either_passes, then_passes, map_passes, none_passes) depth 12

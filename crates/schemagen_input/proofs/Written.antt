@@ -8,7 +8,7 @@ use Rattle.serde_json.specs.Data.{Data}
 use Rattle.serde_json.specs.View.{items_of}
 use Rattle.schemars_shapes.specs.declared.shape.IntKind.{IntKind}
 use Rattle.schemars_shapes.specs.declared.shape.IntKind.TheVariants.{I8, I16, I32, I64, I128, Isize, U8, U16, U32, U64, U128, Usize}
-use Rattle.schemars_shapes.specs.Shape.{Field, Flattened, Payload, Variant, Shape, Entry, no_payload, newtype_payload, tuple_payload, struct_payload, null as null_shape, bool, int, non_zero, number as number_shape, text, char, formatted, any, bytes, schema_itself, option, seq, set, array as array_shape, up_to, tuple, struct, newtype, result, bound, range, either, map_from, external, untagged, internal, adjacent, literal}
+use Rattle.schemars_shapes.specs.Shape.{Field, Flattened, Payload, Variant, Shape, Entry, no_payload, newtype_payload, tuple_payload, struct_payload, null as null_shape, bool, int, non_zero, number as number_shape, text, char, formatted, any, bytes, schema_itself, option, seq, set, array as array_shape, up_to, tuple, struct, newtype, result, bound, range, either, map_from, enum, by_name, by_nothing, by_tag, by_tag_and_content, literal}
 use Rattle.schemars_types.specs.Rows.{Row}
 use Rattle.schemagen_input.specs.Forms.{read_each, number_in, kind_in, field_in, flattened_from, payload_in, variant_in, payload_inside, internal_variant_in}
 use Rattle.schemagen_input.specs.Input.{shape_in, row_in, rows_in, refers_within, all_fit, ids_differ, ids_of, table_in, input_of}
@@ -101,10 +101,10 @@ shape_back (bound n) h = refl
 shape_back (range n) h = refl
 shape_back (either left right) h = refl
 shape_back (map_from key value) h = refl
-shape_back (external xs) h = rw (variants_back xs) refl
-shape_back (untagged xs) h = rw (variants_back xs) refl
-shape_back (internal tag closed xs) h = rw (internals_back xs h) refl
-shape_back (adjacent tag content closed xs) h = rw (variants_back xs) refl
+shape_back (enum by_name xs) h = rw (variants_back xs) refl
+shape_back (enum by_nothing xs) h = rw (variants_back xs) refl
+shape_back (enum (by_tag tag closed) xs) h = rw (internals_back xs h) refl
+shape_back (enum (by_tag_and_content tag content closed) xs) h = rw (variants_back xs) refl
 shape_back (literal d) h = rw h refl
 
 -- ---- rows

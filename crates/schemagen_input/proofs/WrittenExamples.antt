@@ -5,7 +5,7 @@ use Rattle.serde_json.proofs.OnLiterals.{serde_json_on_literals}
 use Rattle.schemars_schema.specs.Json.{Text}
 use Rattle.serde_json.specs.Data.{boolean, string, no_members, member}
 use Rattle.schemars_shapes.specs.declared.shape.IntKind.TheVariants.{U8}
-use Rattle.schemars_shapes.specs.Shape.{Shape, Field, Fields, Variant, without_notes, newtype_payload, int, array, struct, internal, adjacent, literal}
+use Rattle.schemars_shapes.specs.Shape.{Shape, Field, Fields, Variant, without_notes, newtype_payload, int, array, struct, enum, by_tag, by_tag_and_content, literal}
 use Rattle.schemars_types.specs.Rows.{Row}
 use Rattle.schemagen_input.specs.Forms.{required}
 use Rattle.schemagen_input.specs.Written.{json_of}
@@ -43,12 +43,12 @@ tagged = record { name = codes "A"; payload = newtype_payload 0; notes = no_memb
 
 variant_beside_a_tag : read
     (codes "{\"root\":0,\"types\":[{\"id\":\"e\",\"inline\":false,\"name\":\"e\",\"notes\":{},\"shape\":{\"internal\":{\"closed\":false,\"tag\":\"t\",\"variants\":[{\"name\":\"A\",\"notes\":{},\"payload\":{\"newtype\":0}}]}}}]}")
-    ≡ Some (json_of (named (codes "e") (internal (codes "t") false (tagged ∷ [])) ∷ []) 0)
+    ≡ Some (json_of (named (codes "e") (enum (by_tag (codes "t") false) (tagged ∷ [])) ∷ []) 0)
 unfolding serde_json_on_literals named tagged
 variant_beside_a_tag = refl
 
 variant_under_two_keys : read
     (codes "{\"root\":0,\"types\":[{\"id\":\"e\",\"inline\":false,\"name\":\"e\",\"notes\":{},\"shape\":{\"adjacent\":{\"closed\":true,\"content\":\"c\",\"tag\":\"t\",\"variants\":[{\"name\":\"A\",\"notes\":{},\"payload\":{\"newtype\":0}}]}}}]}")
-    ≡ Some (json_of (named (codes "e") (adjacent (codes "t") (codes "c") true (tagged ∷ [])) ∷ []) 0)
+    ≡ Some (json_of (named (codes "e") (enum (by_tag_and_content (codes "t") (codes "c") true) (tagged ∷ [])) ∷ []) 0)
 unfolding serde_json_on_literals named tagged
 variant_under_two_keys = refl

@@ -7,7 +7,7 @@ use Rattle.schemars_schema.specs.Json.{Text}
 use Rattle.schemagen_json.specs.Members.{has_only, lone_in}
 use Rattle.schemars_shapes.specs.declared.shape.IntKind.{IntKind}
 use Rattle.schemars_shapes.specs.declared.shape.IntKind.TheVariants.{I8, I16, I32, I64, I128, Isize, U8, U16, U32, U64, U128, Usize}
-use Rattle.schemars_shapes.specs.Shape.{Required, Field, Flattened, Fields, Payload, Variant, Shape, no_payload, newtype_payload, tuple_payload, struct_payload, struct, external, untagged, internal, adjacent}
+use Rattle.schemars_shapes.specs.Shape.{Required, Field, Flattened, Fields, Payload, Variant, Shape, no_payload, newtype_payload, tuple_payload, struct_payload, struct, enum, by_name, by_nothing, by_tag, by_tag_and_content}
 
 -- ---- the members of an object
 
@@ -173,10 +173,10 @@ abbrev pub enum_in : Data → Option (List Variant)
 enum_in d = if has_only (codes "variants" ∷ []) d then variants_in d else None
 
 abbrev pub external_in : Data → Option Shape
-external_in d = option_map external (enum_in d)
+external_in d = option_map (enum by_name) (enum_in d)
 
 abbrev pub untagged_in : Data → Option Shape
-untagged_in d = option_map untagged (enum_in d)
+untagged_in d = option_map (enum by_nothing) (enum_in d)
 
 -- beside a tag are fields, the members of a row, or nothing
 abbrev pub payload_inside : Payload → Option Payload
@@ -198,7 +198,7 @@ internals_in d = read_list internal_variant_in (codes "variants") d
 abbrev pub internal_in : Data → Option Shape
 internal_in d =
     if has_only (codes "tag" ∷ codes "closed" ∷ codes "variants" ∷ []) d
-    then option_and_then (λ tag. option_and_then (λ closed. option_map (internal tag closed) (internals_in d))
+    then option_and_then (λ tag. option_and_then (λ closed. option_map (enum (by_tag tag closed)) (internals_in d))
     (optional_member false as_bool (codes "closed") d)) (needed_member as_str (codes "tag") d)
     else None
 
@@ -206,7 +206,7 @@ internal_in d =
 abbrev pub adjacent_of_members : Data → Option Shape
 adjacent_of_members d =
     option_and_then (λ tag. option_and_then (λ content. option_and_then (λ closed.
-    option_map (adjacent tag content closed) (variants_in d))
+    option_map (enum (by_tag_and_content tag content closed)) (variants_in d))
     (optional_member false as_bool (codes "closed") d))
     (needed_member as_str (codes "content") d))
     (needed_member as_str (codes "tag") d)

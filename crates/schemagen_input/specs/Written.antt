@@ -9,7 +9,7 @@ use Rattle.schemars_schema.specs.Json.{Text}
 use Rattle.schemars_schema.specs.SchemaData.{object_of, is_schema}
 use Rattle.schemars_shapes.specs.declared.shape.IntKind.{IntKind}
 use Rattle.schemars_shapes.specs.declared.shape.IntKind.TheVariants.{I8, I16, I32, I64, I128, Isize, U8, U16, U32, U64, U128, Usize}
-use Rattle.schemars_shapes.specs.Shape.{Required, Field, Flattened, Fields, Payload, Variant, Shape, Entry, no_payload, newtype_payload, tuple_payload, struct_payload, null, bool, int, non_zero, number as number_shape, text, char, formatted, any, bytes, schema_itself, option, seq, set, array as array_shape, up_to, tuple, struct, newtype, result, bound, range, either, map_from, external, untagged, internal, adjacent, literal}
+use Rattle.schemars_shapes.specs.Shape.{Required, Field, Flattened, Fields, Payload, Variant, Shape, Entry, no_payload, newtype_payload, tuple_payload, struct_payload, null, bool, int, non_zero, number as number_shape, text, char, formatted, any, bytes, schema_itself, option, seq, set, array as array_shape, up_to, tuple, struct, newtype, result, bound, range, either, map_from, enum, by_name, by_nothing, by_tag, by_tag_and_content, literal}
 use Rattle.schemars_types.specs.Rows.{Row}
 use Rattle.schemagen_input.specs.Forms.{payload_inside}
 use Rattle.schemagen_input.specs.Input.{is_complete}
@@ -115,10 +115,10 @@ shape_json (bound n) = with_one_member (codes "bound") (whole n)
 shape_json (range n) = with_one_member (codes "range") (whole n)
 shape_json (either left right) = with_one_member (codes "either") (two_of (codes "left") left (codes "right") right)
 shape_json (map_from key value) = with_one_member (codes "map") (two_of (codes "key") key (codes "value") value)
-shape_json (external xs) = with_one_member (codes "external") (variants_json xs)
-shape_json (untagged xs) = with_one_member (codes "untagged") (variants_json xs)
-shape_json (internal tag closed xs) = with_one_member (codes "internal") (internal_json tag closed xs)
-shape_json (adjacent tag content closed xs) = with_one_member (codes "adjacent") (adjacent_json tag content closed xs)
+shape_json (enum by_name xs) = with_one_member (codes "external") (variants_json xs)
+shape_json (enum by_nothing xs) = with_one_member (codes "untagged") (variants_json xs)
+shape_json (enum (by_tag tag closed) xs) = with_one_member (codes "internal") (internal_json tag closed xs)
+shape_json (enum (by_tag_and_content tag content closed) xs) = with_one_member (codes "adjacent") (adjacent_json tag content closed xs)
 shape_json (literal d) = with_one_member (codes "literal") d
 
 -- ---- tables
@@ -141,7 +141,7 @@ json_of rows root = object_of ((codes "types", list_of row_json rows) ∷ (codes
 -- Each shape of the library is of this kind: a literal is a schema, and beside a tag are fields, the members of a row, or nothing.
 abbrev pub is_library_shape : Shape → Bool
 is_library_shape (literal d) = is_schema d
-is_library_shape (internal tag closed xs) = list_all (λ x. is_some (payload_inside x.payload)) xs
+is_library_shape (enum (by_tag tag closed) xs) = list_all (λ x. is_some (payload_inside x.payload)) xs
 is_library_shape _ = true
 
 abbrev pub has_library_shape : Row → Bool

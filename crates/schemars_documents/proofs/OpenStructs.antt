@@ -9,13 +9,13 @@ use Rattle.serde_json.specs.Data.{Data, Members, depth}
 use Rattle.schemars_schema.specs.Json.{Text}
 use Rattle.schemars_schema.specs.Acceptance.{Patterns}
 use Rattle.schemars_shapes.specs.Shape as shape
-use Rattle.schemars_shapes.specs.Shape.{Shape, Field, Flattened, Fields, Entry, Payload, Variant, option_of, no_payload, newtype_payload, tuple_payload, struct_payload}
+use Rattle.schemars_shapes.specs.Shape.{Shape, Field, Flattened, Fields, Entry, Tagging, Payload, Variant, option_of, no_payload, newtype_payload, tuple_payload, struct_payload}
 use Rattle.schemars_types.specs.KeyOptions.{KeyOptions, key_options}
 use Rattle.schemars_types.specs.Rows.{Row, entry_at}
 use Rattle.schemars_types.specs.Edges.{option_at}
 use Rattle.schemars_types.specs.Effective.{without_options_within, without_options, flattened_fields, weakened, part_fields, shape_fields, fields_within, row_fields, flattened_enums, shape_enums, enums_within, part_enums, enum_at, spread_fields, spread_payload, spread_variant, spread_in}
 use Rattle.schemars_types.specs.declared.contract.Contract.{Contract}
-use Rattle.schemars_types.specs.Meaning.{Choice, is_required, has_payload, has_variant, has_internal, has_adjacent, has_shape, belongs_within, choices_within, belongs}
+use Rattle.schemars_types.specs.Meaning.{Choice, is_required, has_payload, has_variant, has_shape, belongs_within, choices_within, belongs}
 use Rattle.schemars_types.specs.OpenStructs.{joined_fields, joined_payload, joined_variant, joined_shape, struct_fields_within, joined_in, no_choices, belongs_plainly_within, belongs_plainly}
 use Rattle.schemars_documents.specs.PlainTable.{IsTagged, AreTagged, IsPlainShape, IsOpenStruct, IsPlainPart, ArePlainParts, IsPlainEntry, IsPlainTable, parts_in, payload_parts, variant_parts, PayloadHasNamesApart, VariantsHaveNamesApart, ShapeHasNamesApart, enum_names_at, may_miss, IsPartShape, IsPartEntry, IsPartUnder, ArePartsUnder, IsEntryUnder, IsPlainUnder}
 
@@ -117,10 +117,7 @@ module _ (rows : List Row) where
     -- nothing is left to flatten
     pub spread_joins : (s : Shape) → ArePlainParts rows (parts_in s) → spread_in rows s ≡ joined_shape F s
     spread_joins (shape.struct x) h = ap shape.struct (fields_join x h)
-    spread_joins (shape.external xs) h = ap shape.external (variants_join xs h)
-    spread_joins (shape.untagged xs) h = ap shape.untagged (variants_join xs h)
-    spread_joins (shape.internal tag closed xs) h = ap (shape.internal tag closed) (variants_join xs h)
-    spread_joins (shape.adjacent tag key closed xs) h = ap (shape.adjacent tag key closed) (variants_join xs h)
+    spread_joins (shape.enum tagging xs) h = ap (shape.enum tagging) (variants_join xs h)
     spread_joins s h = refl
 
     abbrev G : Flattened → List Field
@@ -143,10 +140,7 @@ module _ (rows : List Row) where
 
     shape_plainly : (s : Shape) → ArePlainParts rows (parts_in s) → joined_shape F s ≡ joined_in rows s
     shape_plainly (shape.struct x) h = ap shape.struct (fields_plainly x h)
-    shape_plainly (shape.external xs) h = ap shape.external (variants_plainly xs h)
-    shape_plainly (shape.untagged xs) h = ap shape.untagged (variants_plainly xs h)
-    shape_plainly (shape.internal tag closed xs) h = ap (shape.internal tag closed) (variants_plainly xs h)
-    shape_plainly (shape.adjacent tag key closed xs) h = ap (shape.adjacent tag key closed) (variants_plainly xs h)
+    shape_plainly (shape.enum tagging xs) h = ap (shape.enum tagging) (variants_plainly xs h)
     shape_plainly s h = refl
 
 -- ---- the meaning of a shape into which nothing is flattened
@@ -157,55 +151,26 @@ module _ (contract : Contract) (C : ℕ → Data → List Choice) (P : ℕ → D
   payload_means no_payload v = refl
   payload_means _ v = refl
 
-  variant_means : (name : Text) (p : Payload) (notes : Members) (v : Data)
-      → has_variant contract P C v (record { name = name; payload = joined_payload part p; notes = notes })
-      ≡ has_variant contract P no_choices v (record { name = name; payload = joined_payload part p; notes = notes })
-  variant_means name no_payload notes v = refl
-  variant_means name _ notes v = refl
+  variant_means : (tagging : Tagging) (name : Text) (p : Payload) (notes : Members) (v : Data)
+      → has_variant contract P C tagging v (record { name = name; payload = joined_payload part p; notes = notes })
+      ≡ has_variant contract P no_choices tagging v (record { name = name; payload = joined_payload part p; notes = notes })
+  variant_means shape.by_name name no_payload notes v = refl
+  variant_means shape.by_name name _ notes v = refl
+  variant_means shape.by_nothing name p notes v = payload_means p v
+  variant_means (shape.by_tag tag closed) name no_payload notes v = refl
+  variant_means (shape.by_tag tag closed) name _ notes v = refl
+  variant_means (shape.by_tag_and_content tag key closed) name no_payload notes v = refl
+  variant_means (shape.by_tag_and_content tag key closed) name _ notes v = refl
 
-  internal_means : (tag : Text) (closed : Bool) (name : Text) (p : Payload) (notes : Members) (v : Data)
-      → has_internal contract P C tag closed v (record { name = name; payload = joined_payload part p; notes = notes })
-      ≡ has_internal contract P no_choices tag closed v (record { name = name; payload = joined_payload part p; notes = notes })
-  internal_means tag closed name no_payload notes v = refl
-  internal_means tag closed name _ notes v = refl
-
-  adjacent_means : (tag key : Text) (closed : Bool) (name : Text) (p : Payload) (notes : Members) (v : Data)
-      → has_adjacent contract P C tag key closed v (record { name = name; payload = joined_payload part p; notes = notes })
-      ≡ has_adjacent contract P no_choices tag key closed v (record { name = name; payload = joined_payload part p; notes = notes })
-  adjacent_means tag key closed name no_payload notes v = refl
-  adjacent_means tag key closed name _ notes v = refl
-
-  any_variant : (xs : List Variant) (v : Data) → list_any (has_variant contract P C v) (map (joined_variant part) xs)
-      ≡ list_any (has_variant contract P no_choices v) (map (joined_variant part) xs)
-  any_variant [] v = refl
-  any_variant (x ∷ xs) v = λ i. variant_means x.name x.payload x.notes v i || any_variant xs v i
-
-  any_payload : (xs : List Variant) (v : Data)
-      → list_any (λ x. has_payload contract P C x.payload v) (map (joined_variant part) xs)
-      ≡ list_any (λ x. has_payload contract P no_choices x.payload v) (map (joined_variant part) xs)
-  any_payload [] v = refl
-  any_payload (x ∷ xs) v = λ i. payload_means x.payload v i || any_payload xs v i
-
-  any_internal : (tag : Text) (closed : Bool) (xs : List Variant) (v : Data)
-      → list_any (has_internal contract P C tag closed v) (map (joined_variant part) xs)
-      ≡ list_any (has_internal contract P no_choices tag closed v) (map (joined_variant part) xs)
-  any_internal tag closed [] v = refl
-  any_internal tag closed (x ∷ xs) v =
-      λ i. internal_means tag closed x.name x.payload x.notes v i || any_internal tag closed xs v i
-
-  any_adjacent : (tag key : Text) (closed : Bool) (xs : List Variant) (v : Data)
-      → list_any (has_adjacent contract P C tag key closed v) (map (joined_variant part) xs)
-      ≡ list_any (has_adjacent contract P no_choices tag key closed v) (map (joined_variant part) xs)
-  any_adjacent tag key closed [] v = refl
-  any_adjacent tag key closed (x ∷ xs) v =
-      λ i. adjacent_means tag key closed x.name x.payload x.notes v i || any_adjacent tag key closed xs v i
+  any_variant : (tagging : Tagging) (xs : List Variant) (v : Data)
+      → list_any (has_variant contract P C tagging v) (map (joined_variant part) xs)
+      ≡ list_any (has_variant contract P no_choices tagging v) (map (joined_variant part) xs)
+  any_variant tagging [] v = refl
+  any_variant tagging (x ∷ xs) v = λ i. variant_means tagging x.name x.payload x.notes v i || any_variant tagging xs v i
 
   pub shape_means : (patterns : Patterns) (keys : ℕ → KeyOptions) (s : Shape) (v : Data)
       → has_shape contract patterns keys C P (joined_shape part s) v ≡ has_shape contract patterns keys no_choices P (joined_shape part s) v
-  shape_means patterns keys (shape.external xs) v = any_variant xs v
-  shape_means patterns keys (shape.untagged xs) v = any_payload xs v
-  shape_means patterns keys (shape.internal tag closed xs) v = any_internal tag closed xs v
-  shape_means patterns keys (shape.adjacent tag key closed xs) v = any_adjacent tag key closed xs v
+  shape_means patterns keys (shape.enum tagging xs) v = any_variant tagging xs v
   shape_means patterns keys s v = refl
 
 -- ---- the meaning of a row
@@ -267,10 +232,10 @@ module _ (names : ℕ → List Text) (part : Flattened → List Field) where
 
   shape_apart : (s : Shape) → IsPlainShape (joined_shape part s) → ShapeHasNamesApart names (joined_shape part s)
   shape_apart (shape.struct x) h = tt
-  shape_apart (shape.external xs) h = variants_apart xs
-  shape_apart (shape.untagged xs) h = variants_apart xs
-  shape_apart (shape.internal tag closed xs) h = tags_apart tag xs h.2
-  shape_apart (shape.adjacent tag key closed xs) h = variants_apart xs
+  shape_apart (shape.enum shape.by_name xs) h = variants_apart xs
+  shape_apart (shape.enum shape.by_nothing xs) h = variants_apart xs
+  shape_apart (shape.enum (shape.by_tag tag closed) xs) h = tags_apart tag xs h.2
+  shape_apart (shape.enum (shape.by_tag_and_content tag key closed) xs) h = variants_apart xs
   shape_apart s h = tt
 
 module _ (rows : List Row) (contract : Contract) where

@@ -6,7 +6,7 @@ use Rattle.schemars_schema.specs.SchemaData.{is_schema}
 use Rattle.schemars_builders.specs.NullLaw.{text_items}
 use Rattle.schemars_builders.specs.Variants.{unit_variant}
 use Rattle.schemars_shapes.specs.Shape as shape
-use Rattle.schemars_shapes.specs.Shape.{Shape, Field, Flattened, Fields, Entry, Variant, Payload, no_payload, newtype_payload, tuple_payload, struct_payload}
+use Rattle.schemars_shapes.specs.Shape.{Shape, Field, Flattened, Fields, Entry, Tagging, Variant, Payload, no_payload, newtype_payload, tuple_payload, struct_payload}
 use Rattle.schemars_types.specs.declared.contract.Contract.{Contract}
 use Rattle.schemars_types.specs.Meaning.{is_required}
 use Rattle.schemars_types.specs.KeyOptions.{KeyOptions, keys, key_options}
@@ -215,6 +215,12 @@ adjacent_template contract tag key closed [] = finished (boolean false)
 adjacent_template contract tag key closed (x ∷ xs) =
     one_of_template (map (adjacent_item contract tag key closed) (x ∷ xs))
 
+abbrev pub enum_template : Basis → Tagging → List Variant → Template
+enum_template basis shape.by_name xs = external_template basis.contract xs
+enum_template basis shape.by_nothing xs = untagged_template basis.contract basis.titles xs
+enum_template basis (shape.by_tag tag closed) xs = internal_template basis.contract tag closed xs
+enum_template basis (shape.by_tag_and_content tag key closed) xs = adjacent_template basis.contract tag key closed xs
+
 -- ---- maps
 
 -- that of whole numbers first, and once
@@ -272,10 +278,7 @@ template_of basis (shape.bound n) = bound_template n
 template_of basis (shape.range n) = range_template n
 template_of basis (shape.either l r) = either_template l r
 template_of basis (shape.map_from key value) = values_template (key_options basis.rows key) value
-template_of basis (shape.external xs) = external_template basis.contract xs
-template_of basis (shape.untagged xs) = untagged_template basis.contract basis.titles xs
-template_of basis (shape.internal tag closed xs) = internal_template basis.contract tag closed xs
-template_of basis (shape.adjacent tag key closed xs) = adjacent_template basis.contract tag key closed xs
+template_of basis (shape.enum tagging xs) = enum_template basis tagging xs
 template_of basis (shape.literal d) = finished (literal_document d)
 
 -- a row's document, with its notes

@@ -6,7 +6,7 @@ use Rattle.schemars_text.specs.OrderedText.{is_listed}
 use Rattle.schemars_schema.specs.Annotations.{AreNotes}
 use Rattle.schemars_schema.specs.Literal.{IsPlainLiteral}
 use Rattle.schemars_shapes.specs.Shape as shape
-use Rattle.schemars_shapes.specs.Shape.{Shape, Field, Flattened, Fields, Entry, Payload, Variant, no_payload, newtype_payload, tuple_payload, struct_payload, payload_names}
+use Rattle.schemars_shapes.specs.Shape.{Shape, Field, Flattened, Fields, Entry, Payload, Variant, no_payload, newtype_payload, tuple_payload, struct_payload, payload_names, tag_beside}
 use Rattle.schemars_shapes.specs.Units.{is_none}
 use Rattle.schemars_shapes.specs.Decimals.{entry_has_float}
 use Rattle.schemars_types.specs.Rows.{Row, entry_at}
@@ -76,10 +76,7 @@ variant_parts (x ∷ xs) = payload_parts x.payload ++ variant_parts xs
 -- what is flattened into the maps of a shape
 abbrev pub parts_in : Shape → List Flattened
 parts_in (shape.struct x) = x.flatten
-parts_in (shape.external xs) = variant_parts xs
-parts_in (shape.untagged xs) = variant_parts xs
-parts_in (shape.internal tag closed xs) = variant_parts xs
-parts_in (shape.adjacent tag content closed xs) = variant_parts xs
+parts_in (shape.enum tagging xs) = variant_parts xs
 parts_in _ = []
 
 abbrev pub IsOpenStruct : Option Entry → Type 0
@@ -99,10 +96,10 @@ ArePlainParts rows (p ∷ ps) = IsPlainPart rows p × ArePlainParts rows ps
 -- of a shape that has the fields of flattened rows among its own
 abbrev pub IsPlainShape : Shape → Type 0
 IsPlainShape (shape.struct x) = AreDistinct x.list × AreNoted x.list
-IsPlainShape (shape.external xs) = AreDistinctVariants xs × ArePlainVariants xs
-IsPlainShape (shape.untagged xs) = ArePlainVariants xs
-IsPlainShape (shape.internal tag closed xs) = AreDistinctVariants xs × ArePlainVariants xs × AreTagged tag xs
-IsPlainShape (shape.adjacent tag content closed xs) = (bytes_eq tag content ≡ false) × AreDistinctVariants xs × ArePlainVariants xs
+IsPlainShape (shape.enum shape.by_name xs) = AreDistinctVariants xs × ArePlainVariants xs
+IsPlainShape (shape.enum shape.by_nothing xs) = ArePlainVariants xs
+IsPlainShape (shape.enum (shape.by_tag tag closed) xs) = AreDistinctVariants xs × ArePlainVariants xs × AreTagged tag xs
+IsPlainShape (shape.enum (shape.by_tag_and_content tag content closed) xs) = (bytes_eq tag content ≡ false) × AreDistinctVariants xs × ArePlainVariants xs
 IsPlainShape (shape.literal d) = IsPlainLiteral d
 IsPlainShape _ = Unit {0}
 
@@ -125,8 +122,8 @@ all_payload_names [] = []
 all_payload_names (x ∷ xs) = payload_names x.payload ++ all_payload_names xs
 
 abbrev pub enum_names : Shape → List Text
-enum_names (shape.external xs) = map (λ x. x.name) xs
-enum_names (shape.internal tag closed xs) = tag ∷ all_payload_names xs
+enum_names (shape.enum shape.by_name xs) = map (λ x. x.name) xs
+enum_names (shape.enum (shape.by_tag tag closed) xs) = tag ∷ all_payload_names xs
 enum_names _ = []
 
 abbrev pub enum_names_at : List Row → ℕ → List Text
@@ -151,6 +148,10 @@ abbrev pub AreApart : List Field → List (List Text) → Type 0
 AreApart list [] = Unit {0}
 AreApart list (ks ∷ rest) = AreNoNames list ks × AreApartFrom ks rest × AreApart list rest
 
+abbrev pub tag_names : Option Text → List (List Text)
+tag_names None = []
+tag_names (Some tag) = (tag ∷ []) ∷ []
+
 -- below, `names` says which names an enum has, and `tags` are the names beside the members of a struct
 
 abbrev pub HasNamesApart : (ℕ → List Text) → List (List Text) → Fields → Type 0
@@ -167,10 +168,7 @@ VariantsHaveNamesApart names tags (x ∷ xs) = PayloadHasNamesApart names tags x
 -- of a shape into which enums alone are flattened
 abbrev pub ShapeHasNamesApart : (ℕ → List Text) → Shape → Type 0
 ShapeHasNamesApart names (shape.struct x) = HasNamesApart names [] x
-ShapeHasNamesApart names (shape.external xs) = VariantsHaveNamesApart names [] xs
-ShapeHasNamesApart names (shape.untagged xs) = VariantsHaveNamesApart names [] xs
-ShapeHasNamesApart names (shape.internal tag closed xs) = VariantsHaveNamesApart names ((tag ∷ []) ∷ []) xs
-ShapeHasNamesApart names (shape.adjacent tag content closed xs) = VariantsHaveNamesApart names [] xs
+ShapeHasNamesApart names (shape.enum tagging xs) = VariantsHaveNamesApart names (tag_names (tag_beside tagging)) xs
 ShapeHasNamesApart names _ = Unit {0}
 
 -- a unit without notes
@@ -201,8 +199,8 @@ VariantsHaveNoEnums rows (x ∷ xs) = HasNoEnums rows (payload_parts x.payload) 
 -- an open struct, or an enum that has to be there
 abbrev pub IsPartShape : List Row → Bool → Shape → Type 0
 IsPartShape rows optional (shape.struct x) = (x.closed ≡ false) × (optional ≡ true → HasNoEnums rows x.flatten)
-IsPartShape rows optional (shape.external xs) = (optional ≡ false) × HasVariant xs × HasBareUnits xs
-IsPartShape rows optional (shape.internal tag closed xs) =
+IsPartShape rows optional (shape.enum shape.by_name xs) = (optional ≡ false) × HasVariant xs × HasBareUnits xs
+IsPartShape rows optional (shape.enum (shape.by_tag tag closed) xs) =
     (optional ≡ false) × HasVariant xs × HasBareUnits xs × VariantsHaveNoEnums rows xs
 IsPartShape rows optional _ = ⊥
 
@@ -257,10 +255,7 @@ AreNotedVariants (x ∷ xs) = AreNotes x.notes × IsNotedPayload x.payload × Ar
 -- the notes inside a shape are annotations, and a literal is plain
 abbrev pub IsNotedShape : Shape → Type 0
 IsNotedShape (shape.struct x) = AreNoted x.list
-IsNotedShape (shape.external xs) = AreNotedVariants xs
-IsNotedShape (shape.untagged xs) = AreNotedVariants xs
-IsNotedShape (shape.internal tag closed xs) = AreNotedVariants xs
-IsNotedShape (shape.adjacent tag content closed xs) = AreNotedVariants xs
+IsNotedShape (shape.enum tagging xs) = AreNotedVariants xs
 IsNotedShape (shape.literal d) = IsPlainLiteral d
 IsNotedShape _ = Unit {0}
 

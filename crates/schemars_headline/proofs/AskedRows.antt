@@ -8,7 +8,8 @@ use Rattle.schemars_documents.specs.OfShape.{entry_template}
 use Rattle.schemars_documents.specs.Describes.{AreAnswered, IsOwnDocument}
 use Rattle.schemars_meaning.proofs.Rows.{all_asks}
 use Rattle.schemars_build.specs.Missing.{row_asked}
-use Rattle.schemars_build.proofs.Asked.{flattened_number, content_number}
+use Rattle.schemars_types.proofs.Asked.{flattened_number}
+use Rattle.schemars_build.proofs.Asked.{content_number}
 
 asks_numbers : (basis : Basis) (e : Entry) → All (λ a. Contains (numbers_of e.shape) (row_asked a)) (asks_of (entry_template basis e))
 asks_numbers basis e = all_asks (λ a. Contains (numbers_of e.shape) (row_asked a)) basis e.shape (λ m c. c)

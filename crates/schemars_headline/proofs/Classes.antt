@@ -99,13 +99,13 @@ module _ (R : Demand) (A : Ask → Data → Type 0) (basis : Basis) (Under : Lis
       ))
   other-good (shape.map_from from value) s others enums other p own flat is =
       rw is.is (values-make R A parts (key_options basis.rows from) value is.parts is.answered)
-  other-good (shape.external xs) s others enums other p own flat is =
+  other-good (shape.enum shape.by_name xs) s others enums other p own flat is =
       rw is.is (external-makes R A basis Under apart structs parts xs own flat is.parts is.answered)
-  other-good (shape.untagged xs) s others enums other p own flat is =
+  other-good (shape.enum shape.by_nothing xs) s others enums other p own flat is =
       rw is.is (untagged-makes R A basis Under apart structs parts xs own flat is.parts is.answered)
-  other-good (shape.internal tag closed xs) s others enums other p own flat is =
+  other-good (shape.enum (shape.by_tag tag closed) xs) s others enums other p own flat is =
       rw is.is (internal-makes R A basis Under apart structs parts others enums tag closed xs p.2 own flat is.parts is.answered)
-  other-good (shape.adjacent tag key closed xs) s others enums other p own flat is =
+  other-good (shape.enum (shape.by_tag_and_content tag key closed) xs) s others enums other p own flat is =
       rw is.is (adjacent-makes R A basis Under apart structs parts tag key closed xs own flat is.parts is.answered)
   other-good (shape.literal d) s others enums other p own flat is =
       rw (is ∙ literal_document-schema d (literal_is_schema d p)) (literal-good R d p)

@@ -447,10 +447,10 @@ shape_whole basis (shape.array j (suc len)) n = search
 shape_whole basis (shape.tuple js) n = tuple_whole js
 shape_whole basis (shape.struct x) n = struct_whole basis.contract x n
 shape_whole basis (shape.map_from key value) n = values_whole (key_options basis.rows key) value
-shape_whole basis (shape.external xs) n = choice_whole (bare_units xs) (other_items basis.contract xs) (others_whole basis.contract xs n)
-shape_whole basis (shape.untagged xs) n = untagged_whole basis.contract basis.titles xs n
-shape_whole basis (shape.internal tag closed xs) n = internal_whole basis.contract tag closed xs n
-shape_whole basis (shape.adjacent tag key closed xs) n = adjacent_whole basis.contract tag key closed xs n
+shape_whole basis (shape.enum shape.by_name xs) n = choice_whole (bare_units xs) (other_items basis.contract xs) (others_whole basis.contract xs n)
+shape_whole basis (shape.enum shape.by_nothing xs) n = untagged_whole basis.contract basis.titles xs n
+shape_whole basis (shape.enum (shape.by_tag tag closed) xs) n = internal_whole basis.contract tag closed xs n
+shape_whole basis (shape.enum (shape.by_tag_and_content tag key closed) xs) n = adjacent_whole basis.contract tag key closed xs n
 shape_whole basis (shape.literal d) n = either IsWhole (is_schema d) d (boolean true) n refl
 shape_whole basis _ n = search
 

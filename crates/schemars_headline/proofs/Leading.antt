@@ -15,7 +15,7 @@ use Rattle.schemars_schema.specs.Acceptance.{Patterns, Judge, judge, draft2020_1
 use Rattle.schemars_schema.proofs.Encodings.{lookup-encoded}
 use Rattle.schemars_builders.specs.NullLaw.{context2020_12}
 use Rattle.schemars_shapes.specs.Shape as shape
-use Rattle.schemars_shapes.specs.Shape.{Shape, Flattened, Entry, Payload, Variant, struct_payload, payload_flattened, payload_same, of_variants, same_value_numbers}
+use Rattle.schemars_shapes.specs.Shape.{Shape, Flattened, Entry, Tagging, Payload, Variant, struct_payload, payload_flattened, payload_same, payload_same_by, of_variants, same_value_numbers}
 use Rattle.schemars_types.specs.Rows.{Row, entry_at}
 use Rattle.schemars_types.specs.Edges.{rank}
 use Rattle.schemars_types.specs.Faults.{IsChecked}
@@ -51,7 +51,7 @@ newtype_number (x ∷ xs) j (inr later) = Contains-append_right (payload_same x.
 same_number : (kind : Shape) (j : ℕ) → IsSame kind j → Contains (same_value_numbers kind) j
 same_number (shape.option i) j same = (0, omega arith, sym same)
 same_number (shape.newtype i) j same = (0, omega arith, sym same)
-same_number (shape.untagged xs) j same = newtype_number xs j same
+same_number (shape.enum shape.by_nothing xs) j same = newtype_number xs j same
 same_number kind j same = absurd same
 
 rank_below : (rows : List Row) → IsChecked rows → (n : ℕ) (e : Entry) (j : ℕ) → entry_at rows n ≡ Some e → IsSame e.shape j
@@ -84,12 +84,15 @@ variants_case rows_of each (x ∷ xs) = go (each x.payload) (variants_case rows_
     go (inl none) (inr (j, later)) = inr (j, Contains-append_right (rows_of x.payload) (of_variants rows_of xs) j later)
     go (inr (j, here)) rest = inr (j, Contains-append_left (rows_of x.payload) (of_variants rows_of xs) j here)
 
+case_by : (t : Tagging) (p : Payload) → (payload_parts p ≡ []) ⊎ ((j : ℕ) × Contains (payload_same_by t p) j)
+case_by shape.by_name = payload_case
+case_by shape.by_nothing = same_case
+case_by (shape.by_tag tag closed) = same_case
+case_by (shape.by_tag_and_content tag key closed) = payload_case
+
 shape_case : (kind : Shape) → (parts_in kind ≡ []) ⊎ ((j : ℕ) × Contains (same_value_numbers kind) j)
 shape_case (shape.struct x) = flattened_case x.flatten
-shape_case (shape.external xs) = variants_case payload_flattened payload_case xs
-shape_case (shape.untagged xs) = variants_case payload_same same_case xs
-shape_case (shape.internal tag closed xs) = variants_case payload_same same_case xs
-shape_case (shape.adjacent tag key closed xs) = variants_case payload_flattened payload_case xs
+shape_case (shape.enum tagging xs) = variants_case (payload_same_by tagging) (case_by tagging) xs
 shape_case kind = inl refl
 
 ranks_above : (rows : List Row) → IsChecked rows → (n : ℕ) (e : Entry) → entry_at rows n ≡ Some e

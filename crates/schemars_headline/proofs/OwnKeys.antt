@@ -107,13 +107,13 @@ shape_other basis (shape.struct x) p =
     flattened_other basis.contract x.flatten _
     (map_other (map property x.list) (text_items (required_names basis.contract x.list)) x.closed)
 shape_other basis (shape.map_from key value) p = values_other (key_options basis.rows key) value
-shape_other basis (shape.external xs) p = choice_other (bare_units xs) (other_items basis.contract xs)
-shape_other basis (shape.untagged []) p = (refl, refl)
-shape_other basis (shape.untagged (x ∷ xs)) p = search
-shape_other basis (shape.internal tag closed []) p = (refl, refl)
-shape_other basis (shape.internal tag closed (x ∷ xs)) p = search
-shape_other basis (shape.adjacent tag key closed []) p = (refl, refl)
-shape_other basis (shape.adjacent tag key closed (x ∷ xs)) p = search
+shape_other basis (shape.enum shape.by_name xs) p = choice_other (bare_units xs) (other_items basis.contract xs)
+shape_other basis (shape.enum shape.by_nothing []) p = (refl, refl)
+shape_other basis (shape.enum shape.by_nothing (x ∷ xs)) p = search
+shape_other basis (shape.enum (shape.by_tag tag closed) []) p = (refl, refl)
+shape_other basis (shape.enum (shape.by_tag tag closed) (x ∷ xs)) p = search
+shape_other basis (shape.enum (shape.by_tag_and_content tag key closed) []) p = (refl, refl)
+shape_other basis (shape.enum (shape.by_tag_and_content tag key closed) (x ∷ xs)) p = search
 shape_other basis (shape.literal d) p = literal_other d p
 shape_other basis _ p = search
 

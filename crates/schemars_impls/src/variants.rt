@@ -143,7 +143,7 @@ pub fn add_tuple(
 /// Returns the entry of an enum whose variants are tagged by their names, without notes.
 pub fn external_entry(alloc: Global, variants: Vec<Variant>) -> TypeEntry
     ensures value { entry_of result
-        ≡ without_notes false (shape.external (map variant_of variants.items)) }
+        ≡ without_notes false (shape.enum shape.by_name (map variant_of variants.items)) }
     ensures known { (rows : List Row) → VariantsAreKnown rows (map variant_of variants.items)
         → unknown_in rows (shape_of result.shape) ≡ None }
 {
@@ -153,7 +153,7 @@ pub fn external_entry(alloc: Global, variants: Vec<Variant>) -> TypeEntry
 /// Returns the entry of an enum whose variants are not tagged, without notes.
 pub fn untagged_entry(alloc: Global, variants: Vec<Variant>) -> TypeEntry
     ensures value { entry_of result
-        ≡ without_notes false (shape.untagged (map variant_of variants.items)) }
+        ≡ without_notes false (shape.enum shape.by_nothing (map variant_of variants.items)) }
     ensures known { (rows : List Row) → VariantsAreKnown rows (map variant_of variants.items)
         → unknown_in rows (shape_of result.shape) ≡ None }
 {

@@ -17,7 +17,7 @@ use Rattle.schemars_documents.specs.Documents.{Keyword, typed, type_alone, int_d
 use Rattle.schemars_documents.specs.PlainTable.{parts_in, ArePlainParts}
 use Rattle.schemars_documents.specs.Basis.{Basis}
 use Rattle.schemars_documents.specs.Template.{Ask, part, row, asks_of, asks_in, filled, filled_in}
-use Rattle.schemars_documents.specs.OfShape.{templates_of, tuple_template, template_of, entry_template, literal_document, values_template, external_template, untagged_template, internal_template, adjacent_template}
+use Rattle.schemars_documents.specs.OfShape.{templates_of, tuple_template, template_of, entry_template, literal_document, values_template, enum_template}
 use Rattle.schemars_documents.specs.Describes.{Fills}
 use Rattle.schemars_meaning.proofs.MapDocument.{map_document}
 use Rattle.schemars_meaning.proofs.Spread.{field_keywords, IsFieldsDocument, AnswersFields}
@@ -126,10 +126,7 @@ IsDocument A has basis (shape.bound n) s = IsOfTwo (A (part n)) (A (part n)) bou
 IsDocument A has basis (shape.range n) s = IsOfTwo (A (part n)) (A (part n)) range_document s
 IsDocument A has basis (shape.either a b) s = IsOfTwo (A (part a)) (A (part b)) either_document s
 IsDocument A has basis (shape.map_from key value) s = Fills A (values_template (key_options basis.rows key) value) s
-IsDocument A has basis (shape.external xs) s = Fills A (external_template basis.contract xs) s
-IsDocument A has basis (shape.untagged xs) s = Fills A (untagged_template basis.contract basis.titles xs) s
-IsDocument A has basis (shape.internal tag closed xs) s = Fills A (internal_template basis.contract tag closed xs) s
-IsDocument A has basis (shape.adjacent tag key closed xs) s = Fills A (adjacent_template basis.contract tag key closed xs) s
+IsDocument A has basis (shape.enum tagging xs) s = Fills A (enum_template basis tagging xs) s
 IsDocument A has basis (shape.literal d) s = s ≡ literal_document d
 
 -- ---- what fills a template
@@ -200,10 +197,7 @@ module _ (A : Ask → Data → Type 0) where
     others_fill (shape.either a b) s (t ∷ []) p h e = absurd h.1
     others_fill (shape.either a b) s (t ∷ u ∷ ts) p h e = (t, u, h.0, h.1.0, e)
     others_fill (shape.map_from key value) s ts p h e = record { parts = ts; answered = h; is = e }
-    others_fill (shape.external xs) s ts p h e = record { parts = ts; answered = h; is = e }
-    others_fill (shape.untagged xs) s ts p h e = record { parts = ts; answered = h; is = e }
-    others_fill (shape.internal tag closed xs) s ts p h e = record { parts = ts; answered = h; is = e }
-    others_fill (shape.adjacent tag key closed xs) s ts p h e = record { parts = ts; answered = h; is = e }
+    others_fill (shape.enum tagging xs) s ts p h e = record { parts = ts; answered = h; is = e }
     others_fill _ s ts p h e = e
 
   module _ (has : Flattened → List Field) (basis : Basis) (fields : AnswersFields has basis.rows basis.contract A) where

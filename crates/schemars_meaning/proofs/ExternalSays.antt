@@ -19,7 +19,7 @@ use Rattle.schemars_shapes.specs.Shape.{Field, Flattened, Payload, Variant, no_p
 use Rattle.schemars_shapes.specs.Units.{is_bare_unit}
 use Rattle.schemars_types.specs.declared.contract.Contract.{Contract}
 use Rattle.schemars_types.specs.declared.contract.Contract.TheVariants.{Deserialize}
-use Rattle.schemars_types.specs.Meaning.{is_map_of, is_text, every_member, member_fits, has_required, none, exactly_one, Choice, has_fields, has_payload, has_variant}
+use Rattle.schemars_types.specs.Meaning.{is_map_of, is_text, every_member, member_fits, has_required, none, exactly_one, Choice, has_fields, has_payload, has_external}
 use Rattle.schemars_documents.specs.PlainTable.{IsNoVariant, AreDistinctVariants}
 use Rattle.schemars_documents.specs.Template.{Ask, Template, noted, asks_of, asks_in, filled, filled_in}
 use Rattle.schemars_documents.specs.OfShape.{templates_of, member_template, payload_template, named_template, bare_units, other_items, choice_of, external_template}
@@ -57,10 +57,10 @@ map_claimed k p _ h = absurd (true≢false (sym h))
 
 module _ (contract : Contract) (M : ℕ → Data → Bool) (C : ℕ → Data → List Choice) (v : Data) where
   abbrev pub P : Variant → Bool
-  P x = has_variant contract M C v x
+  P x = has_external contract M C v x
 
   abbrev pub named_by : Text → Payload → Bool
-  named_by name p = has_variant contract M C v (record { name = name; payload = p; notes = no_members })
+  named_by name p = has_external contract M C v (record { name = name; payload = p; notes = no_members })
 
   variant_claimed : (name : Text) (p : Payload) → named_by name p ≡ true → claimed v ≡ Some name
   variant_claimed name no_payload h = text_claimed name v h
@@ -294,7 +294,7 @@ module _ (c : Context) (on : c.dialect.reads_unevaluated ≡ true) where
     -- the document of the enum says what the enum means
     pub external_says : (xs : List Variant) → AreDistinctVariants (map each xs) → AreTold Told xs → (us : List Data)
         → Fit A (asks_of (external_template contract xs)) us
-        → (judge c (filled (external_template contract xs) us)).fits v ≡ verdict (list_any (has_variant contract M C v) (map each xs))
+        → (judge c (filled (external_template contract xs) us)).fits v ≡ verdict (list_any (has_external contract M C v) (map each xs))
     external_says xs apart told us fit =
         choice_fits (bare_units xs) (other_items contract xs) (map (P contract M C v) (others contract M C v (map each xs)))
         (others_fit xs told) us fit

@@ -86,11 +86,11 @@ module _ (A : Ask → Data → Type 0) (has : Flattened → List Field) (basis :
   shape_ready (shape.either a b) s others enums p flat is =
       one_of_ready (member_document true (codes "Left") is.0 ∷ member_document true (codes "Right") is.1 ∷ []) s is.4
   shape_ready (shape.map_from key value) s others enums p flat is = rw is.is (values_ready (key_options basis.rows key) value is.parts)
-  shape_ready (shape.external xs) s others enums p flat is = rw is.is (external_ready basis.contract xs is.parts)
-  shape_ready (shape.untagged xs) s others enums p flat is =
+  shape_ready (shape.enum shape.by_name xs) s others enums p flat is = rw is.is (external_ready basis.contract xs is.parts)
+  shape_ready (shape.enum shape.by_nothing xs) s others enums p flat is =
       rw is.is (untagged_ready A basis Under apart ready structs xs others enums p flat is.parts is.answered)
-  shape_ready (shape.internal tag closed xs) s others enums p flat is = rw is.is (internal_ready basis.contract tag closed xs is.parts)
-  shape_ready (shape.adjacent tag key closed xs) s others enums p flat is =
+  shape_ready (shape.enum (shape.by_tag tag closed) xs) s others enums p flat is = rw is.is (internal_ready basis.contract tag closed xs is.parts)
+  shape_ready (shape.enum (shape.by_tag_and_content tag key closed) xs) s others enums p flat is =
       rw is.is (adjacent_ready basis.contract tag key closed xs is.parts)
   shape_ready (shape.literal d) s others enums p flat is =
       rw (is ∙ literal_document-schema d (literal_is_schema d p)) (literal_ready d p)
@@ -101,7 +101,7 @@ module _ (A : Ask → Data → Type 0) (has : Flattened → List Field) (basis :
 abbrev pub IsSame : Shape → ℕ → Type 0
 IsSame (shape.option n) j = j ≡ n
 IsSame (shape.newtype n) j = j ≡ n
-IsSame (shape.untagged xs) j = IsNewtypeIn j xs
+IsSame (shape.enum shape.by_nothing xs) j = IsNewtypeIn j xs
 IsSame _ j = ⊥
 
 -- where a part is asked: inside the value, or of the value itself
@@ -111,10 +111,7 @@ Inside kind v j w = (depth w < depth v) ⊎ (IsSame kind j × (w ≡ v))
 -- no struct, and no enum
 abbrev pub IsSimple : Shape → Type 0
 IsSimple (shape.struct x) = ⊥
-IsSimple (shape.external xs) = ⊥
-IsSimple (shape.untagged xs) = ⊥
-IsSimple (shape.internal tag closed xs) = ⊥
-IsSimple (shape.adjacent tag key closed xs) = ⊥
+IsSimple (shape.enum tagging xs) = ⊥
 IsSimple kind = Unit {0}
 
 module _ (patterns : Patterns) (f : Text → Judge) (basis : Basis) (A : Ask → Data → Type 0) (M : ℕ → Data → Bool)

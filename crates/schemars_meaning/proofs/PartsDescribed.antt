@@ -242,16 +242,16 @@ module _ (c : Context) (on : c.dialect.reads_unevaluated ≡ true) (basis : Basi
     external_offers [] = refl
     external_offers (x ∷ xs) = ap (λ os. member_choice x.name (P x.payload) v ∷ os) (external_offers xs)
 
-    pub external_at : (d : ℕ) → PayloadsTell d → (e : Entry) (x : Variant) (xs : List Variant) → e.shape ≡ shape.external (x ∷ xs)
+    pub external_at : (d : ℕ) → PayloadsTell d → (e : Entry) (x : Variant) (xs : List Variant) → e.shape ≡ shape.enum shape.by_name (x ∷ xs)
         → AreNotes e.notes
         → HasBareUnits (x ∷ xs) → ArePlainVariants (map each_spread (x ∷ xs)) → ArePartsUnder contract rows (variant_parts (x ∷ xs))
         → (s : Data) → IsOwnDocument (Answer d) basis (Some e) s
-        → IsPart c on contract (In d) v [] (shape_choices contract M O (spread_in rows (shape.external (x ∷ xs))) v ∷ [])
+        → IsPart c on contract (In d) v [] (shape_choices contract M O (spread_in rows (shape.enum shape.by_name (x ∷ xs))) v ∷ [])
         (flattened_part false s)
     external_at d tell e x xs is notes bare plain flat s own =
         let g : Fills (Answer d) (noted e.notes (external_template contract (x ∷ xs))) s =
         subst (λ k. Fills (Answer d) (noted e.notes (template_of basis k)) s) is own in
-        subst (λ t. IsPart c on contract (In d) v [] (shape_choices contract M O (spread_in rows (shape.external (x ∷ xs))) v ∷ [])
+        subst (λ t. IsPart c on contract (In d) v [] (shape_choices contract M O (spread_in rows (shape.enum shape.by_name (x ∷ xs))) v ∷ [])
         (flattened_part false t))
         (sym g.is)
         (subst (λ os. IsPart c on contract (In d) v [] (os ∷ [])
@@ -309,9 +309,9 @@ module _ (c : Context) (on : c.dialect.reads_unevaluated ≡ true) (basis : Basi
       inside_offers tag (x ∷ xs) = λ i. inside_one tag x.name x.payload x.notes i ∷ inside_offers tag xs i
 
       pub internal_at : (e : Entry) (tag : Text) (closed : Bool) (x : Variant) (xs : List Variant) → e.shape
-          ≡ shape.internal tag closed (x ∷ xs)
+          ≡ shape.enum (shape.by_tag tag closed) (x ∷ xs)
           → AreNotes e.notes → Inside (x ∷ xs) → (s : Data) → IsOwnDocument (Answer d) basis (Some e) s
-          → IsPart c on contract (In d) v [] (shape_choices contract M O (spread_in rows (shape.internal tag closed (x ∷ xs))) v ∷ [])
+          → IsPart c on contract (In d) v [] (shape_choices contract M O (spread_in rows (shape.enum (shape.by_tag tag closed) (x ∷ xs))) v ∷ [])
           (flattened_part false s)
       internal_at e tag closed x xs is notes inside s own =
           let g : Fills (Answer d) (noted e.notes (internal_template contract tag closed (x ∷ xs))) s =
@@ -320,7 +320,7 @@ module _ (c : Context) (on : c.dialect.reads_unevaluated ≡ true) (basis : Basi
           (struct_filled d answers)
           tag closed x xs inside g.parts g.answered in
           subst (λ t. IsPart c on contract (In d) v []
-          (shape_choices contract M O (spread_in rows (shape.internal tag closed (x ∷ xs))) v ∷ [])
+          (shape_choices contract M O (spread_in rows (shape.enum (shape.by_tag tag closed) (x ∷ xs))) v ∷ [])
           (flattened_part false t)) (sym (g.is ∙ ap (annotated e.notes) all.1))
           (subst (λ os. IsPart c on contract (In d) v [] (os ∷ []) (flattened_part false (annotated e.notes (one_object all.0))))
           (inside_offers tag (x ∷ xs))
@@ -358,12 +358,12 @@ module _ (c : Context) (on : c.dialect.reads_unevaluated ≡ true) (basis : Basi
           struct_answer (In d) (effective has x) os p.required (is_some (option_at rows p.ty)) s
           (λ misses. ap (λ ns. offers N (map enum_at ns) v) (is.1 misses))
           (subst (λ b. IsStruct c on contract (In d) v (effective has x) os b s) is.0 (struct_at d answers e x same notes under s own))
-      shape_goal d answers p n e at (shape.external []) same notes fine under is s own = absurd is.1
-      shape_goal d answers p n e at (shape.external (x ∷ xs)) same notes fine under is s own =
-          enum_goal d p n e at (shape.external (x ∷ xs)) same s is.0 (external_at d (tell d) e x xs same notes is.2 fine.1 under s own)
-      shape_goal d answers p n e at (shape.internal tag closed []) same notes fine under is s own = absurd is.1
-      shape_goal d answers p n e at (shape.internal tag closed (x ∷ xs)) same notes fine under is s own =
-          enum_goal d p n e at (shape.internal tag closed (x ∷ xs)) same s is.0
+      shape_goal d answers p n e at (shape.enum shape.by_name []) same notes fine under is s own = absurd is.1
+      shape_goal d answers p n e at (shape.enum shape.by_name (x ∷ xs)) same notes fine under is s own =
+          enum_goal d p n e at (shape.enum shape.by_name (x ∷ xs)) same s is.0 (external_at d (tell d) e x xs same notes is.2 fine.1 under s own)
+      shape_goal d answers p n e at (shape.enum (shape.by_tag tag closed) []) same notes fine under is s own = absurd is.1
+      shape_goal d answers p n e at (shape.enum (shape.by_tag tag closed) (x ∷ xs)) same notes fine under is s own =
+          enum_goal d p n e at (shape.enum (shape.by_tag tag closed) (x ∷ xs)) same s is.0
           (internal_at d answers e tag closed x xs same notes (inside_each d answers tag (x ∷ xs) fine.1 fine.2 is.3 under) s own)
       shape_goal d answers p n e at k same notes fine under is s own = absurd is
 

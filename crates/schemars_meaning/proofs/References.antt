@@ -93,10 +93,10 @@ module _ (part : Flattened → List Field) (enums : Flattened → List ℕ) wher
 
 pub plain-shape_noted : (rows : List Row) (kind : Shape) → IsPlainShape (spread_in rows kind) → IsNotedShape kind
 plain-shape_noted rows (shape.struct x) h = noted-first x.list (flattened_fields (flattened_in rows) x.flatten) h.1
-plain-shape_noted rows (shape.external xs) h = plain-variants_noted (flattened_in rows) (part_enums rows) xs h.1
-plain-shape_noted rows (shape.untagged xs) h = plain-variants_noted (flattened_in rows) (part_enums rows) xs h
-plain-shape_noted rows (shape.internal tag closed xs) h = plain-variants_noted (flattened_in rows) (part_enums rows) xs h.1
-plain-shape_noted rows (shape.adjacent tag key closed xs) h = plain-variants_noted (flattened_in rows) (part_enums rows) xs h.2
+plain-shape_noted rows (shape.enum shape.by_name xs) h = plain-variants_noted (flattened_in rows) (part_enums rows) xs h.1
+plain-shape_noted rows (shape.enum shape.by_nothing xs) h = plain-variants_noted (flattened_in rows) (part_enums rows) xs h
+plain-shape_noted rows (shape.enum (shape.by_tag tag closed) xs) h = plain-variants_noted (flattened_in rows) (part_enums rows) xs h.1
+plain-shape_noted rows (shape.enum (shape.by_tag_and_content tag key closed) xs) h = plain-variants_noted (flattened_in rows) (part_enums rows) xs h.2
 plain-shape_noted rows (shape.literal d) h = h
 plain-shape_noted rows _ h = tt
 
@@ -417,12 +417,12 @@ module _ (Q : Type 0) (Answers : Ask → Data → Type 0) (basis : Basis)
   shape_as_schema (shape.struct x) p g = struct_as_schema x p (λ q. ((g q).0.0, (g q).1))
   shape_as_schema (shape.map_from key value) p g =
       values_as_schema (key_options basis.rows key) value (keys_apart (or_any_text (all_options basis.rows key)))
-  shape_as_schema (shape.external xs) p g =
+  shape_as_schema (shape.enum shape.by_name xs) p g =
       choice_as_schema (bare_units xs) (other_items basis.contract xs) (others_as_items xs p (λ q. ((g q).0.1, (g q).1)))
-  shape_as_schema (shape.untagged xs) p g = untagged_as_schema basis.titles xs p g
-  shape_as_schema (shape.internal tag closed xs) p g =
+  shape_as_schema (shape.enum shape.by_nothing xs) p g = untagged_as_schema basis.titles xs p g
+  shape_as_schema (shape.enum (shape.by_tag tag closed) xs) p g =
       internal_as_schema tag closed xs p (λ q. (((g q).0.1, (g q).1), (g q).0.2))
-  shape_as_schema (shape.adjacent tag key closed xs) p g =
+  shape_as_schema (shape.enum (shape.by_tag_and_content tag key closed) xs) p g =
       adjacent_as_schema tag key closed xs p (λ q. (((g q).0.2, (g q).1), (g q).0.0))
   shape_as_schema (shape.literal d) p g =
       ap references (literal_document-schema d (literal_is_schema d p)) ∙ literal_refers_nowhere d p

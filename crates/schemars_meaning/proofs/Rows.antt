@@ -5,7 +5,7 @@ use Rattle.std.proofs.lemmas.List.Elements.{All-nil, All-cons, All-append, Conta
 use Rattle.schemars_schema.specs.Json.{Text}
 use Rattle.schemars_builders.specs.NullLaw.{text_items}
 use Rattle.schemars_shapes.specs.Shape as shape
-use Rattle.schemars_shapes.specs.Shape.{Shape, Field, Flattened, Fields, Payload, Variant, no_payload, newtype_payload, tuple_payload, struct_payload, internal, numbers_of, flattened_numbers, flattened_rows, fields_numbers, payload_numbers, payload_flattened, variant_numbers, of_variants}
+use Rattle.schemars_shapes.specs.Shape.{Shape, Field, Flattened, Fields, Payload, Variant, no_payload, newtype_payload, tuple_payload, struct_payload, enum, by_tag, numbers_of, flattened_numbers, flattened_rows, fields_numbers, payload_numbers, payload_flattened, variant_numbers, of_variants}
 use Rattle.schemars_shapes.specs.Units.{is_bare_unit}
 use Rattle.schemars_types.specs.declared.contract.Contract.{Contract}
 use Rattle.schemars_types.specs.Meaning.{is_required}
@@ -27,7 +27,7 @@ payload_contents _ = []
 
 -- the rows whose values are beside a tag
 abbrev pub contents_of : Shape → List ℕ
-contents_of (internal tag closed xs) = of_variants payload_contents xs
+contents_of (enum (by_tag tag closed) xs) = of_variants payload_contents xs
 contents_of _ = []
 
 -- ---- all that is asked
@@ -294,9 +294,9 @@ module _ (P : Ask → Type 0) where
   all_asks basis (shape.either a b) h g f = two a b h
   all_asks basis (shape.map_from key value) h g f =
       values_all (key_options basis.rows key) value (h value (Contains-append_right (key ∷ []) (value ∷ []) value (here value [])))
-  all_asks basis (shape.external xs) h g f =
+  all_asks basis (shape.enum shape.by_name xs) h g f =
       choice_all (bare_units xs) (other_items basis.contract xs) (others_all basis.contract xs h g)
-  all_asks basis (shape.untagged xs) h g f = untagged_all basis.contract basis.titles xs h g
-  all_asks basis (shape.internal tag closed xs) h g f = internal_all basis.contract tag closed xs h g f
-  all_asks basis (shape.adjacent tag key closed xs) h g f = adjacent_all basis.contract tag key closed xs h g
+  all_asks basis (shape.enum shape.by_nothing xs) h g f = untagged_all basis.contract basis.titles xs h g
+  all_asks basis (shape.enum (shape.by_tag tag closed) xs) h g f = internal_all basis.contract tag closed xs h g f
+  all_asks basis (shape.enum (shape.by_tag_and_content tag key closed) xs) h g f = adjacent_all basis.contract tag key closed xs h g
   all_asks basis _ h g f = nothing

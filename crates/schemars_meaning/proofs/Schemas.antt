@@ -93,10 +93,10 @@ shape_makes basis (shape.tuple (n ∷ ns)) = tt
 shape_makes basis (shape.struct x) =
     flattened_makes basis.contract x.flatten (fields_template basis.contract x.list x.closed) tt
 shape_makes basis (shape.map_from key value) = values_make (key_options basis.rows key) value
-shape_makes basis (shape.external xs) = choice_makes (bare_units xs) (other_items basis.contract xs)
-shape_makes basis (shape.untagged xs) = untagged_makes basis.contract basis.titles xs
-shape_makes basis (shape.internal tag closed xs) = internal_makes basis.contract tag closed xs
-shape_makes basis (shape.adjacent tag key closed xs) = adjacent_makes basis.contract tag key closed xs
+shape_makes basis (shape.enum shape.by_name xs) = choice_makes (bare_units xs) (other_items basis.contract xs)
+shape_makes basis (shape.enum shape.by_nothing xs) = untagged_makes basis.contract basis.titles xs
+shape_makes basis (shape.enum (shape.by_tag tag closed) xs) = internal_makes basis.contract tag closed xs
+shape_makes basis (shape.enum (shape.by_tag_and_content tag key closed) xs) = adjacent_makes basis.contract tag key closed xs
 shape_makes basis (shape.literal d) = literal_makes d
 shape_makes basis _ = tt
 

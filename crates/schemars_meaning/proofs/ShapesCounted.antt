@@ -285,22 +285,22 @@ module _ (patterns : Patterns) (f : Text → Judge) (basis : Basis) (Refers : �
           → (judge c s).fits v ≡ verdict (has_shape contract patterns (key_options rows) (C m) (B m) (spread_in rows kind) v)
       shape_says (shape.struct x) room fine under s h agree =
           rw h.is (struct_says v json within m enough d x room (fine, under) tell h.parts h.answered)
-      shape_says (shape.external xs) room fine under s h agree =
+      shape_says (shape.enum shape.by_name xs) room fine under s h agree =
           rw h.is (external_says c refl contract (Answer d) (flattened_in rows) (part_enums rows) (B m) (C m) IsTold v json
           (tell m enough d) (λ name. unit_says patterns f basis (B m) name v) (λ ks. units_say patterns f basis (B m) ks v) xs fine.0
           (told_each xs fine.1 under) h.parts h.answered)
-      shape_says (shape.untagged xs) room fine under s h agree =
+      shape_says (shape.enum shape.by_nothing xs) room fine under s h agree =
           rw h.is (untagged_says patterns f basis (Answer d) (B m) xs
           (map (λ x. has_payload contract (B m) (C m) x.payload v) (map each xs)) v
           (payloads_tell xs fine under room (λ n t same w. agree n t v w json (inr (same, refl)))) h.parts h.answered
           ∙ ap verdict (any_same (map each xs)))
-      shape_says (shape.internal tag closed xs) room fine under s h agree =
+      shape_says (shape.enum (shape.by_tag tag closed) xs) room fine under s h agree =
           rw h.is (internal_says c refl contract (Answer d) (B m) (C m) (schemas d) v json
           (λ j t w is js less. agree j t w is js (inl less)) (unit_says patterns f basis (B m)) (flattened_in rows)
           (part_enums rows) StructTold
           (λ y told us fit. struct_stands v json within m enough d y told.1 told.0 tell us fit) tag closed xs fine.0
           (inside_each tag xs fine.1 fine.2 under room) h.parts h.answered)
-      shape_says (shape.adjacent tag key closed xs) room fine under s h agree =
+      shape_says (shape.enum (shape.by_tag_and_content tag key closed) xs) room fine under s h agree =
           rw h.is (adjacent_says c refl contract (Answer d) (B m) (C m) v json (unit_says patterns f basis (B m)) (flattened_in rows)
           (part_enums rows) IsTold (tell m enough d) tag key fine.0 closed xs fine.1 (told_each xs fine.2 under) h.parts h.answered)
       shape_says kind room fine under s h agree =

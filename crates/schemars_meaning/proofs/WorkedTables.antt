@@ -40,7 +40,7 @@ outer : Fields
 outer = record { list = needed (codes "a") 0 ∷ []; flatten = part 1 always ∷ []; closed = true }
 
 first : List Row
-first = row "boolean" shape.bool ∷ row "E" (shape.external e_variants) ∷ row "Outer" (shape.struct outer) ∷ []
+first = row "boolean" shape.bool ∷ row "E" (shape.enum shape.by_name e_variants) ∷ row "Outer" (shape.struct outer) ∷ []
 
 whole_value : Data
 whole_value = object (entry "V" (boolean false) (entry "a" (boolean true) no_members))
@@ -89,7 +89,7 @@ bare : Fields
 bare = record { list = []; flatten = part 0 always ∷ []; closed = false }
 
 second : List Row
-second = row "E" (shape.external u_variants) ∷ row "O" (shape.struct bare) ∷ []
+second = row "E" (shape.enum shape.by_name u_variants) ∷ row "O" (shape.struct bare) ∷ []
 
 unit_there : String → Members → Data
 unit_there k ms = object (entry k null ms)

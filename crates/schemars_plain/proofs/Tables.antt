@@ -98,17 +98,17 @@ struct_decided rows x = list_decided (effective (flattened_in rows) x)
 
 pub external_decided : (rows : List Row) (xs : List Variant)
     → Decides (all_differ (names_of_variants xs) && are_plain_variants (map (spread_variant_in rows) xs))
-    (IsPlainShape (spread_in rows (shape.external xs)))
+    (IsPlainShape (spread_in rows (shape.enum shape.by_name xs)))
 external_decided rows xs = Decides-and (all_differ (names_of_variants xs)) (are_plain_variants (map (spread_variant_in rows) xs))
     (spread_names_decided rows xs) (variants_decided (map (spread_variant_in rows) xs))
 
 pub untagged_decided : (rows : List Row) (xs : List Variant)
-    → Decides (are_plain_variants (map (spread_variant_in rows) xs)) (IsPlainShape (spread_in rows (shape.untagged xs)))
+    → Decides (are_plain_variants (map (spread_variant_in rows) xs)) (IsPlainShape (spread_in rows (shape.enum shape.by_nothing xs)))
 untagged_decided rows xs = variants_decided (map (spread_variant_in rows) xs)
 
 pub internal_decided : (rows : List Row) (tag : Text) (closed : Bool) (xs : List Variant)
     → Decides (all_differ (names_of_variants xs) && (are_plain_variants (map (spread_variant_in rows) xs)
-    && are_tagged tag (map (spread_variant_in rows) xs))) (IsPlainShape (spread_in rows (shape.internal tag closed xs)))
+    && are_tagged tag (map (spread_variant_in rows) xs))) (IsPlainShape (spread_in rows (shape.enum (shape.by_tag tag closed) xs)))
 internal_decided rows tag closed xs =
     let ys = map (spread_variant_in rows) xs in
     let inside = Decides-and (are_plain_variants ys) (are_tagged tag ys) (variants_decided ys) (all_tagged_decided tag ys) in
@@ -118,7 +118,7 @@ internal_decided rows tag closed xs =
 
 pub adjacent_decided : (rows : List Row) (tag content : Text) (closed : Bool) (xs : List Variant)
     → Decides (not (bytes_eq tag content) && (all_differ (names_of_variants xs) && are_plain_variants (map (spread_variant_in rows) xs)))
-    (IsPlainShape (spread_in rows (shape.adjacent tag content closed xs)))
+    (IsPlainShape (spread_in rows (shape.enum (shape.by_tag_and_content tag content closed) xs)))
 adjacent_decided rows tag content closed xs =
     let named = all_differ (names_of_variants xs) && are_plain_variants (map (spread_variant_in rows) xs) in
     let all = Decides-and (not (bytes_eq tag content)) named (differ_decided (bytes_eq tag content)) (external_decided rows xs) in

@@ -10,14 +10,14 @@ use Rattle.serde_json.specs.Data.{Members}
 use Rattle.schemars_schema.specs.Json.{Text}
 use Rattle.schemars_text.specs.OrderedText.{is_listed}
 use Rattle.schemars_shapes.specs.Shape as shape
-use Rattle.schemars_shapes.specs.Shape.{Shape, Field, Fields, Flattened, Payload, Variant, Entry, no_payload, newtype_payload, tuple_payload, struct_payload, payload_names}
+use Rattle.schemars_shapes.specs.Shape.{Shape, Field, Fields, Flattened, Payload, Variant, Entry, no_payload, newtype_payload, tuple_payload, struct_payload, payload_names, tag_beside}
 use Rattle.schemars_shapes.specs.Units.{is_none}
 use Rattle.schemars_types.specs.Rows.{Row, entry_at}
 use Rattle.schemars_types.specs.Effective.{effective, flattened_in, flattened_enums, part_enums, spread_in, spread_fields, enum_at, without_options}
 use Rattle.schemars_types.specs.declared.contract.Contract.{Contract}
-use Rattle.schemars_documents.specs.PlainTable.{IsNoName, AreNoNames, AreOthers, AreApartFrom, AreApart, HasNamesApart, enum_names, enum_names_at, all_payload_names, PayloadHasNamesApart, VariantsHaveNamesApart, ShapeHasNamesApart, IsBare, HasBareUnits, HasVariant, HasNoEnums, VariantsHaveNoEnums, IsPartShape, IsPartEntry, may_miss, IsPartUnder, ArePartsUnder, payload_parts, variant_parts, IsEntryUnder, IsPlainUnder}
+use Rattle.schemars_documents.specs.PlainTable.{IsNoName, AreNoNames, AreOthers, AreApartFrom, AreApart, HasNamesApart, enum_names, enum_names_at, all_payload_names, PayloadHasNamesApart, VariantsHaveNamesApart, ShapeHasNamesApart, IsBare, HasBareUnits, HasVariant, HasNoEnums, VariantsHaveNoEnums, IsPartShape, IsPartEntry, may_miss, IsPartUnder, ArePartsUnder, payload_parts, variant_parts, IsEntryUnder, IsPlainUnder, tag_names}
 use Rattle.schemars_plain.specs.Decided.{as_said, names_said, names_of_variants, spread_variant_in}
-use Rattle.schemars_plain.specs.Under.{none_in, apart_from, are_apart, field_names, payload_field_names, variant_field_names, names_in, names_at, tag_names, fields_apart, payload_apart, variants_apart, shape_apart, is_bare, has_bare_units, has_no_enums, variants_have_no_enums, is_part_enum, is_part_shape, is_part_entry, is_part_under, are_parts_under, payloads_have_parts_under}
+use Rattle.schemars_plain.specs.Under.{none_in, apart_from, are_apart, field_names, payload_field_names, variant_field_names, names_in, names_at, fields_apart, payload_apart, variants_apart, shape_apart, is_bare, has_bare_units, has_no_enums, variants_have_no_enums, is_part_enum, is_part_shape, is_part_entry, is_part_under, are_parts_under, payloads_have_parts_under}
 use Rattle.schemars_plain.proofs.Literals.{always, itself}
 use Rattle.schemars_plain.proofs.Tables.{never, differ_decided, named_decided}
 
@@ -75,8 +75,8 @@ inside_said rows (x ∷ xs) =
     ∙ ap (λ ks. payload_names (spread_variant_in rows x).payload ++ ks) (inside_said rows xs)
 
 shape_names : (rows : List Row) (s : Shape) → names_in rows s ≡ enum_names (spread_in rows s)
-shape_names rows (shape.external xs) = variants_said rows xs
-shape_names rows (shape.internal tag closed xs) = ap (λ ks. tag ∷ ks) (inside_said rows xs)
+shape_names rows (shape.enum shape.by_name xs) = variants_said rows xs
+shape_names rows (shape.enum (shape.by_tag tag closed) xs) = ap (λ ks. tag ∷ ks) (inside_said rows xs)
 shape_names rows _ = refl
 
 enum_said : (rows : List Row) (n : ℕ) → names_at rows n ≡ enum_names_at rows n
@@ -122,10 +122,7 @@ variants_decided rows tag (x ∷ xs) = Decides-and (payload_apart rows tag x.pay
 pub names_decided : (rows : List Row) (s : Shape)
     → Decides (shape_apart rows s) (ShapeHasNamesApart (enum_names_at rows) (spread_in rows s))
 names_decided rows (shape.struct x) = fields_decided rows None x
-names_decided rows (shape.external xs) = variants_decided rows None xs
-names_decided rows (shape.untagged xs) = variants_decided rows None xs
-names_decided rows (shape.internal tag closed xs) = variants_decided rows (Some tag) xs
-names_decided rows (shape.adjacent tag content closed xs) = variants_decided rows None xs
+names_decided rows (shape.enum tagging xs) = variants_decided rows (tag_beside tagging) xs
 names_decided rows _ = always
 
 -- ---- flattened rows
@@ -179,8 +176,8 @@ part_shape_decided : (rows : List Row) (optional : Bool) (s : Shape) → Decides
 part_shape_decided rows optional (shape.struct x) =
     Decides-and (not x.closed) (not optional || has_no_enums rows x.flatten) (differ_decided x.closed)
     (no_enums_if optional (has_no_enums rows x.flatten) (empty_decided (flattened_enums (part_enums rows) x.flatten)))
-part_shape_decided rows optional (shape.external xs) = part_enum_decided optional xs
-part_shape_decided rows optional (shape.internal tag closed xs) =
+part_shape_decided rows optional (shape.enum shape.by_name xs) = part_enum_decided optional xs
+part_shape_decided rows optional (shape.enum (shape.by_tag tag closed) xs) =
     let all = Decides-and (is_part_enum optional xs) (variants_have_no_enums rows xs) (part_enum_decided optional xs) (enums_decided rows xs) in
     (λ t. let p = all.0 t in (p.0.0, p.0.1, p.0.2, p.1), λ p. all.1 ((p.0, p.1, p.2), p.3))
 part_shape_decided rows optional _ = never

@@ -4,12 +4,12 @@ use Rattle.std.specs.Option.{option_map_or}
 use Rattle.schemars_schema.specs.Json.{Text}
 use Rattle.schemars_text.specs.OrderedText.{is_listed}
 use Rattle.schemars_shapes.specs.Shape as shape
-use Rattle.schemars_shapes.specs.Shape.{Shape, Fields, Flattened, Payload, Variant, Entry, no_payload, newtype_payload, tuple_payload, struct_payload}
+use Rattle.schemars_shapes.specs.Shape.{Shape, Fields, Flattened, Payload, Variant, Entry, no_payload, newtype_payload, tuple_payload, struct_payload, tag_beside}
 use Rattle.schemars_shapes.specs.Units.{is_none}
 use Rattle.schemars_types.specs.Rows.{Row, entry_at}
 use Rattle.schemars_types.specs.Effective.{effective, flattened_in, flattened_enums, part_enums, without_options}
 use Rattle.schemars_types.specs.declared.contract.Contract.{Contract}
-use Rattle.schemars_documents.specs.PlainTable.{payload_parts, may_miss}
+use Rattle.schemars_documents.specs.PlainTable.{payload_parts, may_miss, tag_names}
 use Rattle.schemars_plain.specs.Decided.{as_said, names_said, names_of_variants}
 
 -- ---- names
@@ -44,16 +44,12 @@ variant_field_names rows (x ∷ xs) = payload_field_names rows x.payload ++ vari
 
 -- the names that an enum puts into a map
 abbrev pub names_in : List Row → Shape → List Text
-names_in rows (shape.external xs) = names_of_variants xs
-names_in rows (shape.internal tag closed xs) = tag ∷ variant_field_names rows xs
+names_in rows (shape.enum shape.by_name xs) = names_of_variants xs
+names_in rows (shape.enum (shape.by_tag tag closed) xs) = tag ∷ variant_field_names rows xs
 names_in rows _ = []
 
 abbrev pub names_at : List Row → ℕ → List Text
 names_at rows n = option_map_or (λ e. names_in rows e.shape) (entry_at rows n) []
-
-abbrev pub tag_names : Option Text → List (List Text)
-tag_names None = []
-tag_names (Some tag) = (tag ∷ []) ∷ []
 
 -- the names of the fields, of the tag beside them, and of each flattened enum are all different
 abbrev pub fields_apart : List Row → Option Text → Fields → Bool
@@ -72,10 +68,7 @@ variants_apart rows tag (x ∷ xs) = payload_apart rows tag x.payload && variant
 
 abbrev pub shape_apart : List Row → Shape → Bool
 shape_apart rows (shape.struct x) = fields_apart rows None x
-shape_apart rows (shape.external xs) = variants_apart rows None xs
-shape_apart rows (shape.untagged xs) = variants_apart rows None xs
-shape_apart rows (shape.internal tag closed xs) = variants_apart rows (Some tag) xs
-shape_apart rows (shape.adjacent tag content closed xs) = variants_apart rows None xs
+shape_apart rows (shape.enum tagging xs) = variants_apart rows (tag_beside tagging) xs
 shape_apart rows _ = true
 
 -- ---- flattened rows
@@ -105,8 +98,8 @@ is_part_enum optional xs = not optional && (not (length xs == 0) && has_bare_uni
 
 abbrev pub is_part_shape : List Row → Bool → Shape → Bool
 is_part_shape rows optional (shape.struct x) = not x.closed && (not optional || has_no_enums rows x.flatten)
-is_part_shape rows optional (shape.external xs) = is_part_enum optional xs
-is_part_shape rows optional (shape.internal tag closed xs) = is_part_enum optional xs && variants_have_no_enums rows xs
+is_part_shape rows optional (shape.enum shape.by_name xs) = is_part_enum optional xs
+is_part_shape rows optional (shape.enum (shape.by_tag tag closed) xs) = is_part_enum optional xs && variants_have_no_enums rows xs
 is_part_shape rows optional _ = false
 
 abbrev pub is_part_entry : List Row → Bool → Option Entry → Bool

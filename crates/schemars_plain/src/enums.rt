@@ -2,7 +2,8 @@
 ghost use Rattle.std.specs.Prelude.{◌≡◌, ◌++◌, ◌∷◌, map, IfOk, OnOk, option_map};
 ghost use Rattle.schemars_shapes.specs.Shape.{fields_of, flattened_of, shape_of, internal_payload_of, internal_variant_of, internal_view};
 ghost use Rattle.schemars_types.specs.Effective.{flattened_enums, part_enums, shape_enums, enums_within, without_options};
-ghost use Rattle.schemars_plain.specs.Under.{field_names, payload_field_names, variant_field_names, names_in, names_at, tag_names, fields_apart};
+ghost use Rattle.schemars_documents.specs.PlainTable.{tag_names};
+ghost use Rattle.schemars_plain.specs.Under.{field_names, payload_field_names, variant_field_names, names_in, names_at, fields_apart};
 
 use crate::fields::field_names;
 use crate::names::are_apart;

@@ -1,7 +1,7 @@
 -- Entries without decimals in their notes and literals: numbers that are no 64-bit whole numbers.
 use Rattle.std.specs.Prelude.{List, [], ◌∷◌, Bool, false, ◌||◌}
 use Rattle.serde_json.specs.Written.{has_float, members_have_float}
-use Rattle.schemars_shapes.specs.Shape.{Shape, Field, Entry, Payload, Variant, struct, external, untagged, internal, adjacent, literal, struct_payload}
+use Rattle.schemars_shapes.specs.Shape.{Shape, Field, Entry, Payload, Variant, struct, enum, literal, struct_payload}
 
 abbrev pub fields_have_float : List Field → Bool
 fields_have_float [] = false
@@ -17,10 +17,7 @@ variants_have_float (x ∷ xs) = (members_have_float x.notes || payload_has_floa
 
 abbrev pub shape_has_float : Shape → Bool
 shape_has_float (struct x) = fields_have_float x.list
-shape_has_float (external xs) = variants_have_float xs
-shape_has_float (untagged xs) = variants_have_float xs
-shape_has_float (internal tag closed xs) = variants_have_float xs
-shape_has_float (adjacent tag content closed xs) = variants_have_float xs
+shape_has_float (enum tagging xs) = variants_have_float xs
 shape_has_float (literal d) = has_float d
 shape_has_float _ = false
 

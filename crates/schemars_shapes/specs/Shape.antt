@@ -55,10 +55,17 @@ pub record Variant : Type 0 where
   pub payload : Payload
   pub notes : Members
 
+-- How a variant's name is written: with what the variant has under the name, as the one key of a map; not at all; under a tag among
+-- the members of the variant's own map; or under a tag, with what the variant has under a key of its own. A tag comes with whether
+-- other keys are excluded: under `by_tag` of units alone.
+pub data Tagging : Type 0 where
+  by_name : Tagging
+  by_nothing : Tagging
+  by_tag : Text → Bool → Tagging
+  by_tag_and_content : Text → Text → Bool → Tagging
+
 -- Numbers are those of rows. An array has just so many items, and `up_to` has so many at most. A result has the row of `Ok`
--- first, `either` that of `Left`, and a map that of its keys. The variants of an enum are tagged by their names, or by nothing,
--- or by a member of their own maps; there a unit may be closed to other keys. Or the name is under a first key and what the variant
--- has under a second, and the map may be closed to other keys. A literal is given as a schema.
+-- first, `either` that of `Left`, and a map that of its keys. A literal is given as a schema.
 pub data Shape : Type 0 where
   null : Shape
   bool : Shape
@@ -84,10 +91,7 @@ pub data Shape : Type 0 where
   range : ℕ → Shape
   either : ℕ → ℕ → Shape
   map_from : ℕ → ℕ → Shape
-  external : List Variant → Shape
-  untagged : List Variant → Shape
-  internal : Text → Bool → List Variant → Shape
-  adjacent : Text → Text → Bool → List Variant → Shape
+  enum : Tagging → List Variant → Shape
   literal : Data → Shape
 
 pub record Entry : Type 0 where
@@ -158,11 +162,11 @@ shape_of (src.Bound n) = bound n
 shape_of (src.Range n) = range n
 shape_of (src.Either left right) = either left right
 shape_of (src.Map key value) = map_from key value
-shape_of (src.External variants) = external (map variant_of variants.items)
-shape_of (src.Untagged variants) = untagged (map variant_of variants.items)
-shape_of (src.Internal x) = internal (internal_view x).0 (internal_view x).1 (internal_view x).2
+shape_of (src.External variants) = enum by_name (map variant_of variants.items)
+shape_of (src.Untagged variants) = enum by_nothing (map variant_of variants.items)
+shape_of (src.Internal x) = enum (by_tag (internal_view x).0 (internal_view x).1) (internal_view x).2
 shape_of (src.Adjacent x) =
-    adjacent (adjacent_view x).0 (adjacent_view x).1 (adjacent_view x).2 (adjacent_view x).3
+    enum (by_tag_and_content (adjacent_view x).0 (adjacent_view x).1 (adjacent_view x).2) (adjacent_view x).3
 shape_of (src.Literal schema) = literal schema
 
 abbrev pub entry_of : src-entry.TypeEntry → Entry
@@ -238,40 +242,45 @@ numbers_of (bound n) = n ∷ []
 numbers_of (range n) = n ∷ []
 numbers_of (either left right) = left ∷ right ∷ []
 numbers_of (map_from key value) = key ∷ value ∷ []
-numbers_of (external xs) = variant_numbers xs
-numbers_of (untagged xs) = variant_numbers xs
-numbers_of (internal tag closed xs) = variant_numbers xs
-numbers_of (adjacent tag content closed xs) = variant_numbers xs
+numbers_of (enum tagging xs) = variant_numbers xs
 numbers_of _ = []
+
+-- such rows of a variant, by tagging: where its map has more than itself, a payload's value is not the variant's
+abbrev pub payload_same_by : Tagging → Payload → List ℕ
+payload_same_by by_name = payload_flattened
+payload_same_by by_nothing = payload_same
+payload_same_by (by_tag tag closed) = payload_same
+payload_same_by (by_tag_and_content tag content closed) = payload_flattened
 
 -- the rows whose values, or whose members, a shape has itself
 abbrev pub same_value_numbers : Shape → List ℕ
 same_value_numbers (option n) = n ∷ []
 same_value_numbers (newtype n) = n ∷ []
 same_value_numbers (struct x) = flattened_rows x
-same_value_numbers (external xs) = of_variants payload_flattened xs
-same_value_numbers (untagged xs) = of_variants payload_same xs
-same_value_numbers (internal tag closed xs) = of_variants payload_same xs
-same_value_numbers (adjacent tag content closed xs) = of_variants payload_flattened xs
+same_value_numbers (enum tagging xs) = of_variants (payload_same_by tagging) xs
 same_value_numbers _ = []
 
 -- the rows that are flattened into a shape's maps
 abbrev pub flattened_numbers : Shape → List ℕ
 flattened_numbers (struct x) = flattened_rows x
-flattened_numbers (external xs) = of_variants payload_flattened xs
-flattened_numbers (untagged xs) = of_variants payload_flattened xs
-flattened_numbers (internal tag closed xs) = of_variants payload_flattened xs
-flattened_numbers (adjacent tag content closed xs) = of_variants payload_flattened xs
+flattened_numbers (enum tagging xs) = of_variants payload_flattened xs
 flattened_numbers _ = []
+
+-- the rows whose members are beside the name of a variant
+abbrev pub payload_beside : Tagging → Payload → List ℕ
+payload_beside (by_tag tag closed) = payload_same
+payload_beside _ = payload_flattened
+
+-- the tag that stands among the members of a variant's own map
+abbrev pub tag_beside : Tagging → Option Text
+tag_beside (by_tag tag closed) = Some tag
+tag_beside _ = None
 
 -- the rows that a shape needs at once, in place or not: the row of a map's keys, and the rows whose members are in its own maps
 abbrev pub asked_numbers : Shape → List ℕ
 asked_numbers (map_from key value) = key ∷ []
 asked_numbers (struct x) = flattened_rows x
-asked_numbers (external xs) = of_variants payload_flattened xs
-asked_numbers (untagged xs) = of_variants payload_flattened xs
-asked_numbers (internal tag closed xs) = of_variants payload_same xs
-asked_numbers (adjacent tag content closed xs) = of_variants payload_flattened xs
+asked_numbers (enum tagging xs) = of_variants (payload_beside tagging) xs
 asked_numbers _ = []
 
 -- the row in an Option
@@ -287,11 +296,13 @@ payload_names _ = []
 abbrev pub variant_names : List Variant → List (List Text)
 variant_names xs = map (λ x. x.name) xs ∷ map (λ x. payload_names x.payload) xs
 
--- the lists of names in a shape: the keys of name and content, those of its fields, or of its variants and then of the fields of each
+-- the keys of name and content, where they stand side by side
+abbrev pub tagging_keys : Tagging → List (List Text)
+tagging_keys (by_tag_and_content tag content closed) = (tag ∷ content ∷ []) ∷ []
+tagging_keys _ = []
+
+-- the lists of names in a shape: those of its fields, or of its keys and variants and then of the fields of each
 abbrev pub names_of : Shape → List (List Text)
 names_of (struct x) = map (λ f. f.name) x.list ∷ []
-names_of (external xs) = variant_names xs
-names_of (untagged xs) = variant_names xs
-names_of (internal tag closed xs) = variant_names xs
-names_of (adjacent tag content closed xs) = (tag ∷ content ∷ []) ∷ variant_names xs
+names_of (enum tagging xs) = tagging_keys tagging ++ variant_names xs
 names_of _ = []

@@ -126,10 +126,10 @@ pub(crate) fn variants_equal(a: &[Variant], b: &[Variant]) -> bool
 
 impl Adjacent {
     pub(crate) fn is_equal(&self, other: &Adjacent) -> bool
-        ensures { result ≡ (bytes_eq (adjacent_view self.now).0 (adjacent_view other.now).0
+        ensures { result ≡ ((bytes_eq (adjacent_view self.now).0 (adjacent_view other.now).0
             && (bytes_eq (adjacent_view self.now).1 (adjacent_view other.now).1
-            && (bool_eq (adjacent_view self.now).2 (adjacent_view other.now).2
-            && variants_eq (adjacent_view self.now).3 (adjacent_view other.now).3))) }
+            && bool_eq (adjacent_view self.now).2 (adjacent_view other.now).2))
+            && variants_eq (adjacent_view self.now).3 (adjacent_view other.now).3) }
     {
         self.tag == other.tag
             && self.content == other.content
@@ -167,9 +167,9 @@ impl InternalVariant {
 
 impl Internal {
     pub(crate) fn is_equal(&self, other: &Internal) -> bool
-        ensures { result ≡ (bytes_eq (internal_view self.now).0 (internal_view other.now).0
-            && (bool_eq (internal_view self.now).1 (internal_view other.now).1
-            && variants_eq (internal_view self.now).2 (internal_view other.now).2)) }
+        ensures { result ≡ ((bytes_eq (internal_view self.now).0 (internal_view other.now).0
+            && bool_eq (internal_view self.now).1 (internal_view other.now).1)
+            && variants_eq (internal_view self.now).2 (internal_view other.now).2) }
     {
         self.tag == other.tag
             && self.closed == other.closed

@@ -5,7 +5,7 @@ use Rattle.std.specs.Option.{option_map_or}
 use Rattle.std.proofs.lemmas.List.Elements.{Contains-append_left, Contains-append_right, Contains-append_cases}
 use Rattle.schemars_shapes.specs.declared.variant.Variant as src-variant
 use Rattle.schemars_shapes.specs.Shape as shape
-use Rattle.schemars_shapes.specs.Shape.{Shape, Entry, Variant, Payload, no_payload, newtype_payload, tuple_payload, struct_payload, flattened_rows, payload_numbers, payload_flattened, payload_same, of_variants, variant_numbers, numbers_of, same_value_numbers, flattened_numbers, asked_numbers, option_of, variant_of, payload_of}
+use Rattle.schemars_shapes.specs.Shape.{Shape, Entry, Tagging, by_name, by_nothing, by_tag, by_tag_and_content, Variant, Payload, no_payload, newtype_payload, tuple_payload, struct_payload, flattened_rows, payload_numbers, payload_flattened, payload_same, payload_same_by, payload_beside, of_variants, variant_numbers, numbers_of, same_value_numbers, flattened_numbers, asked_numbers, option_of, variant_of, payload_of}
 use Rattle.schemars_types.specs.Rows.{Row, entry_at}
 use Rattle.schemars_types.specs.Edges.{RefersWithin, SameValueEdge, numbers_at, same_value_numbers_at, option_at}
 use Rattle.schemars_types.proofs.GraphLemmas.{nothing_among}
@@ -22,40 +22,43 @@ flattened_of_payload (newtype_payload n) m c = absurd (nothing_among m c)
 flattened_of_payload (tuple_payload ns) m c = absurd (nothing_among m c)
 flattened_of_payload (struct_payload x) m c = Contains-append_right (map (λ f. f.ty) x.list) (flattened_rows x) m c
 
--- where each payload refers to these rows, variants do
-of_variants_among : (f : Payload → List ℕ) → ((p : Payload) (m : ℕ) → Contains (f p) m → Contains (payload_numbers p) m)
-    → (xs : List Variant) (m : ℕ) → Contains (of_variants f xs) m → Contains (variant_numbers xs) m
-of_variants_among f among [] m c = c
-of_variants_among f among (x ∷ xs) m c = elim (Contains-append_cases (f x.payload) (of_variants f xs) m c) [
-  | inl here ↦ Contains-append_left (payload_numbers x.payload) (variant_numbers xs) m (among x.payload m here)
-  | inr later ↦ Contains-append_right (payload_numbers x.payload) (variant_numbers xs) m (of_variants_among f among xs m later)
+-- where each payload has more rows of the second kind, variants have
+pub of_variants-more : (f g : Payload → List ℕ) → ((p : Payload) (m : ℕ) → Contains (f p) m → Contains (g p) m)
+    → (xs : List Variant) (m : ℕ) → Contains (of_variants f xs) m → Contains (of_variants g xs) m
+of_variants-more f g more [] m c = c
+of_variants-more f g more (x ∷ xs) m c = elim (Contains-append_cases (f x.payload) (of_variants f xs) m c) [
+  | inl here ↦ Contains-append_left (g x.payload) (of_variants g xs) m (more x.payload m here)
+  | inr later ↦ Contains-append_right (g x.payload) (of_variants g xs) m (of_variants-more f g more xs m later)
 ]
+
+same_by : (t : Tagging) (p : Payload) (m : ℕ) → Contains (payload_same_by t p) m → Contains (payload_numbers p) m
+same_by by_name = flattened_of_payload
+same_by by_nothing = same_of_payload
+same_by (by_tag tag closed) = same_of_payload
+same_by (by_tag_and_content tag content closed) = flattened_of_payload
+
+beside_by : (t : Tagging) (p : Payload) (m : ℕ) → Contains (payload_beside t p) m → Contains (payload_numbers p) m
+beside_by (by_tag tag closed) = same_of_payload
+beside_by by_name = flattened_of_payload
+beside_by by_nothing = flattened_of_payload
+beside_by (by_tag_and_content tag content closed) = flattened_of_payload
 
 same_number : (s : Shape) (m : ℕ) → Contains (same_value_numbers s) m → Contains (numbers_of s) m
 same_number (shape.option i) m c = c
 same_number (shape.newtype i) m c = c
 same_number (shape.struct x) m c = Contains-append_right (map (λ f. f.ty) x.list) (flattened_rows x) m c
-same_number (shape.external xs) m c = of_variants_among payload_flattened flattened_of_payload xs m c
-same_number (shape.internal tag closed xs) m c = of_variants_among payload_same same_of_payload xs m c
-same_number (shape.adjacent tag content closed xs) m c = of_variants_among payload_flattened flattened_of_payload xs m c
-same_number (shape.untagged xs) m c = of_variants_among payload_same same_of_payload xs m c
+same_number (shape.enum tagging xs) m c = of_variants-more (payload_same_by tagging) payload_numbers (same_by tagging) xs m c
 same_number _ m c = absurd (nothing_among m c)
 
 pub flattened_number : (s : Shape) (m : ℕ) → Contains (flattened_numbers s) m → Contains (numbers_of s) m
 flattened_number (shape.struct x) m c = Contains-append_right (map (λ f. f.ty) x.list) (flattened_rows x) m c
-flattened_number (shape.external xs) m c = of_variants_among payload_flattened flattened_of_payload xs m c
-flattened_number (shape.internal tag closed xs) m c = of_variants_among payload_flattened flattened_of_payload xs m c
-flattened_number (shape.adjacent tag content closed xs) m c = of_variants_among payload_flattened flattened_of_payload xs m c
-flattened_number (shape.untagged xs) m c = of_variants_among payload_flattened flattened_of_payload xs m c
+flattened_number (shape.enum tagging xs) m c = of_variants-more payload_flattened payload_numbers flattened_of_payload xs m c
 flattened_number _ m c = absurd (nothing_among m c)
 
 pub asked_number : (s : Shape) (m : ℕ) → Contains (asked_numbers s) m → Contains (numbers_of s) m
 asked_number (shape.map_from key value) m c = Contains-append_left (key ∷ []) (value ∷ []) m c
 asked_number (shape.struct x) m c = Contains-append_right (map (λ f. f.ty) x.list) (flattened_rows x) m c
-asked_number (shape.external xs) m c = of_variants_among payload_flattened flattened_of_payload xs m c
-asked_number (shape.internal tag closed xs) m c = of_variants_among payload_same same_of_payload xs m c
-asked_number (shape.adjacent tag content closed xs) m c = of_variants_among payload_flattened flattened_of_payload xs m c
-asked_number (shape.untagged xs) m c = of_variants_among payload_flattened flattened_of_payload xs m c
+asked_number (shape.enum tagging xs) m c = of_variants-more (payload_beside tagging) payload_numbers (beside_by tagging) xs m c
 asked_number _ m c = absurd (nothing_among m c)
 
 option_number : (s : Shape) (m : ℕ) → option_of s ≡ Some m → Contains (same_value_numbers s) m

@@ -4,7 +4,7 @@ use Rattle.std.specs.Prelude.{codes}
 use Prim.Native.String.{String}
 use Rattle.serde_json.specs.Data.{Data, boolean, number, unsigned, string, array, Items, no_items, item, Members, no_members, member}
 use Rattle.schemars_shapes.specs.declared.shape.IntKind.TheVariants.{U8, I8, I32, U64}
-use Rattle.schemars_shapes.specs.Shape.{Shape, int, non_zero, text, any, newtype, external, untagged, literal, in_place, Variant, Payload, no_payload, newtype_payload}
+use Rattle.schemars_shapes.specs.Shape.{Shape, int, non_zero, text, any, newtype, enum, by_name, by_nothing, literal, in_place, Variant, Payload, no_payload, newtype_payload}
 use Rattle.schemars_schema.specs.Json.{Text}
 use Rattle.schemars_schema.specs.SchemaData.{object_of}
 use Rattle.schemars_schema.specs.Acceptance.{Patterns}
@@ -31,8 +31,8 @@ row s = record { id = codes "t"; name = codes "t"; entry = Some (in_place s) }
 -- the keys of a type of this shape, below which stand the rows 0 to 8
 table : Shape → List Row
 table s =
-    row (int U8) ∷ row (int I8) ∷ row any ∷ row (int I32) ∷ row (newtype 3) ∷ row (external (unit "A" ∷ unit "B" ∷ []))
-    ∷ row (untagged (of_row 5 ∷ of_row 0 ∷ [])) ∷ row (newtype 2) ∷ row (untagged (of_row 5 ∷ of_row 7 ∷ [])) ∷ row s ∷ []
+    row (int U8) ∷ row (int I8) ∷ row any ∷ row (int I32) ∷ row (newtype 3) ∷ row (enum by_name (unit "A" ∷ unit "B" ∷ []))
+    ∷ row (enum by_nothing (of_row 5 ∷ of_row 0 ∷ [])) ∷ row (newtype 2) ∷ row (enum by_nothing (of_row 5 ∷ of_row 7 ∷ [])) ∷ row s ∷ []
 
 options : Shape → KeyOptions
 options s = key_options (table s) 9
@@ -49,36 +49,36 @@ texts : options text ≡ any_text
 unfolding options table row options_within
 texts = refl
 
-names : options (external (unit "A" ∷ unit "B" ∷ [])) ≡ keys false (codes "A" ∷ codes "B" ∷ []) None []
+names : options (enum by_name (unit "A" ∷ unit "B" ∷ [])) ≡ keys false (codes "A" ∷ codes "B" ∷ []) None []
 unfolding options table row options_within unit variant
 names = refl
 
-noted_names : options (external (unit "A" ∷ documented "B" ∷ [])) ≡ any_text
+noted_names : options (enum by_name (unit "A" ∷ documented "B" ∷ [])) ≡ any_text
 unfolding options table row options_within unit documented variant
 noted_names = refl
 
-no_names : options (external []) ≡ any_text
+no_names : options (enum by_name []) ≡ any_text
 unfolding options table row options_within
 no_names = refl
 
-both_integers : options (untagged (of_row 0 ∷ of_row 1 ∷ [])) ≡ keys false [] (Some Signed) []
+both_integers : options (enum by_nothing (of_row 0 ∷ of_row 1 ∷ [])) ≡ keys false [] (Some Signed) []
 unfolding options table row options_within of_row variant
 both_integers = refl
 
-one_of_any : options (untagged (of_row 0 ∷ of_row 1 ∷ of_row 2 ∷ [])) ≡ any_text
+one_of_any : options (enum by_nothing (of_row 0 ∷ of_row 1 ∷ of_row 2 ∷ [])) ≡ any_text
 unfolding options table row options_within of_row variant
 one_of_any = refl
 
-through_a_newtype : options (untagged (of_row 0 ∷ of_row 7 ∷ [])) ≡ any_text
+through_a_newtype : options (enum by_nothing (of_row 0 ∷ of_row 7 ∷ [])) ≡ any_text
 unfolding options table row options_within of_row variant
 through_a_newtype = refl
 
-one_of_none : options (untagged (of_row 0 ∷ unit "A" ∷ [])) ≡ keys true [] (Some Unsigned) []
+one_of_none : options (enum by_nothing (of_row 0 ∷ unit "A" ∷ [])) ≡ keys true [] (Some Unsigned) []
 unfolding options table row options_within of_row unit variant
 one_of_none = refl
 
 -- any text inside, which leaves nothing to the others there, leaves what stands beside the whole
-any_inside : options (untagged (of_row 8 ∷ of_row 1 ∷ [])) ≡ keys true [] (Some Signed) []
+any_inside : options (enum by_nothing (of_row 8 ∷ of_row 1 ∷ [])) ≡ keys true [] (Some Signed) []
 unfolding options table row options_within of_row unit variant
 any_inside = refl
 
@@ -132,7 +132,7 @@ unfolding options table row options_within
 other_type = refl
 
 -- the names of row 5 stand once, and the numbers of row 1 cover those of row 0
-nested : options (untagged (of_row 6 ∷ of_row 5 ∷ of_row 1 ∷ []))
+nested : options (enum by_nothing (of_row 6 ∷ of_row 5 ∷ of_row 1 ∷ []))
     ≡ keys false (codes "A" ∷ codes "B" ∷ []) (Some Signed) []
 unfolding options table row options_within of_row unit variant
 nested = refl
@@ -142,7 +142,7 @@ minus_one : Patterns
 minus_one = (codes "^-?\\d+$", codes "-1") ∷ []
 
 allows : Text → Bool
-allows key = is_key_allowed minus_one (options (untagged (of_row 5 ∷ of_row 1 ∷ []))) key
+allows key = is_key_allowed minus_one (options (enum by_nothing (of_row 5 ∷ of_row 1 ∷ []))) key
 
 allowed_keys : (allows (codes "B") ≡ true) × (allows (codes "-1") ≡ true) × (allows (codes "C") ≡ false)
 unfolding allows minus_one options table row options_within of_row unit variant

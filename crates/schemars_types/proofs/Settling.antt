@@ -32,8 +32,8 @@ members_alike f g (x ∷ xs) h =
 shape_alike : (f g : ℕ → Option KeyOptions) (s : Shape) → ((m : ℕ) → Contains (same_value_numbers s) m → f m ≡ g m)
     → shape_options f s ≡ shape_options g s
 shape_alike f g (shape.newtype i) h = h i (0, omega arith, refl)
-shape_alike f g (shape.untagged []) h = refl
-shape_alike f g (shape.untagged (x ∷ xs)) h = ap (λ o. Some (or_any_text o)) (members_alike f g (x ∷ xs) h)
+shape_alike f g (shape.enum shape.by_nothing []) h = refl
+shape_alike f g (shape.enum shape.by_nothing (x ∷ xs)) h = ap (λ o. Some (or_any_text o)) (members_alike f g (x ∷ xs) h)
 shape_alike f g _ h = refl
 
 -- ---- more steps

@@ -2,7 +2,7 @@
 -- This file is trusted: the theorem is stated in its words.
 use Rattle.std.specs.Prelude.{ℕ, zero, suc, List, [], ◌∷◌, ◌++◌, map, length, true, Some, None, is_some, ◌&&◌, if◌then◌else◌}
 use Rattle.std.specs.Option.{option_map_or}
-use Rattle.schemars_shapes.specs.Shape.{Required, Field, Flattened, Fields, Shape, struct, external, untagged, internal, adjacent, Payload, Variant, no_payload, newtype_payload, tuple_payload, struct_payload}
+use Rattle.schemars_shapes.specs.Shape.{Required, Field, Flattened, Fields, Shape, struct, enum, by_name, by_tag, Payload, Variant, no_payload, newtype_payload, tuple_payload, struct_payload}
 use Rattle.schemars_types.specs.Rows.{Row, entry_at}
 use Rattle.schemars_types.specs.Edges.{option_at}
 
@@ -69,8 +69,8 @@ flattened_enums part (p ∷ ps) = part p ++ flattened_enums part ps
 -- the enums among the members of a struct; an enum that is distinguished by its names or by a tag is one itself
 abbrev pub shape_enums : (Flattened → List ℕ) → ℕ → Shape → List ℕ
 shape_enums part n (struct x) = flattened_enums part x.flatten
-shape_enums part n (external xs) = n ∷ []
-shape_enums part n (internal tag closed xs) = n ∷ []
+shape_enums part n (enum by_name xs) = n ∷ []
+shape_enums part n (enum (by_tag tag closed) xs) = n ∷ []
 shape_enums part n _ = []
 
 -- row n is asked, and others at most `steps` deep
@@ -106,10 +106,7 @@ spread_variant part enums x = record { name = x.name; payload = spread_payload p
 
 abbrev pub spread : (Flattened → List Field) → (Flattened → List ℕ) → Shape → Shape
 spread part enums (struct x) = struct (spread_fields part enums x)
-spread part enums (external xs) = external (map (spread_variant part enums) xs)
-spread part enums (untagged xs) = untagged (map (spread_variant part enums) xs)
-spread part enums (internal tag closed xs) = internal tag closed (map (spread_variant part enums) xs)
-spread part enums (adjacent tag content closed xs) = adjacent tag content closed (map (spread_variant part enums) xs)
+spread part enums (enum tagging xs) = enum tagging (map (spread_variant part enums) xs)
 spread part enums s = s
 
 -- in a table

@@ -11,7 +11,7 @@ use Rattle.schemars_schema.specs.SchemaData.{is_schema}
 use Rattle.schemars_schema.specs.Edits.{without}
 use Rattle.schemars_schema.specs.Acceptance.{Patterns, is_null, whole_number, code_points}
 use Rattle.schemars_schema.specs.Literal.{has_literal}
-use Rattle.schemars_shapes.specs.Shape.{Required, Field, Flattened, Shape, null, bool, int, non_zero, number, text, char, formatted, any, bytes, schema_itself, option, seq, set, array as array_shape, up_to, tuple, struct, newtype, result, bound, range, either, map_from, external, untagged, internal, adjacent, literal, needed, Payload, Variant, no_payload, newtype_payload, tuple_payload, struct_payload}
+use Rattle.schemars_shapes.specs.Shape.{Required, Field, Flattened, Tagging, Shape, null, bool, int, non_zero, number, text, char, formatted, any, bytes, schema_itself, option, seq, set, array as array_shape, up_to, tuple, struct, newtype, result, bound, range, either, map_from, enum, by_name, by_nothing, by_tag, by_tag_and_content, literal, needed, Payload, Variant, no_payload, newtype_payload, tuple_payload, struct_payload}
 use Rattle.schemars_types.specs.KeyOptions.{KeyOptions, is_key_allowed, key_options}
 use Rattle.schemars_types.specs.Rows.{Row, entry_at}
 use Rattle.schemars_types.specs.Effective.{spread_in}
@@ -141,8 +141,8 @@ abbrev pub is_map_of : Text → (Data → Bool) → Data → Bool
 is_map_of k p v = holds (as_object v) (λ ms. is_some (get_member k ms) && every_member (λ l w. bytes_eq k l && p w) ms)
 
 -- a unit is its name, and another variant a map with its name as key
-abbrev pub has_variant : Contract → (ℕ → Data → Bool) → (ℕ → Data → List Choice) → Data → Variant → Bool
-has_variant contract part choices v x = elim x.payload [
+abbrev pub has_external : Contract → (ℕ → Data → Bool) → (ℕ → Data → List Choice) → Data → Variant → Bool
+has_external contract part choices v x = elim x.payload [
   | no_payload ↦ is_text x.name v
   | newtype_payload n ↦ is_map_of x.name (part n) v
   | tuple_payload ns ↦ is_map_of x.name (has_payload contract part choices (tuple_payload ns)) v
@@ -197,6 +197,13 @@ has_adjacent contract part choices tag content closed v x = elim x.payload [
   | struct_payload y ↦ has_beside tag x.name content (has_payload contract part choices (struct_payload y)) closed v
 ]
 
+-- a variant, by how its name is written; without a name it is its payload
+abbrev pub has_variant : Contract → (ℕ → Data → Bool) → (ℕ → Data → List Choice) → Tagging → Data → Variant → Bool
+has_variant contract part choices by_name = has_external contract part choices
+has_variant contract part choices by_nothing = λ v x. has_payload contract part choices x.payload v
+has_variant contract part choices (by_tag tag closed) = has_internal contract part choices tag closed
+has_variant contract part choices (by_tag_and_content tag content closed) = has_adjacent contract part choices tag content closed
+
 -- ---- the variants of a flattened enum
 
 -- a map with this member, whose value passes
@@ -226,8 +233,8 @@ internal_choice contract part tag v x = record {
 }
 
 abbrev pub shape_choices : Contract → (ℕ → Data → Bool) → (ℕ → Data → List Choice) → Shape → Data → List Choice
-shape_choices contract part choices (external xs) v = map (external_choice contract part choices v) xs
-shape_choices contract part choices (internal tag closed xs) v = map (internal_choice contract part tag v) xs
+shape_choices contract part choices (enum by_name xs) v = map (external_choice contract part choices v) xs
+shape_choices contract part choices (enum (by_tag tag closed) xs) v = map (internal_choice contract part tag v) xs
 shape_choices contract part choices _ v = []
 
 -- ---- by shape
@@ -272,11 +279,7 @@ has_shape contract patterns keys choices part (either l r) v = exactly_one
     (has_fields contract part [] (needed (codes "Left") l ∷ []) true v ∷ has_fields contract part [] (needed (codes "Right") r ∷ []) true v
     ∷ [])
 has_shape contract patterns keys choices part (map_from key value) v = has_keys patterns (keys key) (part value) v
-has_shape contract patterns keys choices part (external xs) v = list_any (has_variant contract part choices v) xs
-has_shape contract patterns keys choices part (untagged xs) v = list_any (λ x. has_payload contract part choices x.payload v) xs
-has_shape contract patterns keys choices part (internal tag closed xs) v = list_any (has_internal contract part choices tag closed v) xs
-has_shape contract patterns keys choices part (adjacent tag content closed xs) v =
-    list_any (has_adjacent contract part choices tag content closed v) xs
+has_shape contract patterns keys choices part (enum tagging xs) v = list_any (has_variant contract part choices tagging v) xs
 has_shape contract patterns keys choices part (literal d) v = has_literal patterns d v
 
 unfoldable mutual

@@ -4,7 +4,7 @@ use Rattle.std.specs.Prelude.{ℕ, zero, suc, ◌+◌, ◌*◌, List, [], length
 use Rattle.std.specs.Option.{option_map_or}
 use Rattle.serde_json.specs.Data.{Data, depth}
 use Rattle.schemars_schema.specs.Acceptance.{Patterns}
-use Rattle.schemars_shapes.specs.Shape.{Field, Flattened, Fields, Shape, struct, external, untagged, internal, adjacent, Payload, Variant, no_payload, newtype_payload, tuple_payload, struct_payload}
+use Rattle.schemars_shapes.specs.Shape.{Field, Flattened, Fields, Shape, struct, enum, Payload, Variant, no_payload, newtype_payload, tuple_payload, struct_payload}
 use Rattle.schemars_types.specs.KeyOptions.{key_options}
 use Rattle.schemars_types.specs.Rows.{Row, entry_at}
 use Rattle.schemars_types.specs.Effective.{effective, shape_fields}
@@ -27,10 +27,7 @@ joined_variant part x = record { name = x.name; payload = joined_payload part x.
 
 abbrev pub joined_shape : (Flattened → List Field) → Shape → Shape
 joined_shape part (struct x) = struct (joined_fields part x)
-joined_shape part (external xs) = external (map (joined_variant part) xs)
-joined_shape part (untagged xs) = untagged (map (joined_variant part) xs)
-joined_shape part (internal tag closed xs) = internal tag closed (map (joined_variant part) xs)
-joined_shape part (adjacent tag content closed xs) = adjacent tag content closed (map (joined_variant part) xs)
+joined_shape part (enum tagging xs) = enum tagging (map (joined_variant part) xs)
 joined_shape part s = s
 
 -- ---- in a table

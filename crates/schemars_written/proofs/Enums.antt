@@ -25,7 +25,7 @@ use Rattle.schemars_types.specs.Rows.{Row}
 use Rattle.schemars_types.specs.Faults.{IsChecked}
 use Rattle.schemars_types.specs.KeyOptions.{key_options}
 use Rattle.schemars_types.specs.Effective.{spread_variant, flattened_in, part_enums}
-use Rattle.schemars_types.specs.Meaning.{Choice, belongs_within, choices_within, has_variant, is_text, is_map_of, every_member}
+use Rattle.schemars_types.specs.Meaning.{Choice, belongs_within, choices_within, has_external, is_text, is_map_of, every_member}
 use Rattle.schemars_types.specs.declared.contract.Contract.TheVariants.{Serialize}
 use Rattle.schemars_written.specs.Gives.{IsPlain, Gives, GivesMembers, Tagged, Struct, IsObject, FirstMember, NoMembers, Done}
 use Rattle.schemars_written.specs.Fits.{Fits, Means, HasShape, HasUnit, HasNewtype}
@@ -43,29 +43,29 @@ left_true false b h = absurd (cc)
 
 -- one of the variants is the unit
 unit_listed : (rows : List Row) (part : ℕ → Data → Bool) (choices : ℕ → Data → List Choice) (name : Text) (xs : List Variant) → HasUnit name xs
-    → list_any (has_variant Serialize part choices (string name)) (map (spread_variant (flattened_in rows) (part_enums rows)) xs) ≡ true
+    → list_any (has_external Serialize part choices (string name)) (map (spread_variant (flattened_in rows) (part_enums rows)) xs) ≡ true
 unit_listed rows part choices name [] has = absurd has
 unit_listed rows part choices name (x ∷ xs) (inl here) =
-    left_true (has_variant Serialize part choices (string name) (spread_variant (flattened_in rows) (part_enums rows) x))
-    (list_any (has_variant Serialize part choices (string name)) (map (spread_variant (flattened_in rows) (part_enums rows)) xs))
+    left_true (has_external Serialize part choices (string name) (spread_variant (flattened_in rows) (part_enums rows) x))
+    (list_any (has_external Serialize part choices (string name)) (map (spread_variant (flattened_in rows) (part_enums rows)) xs))
     (this x here.0 here.1)
   where
     this : (y : Variant) → y.name ≡ name → y.payload ≡ no_payload
-        → has_variant Serialize part choices (string name) (spread_variant (flattened_in rows) (part_enums rows) y) ≡ true
+        → has_external Serialize part choices (string name) (spread_variant (flattened_in rows) (part_enums rows) y) ≡ true
     this y same bare = rw bare ((bytes_eq-Decides y.name name).1 same)
 unit_listed rows part choices name (x ∷ xs) (inr later) =
-    right_true (has_variant Serialize part choices (string name) (spread_variant (flattened_in rows) (part_enums rows) x))
-    (list_any (has_variant Serialize part choices (string name)) (map (spread_variant (flattened_in rows) (part_enums rows)) xs))
+    right_true (has_external Serialize part choices (string name) (spread_variant (flattened_in rows) (part_enums rows) x))
+    (list_any (has_external Serialize part choices (string name)) (map (spread_variant (flattened_in rows) (part_enums rows)) xs))
     (unit_listed rows part choices name xs later)
 
 -- a unit sends its name, as it is spelled
-pub unit_agrees : (rows : List Row) (n : ℕ) (xs : List Variant) → HasShape rows n (shape.external xs) → (name : Text) (case : Case)
+pub unit_agrees : (rows : List Row) (n : ℕ) (xs : List Variant) → HasShape rows n (shape.enum shape.by_name xs) → (name : Text) (case : Case)
     → HasUnit (spelled case kind.Variant name) xs → Gives (λ old new. Logs old new (event.unit_variant name case)) (Means rows n)
 unit_agrees rows n xs is name case has =
     let t = spelled case kind.Variant name in
     one (event.unit_variant name case) (Means rows n) (λ s mid plain took. (
       json.string t,
-      known rows n (json.string t) (string t) refl (λ patterns. step rows patterns n (shape.external xs) (string t) is (λ steps low.
+      known rows n (json.string t) (string t) refl (λ patterns. step rows patterns n (shape.enum shape.by_name xs) (string t) is (λ steps low.
           unit_listed rows (belongs_within rows Serialize patterns steps) (choices_within rows Serialize patterns steps) t xs has)),
       grind (arith, common_steps, took),
       grind (arith, common_steps, took),
@@ -75,19 +75,19 @@ unit_agrees rows n xs is name case has =
 
 newtype_listed : (rows : List Row) (part : ℕ → Data → Bool) (choices : ℕ → Data → List Choice) (name : Text) (m : ℕ) (v : Data) (xs : List Variant)
     → HasNewtype name m xs → is_map_of name (part m) v ≡ true
-    → list_any (has_variant Serialize part choices v) (map (spread_variant (flattened_in rows) (part_enums rows)) xs) ≡ true
+    → list_any (has_external Serialize part choices v) (map (spread_variant (flattened_in rows) (part_enums rows)) xs) ≡ true
 newtype_listed rows part choices name m v [] has is = absurd has
 newtype_listed rows part choices name m v (x ∷ xs) (inl here) is =
-    left_true (has_variant Serialize part choices v (spread_variant (flattened_in rows) (part_enums rows) x))
-    (list_any (has_variant Serialize part choices v) (map (spread_variant (flattened_in rows) (part_enums rows)) xs))
+    left_true (has_external Serialize part choices v (spread_variant (flattened_in rows) (part_enums rows) x))
+    (list_any (has_external Serialize part choices v) (map (spread_variant (flattened_in rows) (part_enums rows)) xs))
     (this x here.0 here.1)
   where
     this : (y : Variant) → y.name ≡ name → y.payload ≡ newtype_payload m
-        → has_variant Serialize part choices v (spread_variant (flattened_in rows) (part_enums rows) y) ≡ true
+        → has_external Serialize part choices v (spread_variant (flattened_in rows) (part_enums rows) y) ≡ true
     this y same one = rw one (subst (λ (t : Text). is_map_of t (part m) v ≡ true) (sym same) is)
 newtype_listed rows part choices name m v (x ∷ xs) (inr later) is =
-    right_true (has_variant Serialize part choices v (spread_variant (flattened_in rows) (part_enums rows) x))
-    (list_any (has_variant Serialize part choices v) (map (spread_variant (flattened_in rows) (part_enums rows)) xs))
+    right_true (has_external Serialize part choices v (spread_variant (flattened_in rows) (part_enums rows) x))
+    (list_any (has_external Serialize part choices v) (map (spread_variant (flattened_in rows) (part_enums rows)) xs))
     (newtype_listed rows part choices name m v xs later is)
 
 variant_key_gives : (name : Text) (case : Case) → GivesKey (λ old new. Logs old new (event.variant_key name case)) (spelled case kind.Variant name)
@@ -98,7 +98,7 @@ variant_key_gives name case es new sent = (
       (run.0, grind (arith, common_steps, run.1), grind (arith, common_steps, run.1), run.2),
 )
 
-newtype_means : (rows : List Row) → IsChecked rows → (n m : ℕ) (xs : List Variant) → HasShape rows n (shape.external xs) → m < length rows
+newtype_means : (rows : List Row) → IsChecked rows → (n m : ℕ) (xs : List Variant) → HasShape rows n (shape.enum shape.by_name xs) → m < length rows
     → (name : Text) → HasNewtype name m xs → (j : Json) → IsObject (FirstMember name (Means rows m) NoMembers) j → Means rows n j
 newtype_means rows checked n m xs is low name has json.null all = absurd all
 newtype_means rows checked n m xs is low name has (json.boolean b) all = absurd all
@@ -112,7 +112,7 @@ newtype_means rows checked n m xs is low name has (json.object (json.member k j 
     let p = member_parts (of_json j) (λ e. of_members json.no_members (put k e no_members)) r.0 r.1 in
     let whole : object (member k p.0 no_members) ≡ d = ap object (Some_same (put k p.0 no_members) r.0 p.2) ∙ r.2 in
     let v : Data = object (member k p.0 no_members) in
-    subst (λ x. Fits rows patterns n x) whole (step rows patterns n (shape.external xs) v is (λ steps few.
+    subst (λ x. Fits rows patterns n x) whole (step rows patterns n (shape.enum shape.by_name xs) v is (λ steps few.
     newtype_listed rows (belongs_within rows Serialize patterns steps) (choices_within rows Serialize patterns steps) name m v xs has
     (both_true (is_some (get_member name (member k p.0 no_members)))
     (every_member (λ l w. bytes_eq name l && belongs_within rows Serialize patterns steps m w) (member k p.0 no_members))
@@ -123,7 +123,7 @@ newtype_means rows checked n m xs is low name has (json.object (json.member k j 
     (all.1 patterns p.0 p.1)))
     refl))))
 
-pub newtype_agrees : (rows : List Row) → IsChecked rows → (n m : ℕ) (xs : List Variant) → HasShape rows n (shape.external xs) → m < length rows
+pub newtype_agrees : (rows : List Row) → IsChecked rows → (n m : ℕ) (xs : List Variant) → HasShape rows n (shape.enum shape.by_name xs) → m < length rows
     → (name : Text) (case : Case) → HasNewtype (spelled case kind.Variant name) m xs → (w : Log → Log → Type 0) → Gives w (Means rows m)
     → Gives (Tagged name case w) (Means rows n)
 newtype_agrees rows checked n m xs is low name case has w given =
