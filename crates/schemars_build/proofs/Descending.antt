@@ -11,11 +11,11 @@ use Rattle.schemars_types.specs.Rows.{Row, entry_at}
 use Rattle.schemars_types.specs.Edges.{numbers_at, is_inline_at, asked_in, asked_at, height}
 use Rattle.schemars_types.specs.Faults.{IsChecked}
 use Rattle.schemars_build.specs.Placed.{is_pending, pending_in, is_in_place}
-use Rattle.schemars_build.specs.Work.{Plan, Work}
+use Rattle.schemars_build.specs.Registry.{Plan, Registry}
 use Rattle.schemars_documents.specs.Template.{Ask, part, members_of, content}
 use Rattle.schemars_documents.specs.Describes.{without_options}
 use Rattle.schemars_build.specs.Missing.{failing_below, missing, idle, depth_in_place, IsLower, IsAskedIn}
-use Rattle.schemars_build.specs.Left.{width, places, left_of_definition, left_of_part, left_of_own_document, left_of_filled, left_of_members, left_of_content, left_of_asked}
+use Rattle.schemars_build.specs.Measure.{width, places, measure_of_definition, measure_of_part, measure_of_own_document, measure_of_filled, measure_of_members, measure_of_content, measure_of_asked}
 use Rattle.schemars_build.proofs.Counting.{failing-fewer, failing-less}
 use Rattle.schemars_meaning.proofs.Following.{closer}
 
@@ -98,7 +98,7 @@ further : (a b w r k : ℕ) → a < b → r < w → a * w + r < b * w + k
 further a b w r k less small = let e : suc a * w ≤ b * w = mul-le-mul_right w less in omega arith
 
 -- as definitions join, and the same rows are pending
-places-fewer : (p : Plan) (w v : Work) → missing p.rows p.contract v ≤ missing p.rows p.contract w → v.pending ≡ w.pending
+places-fewer : (p : Plan) (w v : Registry) → missing p.rows p.contract v ≤ missing p.rows p.contract w → v.pending ≡ w.pending
     → places p v v.pending ≤ places p w w.pending
 places-fewer p w v fewer same =
     let e : missing p.rows p.contract v * suc (length p.rows) ≤ missing p.rows p.contract w * suc (length p.rows) =
@@ -114,8 +114,8 @@ part_fits : (d h : ℕ) → d ≤ h → 8 * d + 1 < 8 * h + 7
 part_fits d h lower = omega arith
 
 -- from a document to what is asked in it
-pub to_asked : (p : Plan) (w v : Work) (n : ℕ) (a : Ask) → IsLower p.rows n a → missing p.rows p.contract v ≤ missing p.rows p.contract w
-    → v.pending ≡ w.pending → left_of_asked p v a < left_of_filled p w n
+pub to_asked : (p : Plan) (w v : Registry) (n : ℕ) (a : Ask) → IsLower p.rows n a → missing p.rows p.contract v ≤ missing p.rows p.contract w
+    → v.pending ≡ w.pending → measure_of_asked p v a < measure_of_filled p w n
 to_asked p w v n (part m) lower fewer same =
     down_less (places p v v.pending) (places p w w.pending) (width p.rows) (8 * depth_in_place p.rows m + 1)
     (8 * height p.rows n + 7) (places-fewer p w v fewer same) (part_fits (depth_in_place p.rows m) (height p.rows n) lower)
@@ -129,11 +129,11 @@ to_asked p w v n (content m) lower fewer same =
     (8 * height p.rows n + 7) (places-fewer p w v fewer same) (omega (arith, less))
 
 -- to the documents that these are made of
-pub members_to_filled : (p : Plan) (w : Work) (n : ℕ) → left_of_filled p w (without_options p.rows n) < left_of_members p w n
+pub members_to_filled : (p : Plan) (w : Registry) (n : ℕ) → measure_of_filled p w (without_options p.rows n) < measure_of_members p w n
 members_to_filled p w n = omega arith
 
-pub content_to_part : (p : Plan) (w v : Work) (n : ℕ) → missing p.rows p.contract v ≤ missing p.rows p.contract w
-    → v.pending ≡ w.pending → left_of_part p v n < left_of_content p w n
+pub content_to_part : (p : Plan) (w v : Registry) (n : ℕ) → missing p.rows p.contract v ≤ missing p.rows p.contract w
+    → v.pending ≡ w.pending → measure_of_part p v n < measure_of_content p w n
 content_to_part p w v n fewer same = down_less (places p v v.pending) (places p w w.pending) (width p.rows)
     (8 * depth_in_place p.rows n + 1) (8 * height p.rows n + 11) (places-fewer p w v fewer same) (by (is_inline_at p.rows n))
   where
@@ -142,8 +142,8 @@ content_to_part p w v n fewer same = down_less (places p v v.pending) (places p 
     by false = omega arith
 
 -- to a part in place
-pub to_own : (p : Plan) (w : Work) (n : ℕ) → IsChecked p.rows → n < length p.rows
-    → is_in_place p.rows p.inlines w.pending n ≡ true → left_of_own_document p w n < left_of_part p w n
+pub to_own : (p : Plan) (w : Registry) (n : ℕ) → IsChecked p.rows → n < length p.rows
+    → is_in_place p.rows p.inlines w.pending n ≡ true → measure_of_own_document p w n < measure_of_part p w n
 to_own p w n checked less placed = by (is_inline_at p.rows n) refl
   where
     inner : ℕ
@@ -164,7 +164,7 @@ to_own p w n checked less placed = by (is_inline_at p.rows n) refl
     entered true true inlines none h = cc
     entered false c inlines none h = cc
 
-    by : (b : Bool) → is_inline_at p.rows n ≡ b → left_of_own_document p w n < left_of_part p w n
+    by : (b : Bool) → is_inline_at p.rows n ≡ b → measure_of_own_document p w n < measure_of_part p w n
     by true inline =
         let deep : depth_in_place p.rows n ≡ suc (height p.rows n) = ap (λ b. if b then suc (height p.rows n) else 0) inline in
         subst goal_at (sym deep) (own_less inner (places p w w.pending) (width p.rows) (height p.rows n) fewer)
@@ -176,14 +176,14 @@ to_own p w n checked less placed = by (is_inline_at p.rows n) refl
         (entered p.inlines (is_pending w.pending n) refl refl here) (omega (arith, bound))
 
 -- to a part by reference
-pub to_define : (p : Plan) (w v : Work) (n : ℕ) → missing p.rows p.contract v ≤ missing p.rows p.contract w → v.pending ≡ w.pending
-    → left_of_definition p v < left_of_part p w n
+pub to_define : (p : Plan) (w v : Registry) (n : ℕ) → missing p.rows p.contract v ≤ missing p.rows p.contract w → v.pending ≡ w.pending
+    → measure_of_definition p v < measure_of_part p w n
 to_define p w v n fewer same = same_less (places p v v.pending) (places p w w.pending) (width p.rows)
     (8 * depth_in_place p.rows n + 1) (places-fewer p w v fewer same) (omega arith)
 
 -- to a new definition
-pub to_definition : (p : Plan) (w v : Work) (n : ℕ) → IsChecked p.rows → missing p.rows p.contract v < missing p.rows p.contract w
-    → left_of_own_document p v n < left_of_definition p w
+pub to_definition : (p : Plan) (w v : Registry) (n : ℕ) → IsChecked p.rows → missing p.rows p.contract v < missing p.rows p.contract w
+    → measure_of_own_document p v n < measure_of_definition p w
 to_definition p w v n h fewer =
     let bound = h.height_bound n in
     let inner = pending_in p.inlines v.pending n in
@@ -194,8 +194,8 @@ to_definition p w v n h fewer =
     closer (places p v inner) (places p w w.pending) (width p.rows) (8 * height p.rows n + 8) less (omega (arith, bound))
 
 -- to the document of a row that was entered
-pub to_filled : (p : Plan) (w v : Work) (n : ℕ) → missing p.rows p.contract v ≤ missing p.rows p.contract w
-    → v.pending ≡ pending_in p.inlines w.pending n → left_of_filled p v n < left_of_own_document p w n
+pub to_filled : (p : Plan) (w v : Registry) (n : ℕ) → missing p.rows p.contract v ≤ missing p.rows p.contract w
+    → v.pending ≡ pending_in p.inlines w.pending n → measure_of_filled p v n < measure_of_own_document p w n
 to_filled p w v n fewer same =
     let e : missing p.rows p.contract v * suc (length p.rows) ≤ missing p.rows p.contract w * suc (length p.rows) =
     mul-le-mul_right (suc (length p.rows)) fewer in

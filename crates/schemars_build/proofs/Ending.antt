@@ -11,13 +11,13 @@ use Rattle.schemars_schema.specs.Json.{Text}
 use Rattle.schemars_types.specs.Faults.{IsChecked}
 use Rattle.schemars_build.specs.Naming.{name_of}
 use Rattle.schemars_build.specs.Placed.{pending_in}
-use Rattle.schemars_build.specs.Work.{Plan, Work, Step, basis_of_plan, without_last}
+use Rattle.schemars_build.specs.Registry.{Plan, Registry, Step, basis_of_plan, without_last}
 use Rattle.schemars_documents.specs.Template.{Ask, asks_of}
 use Rattle.schemars_documents.specs.View.{ask_of}
 use Rattle.schemars_documents.specs.OfShape.{entry_template}
 use Rattle.schemars_documents.specs.declared.template.Ask as src-ask
 use Rattle.schemars_build.specs.Missing.{missing, IsAskedIn}
-use Rattle.schemars_build.specs.Left.{left_of_own_document, left_of_part, width, places, left_of_filled, left_of_asked, asks_at, sum_below, breadth, document_rank, weight, unanswered_in, pending_around, left_waiting, left_going, left_of_reply, IsWithin, IsLess}
+use Rattle.schemars_build.specs.Measure.{measure_of_own_document, measure_of_part, width, places, measure_of_filled, measure_of_asked, asks_at, sum_below, breadth, document_rank, weight, unanswered_in, pending_around, left_waiting, left_going, measure_of_reply, IsWithin, IsLess}
 use Rattle.schemars_build.specs.Making.{Wanted, IsBegun, IsTemplate, IsOpened, IsInMaking, HasAnswered, IsRepliedBy, HasReplied, Reply, answer, document}
 use Rattle.schemars_build.specs.declared.build.Document.{Document}
 use Rattle.schemars_build.specs.declared.build.Purpose.{Purpose}
@@ -73,16 +73,16 @@ module _ (p : Plan) where
       let e = asks_below d.row t.known in
       omega (arith, counted, e)
 
-  heavy : (w : Work) (pending : List ℕ) (d : Document) → 1 ≤ weight p w pending d
+  heavy : (w : Registry) (pending : List ℕ) (d : Document) → 1 ≤ weight p w pending d
   heavy w pending d = one-le-pow (document_rank p w pending d.row d.purpose) (breadth p) (let m = many in omega (arith, m))
 
   -- ---- as definitions join
 
-  missing_pending : (w : Work) (pending : List ℕ) → missing p.rows p.contract (record w { pending = pending }) ≡ missing p.rows p.contract w
+  missing_pending : (w : Registry) (pending : List ℕ) → missing p.rows p.contract (record w { pending = pending }) ≡ missing p.rows p.contract w
   unfolding missing
   missing_pending w pending = refl
 
-  module _ (v w : Work) (fewer : missing p.rows p.contract v ≤ missing p.rows p.contract w) where
+  module _ (v w : Registry) (fewer : missing p.rows p.contract v ≤ missing p.rows p.contract w) where
     places_fewer : (pending : List ℕ)
         → places p (record v { pending = pending }) pending ≤ places p (record w { pending = pending }) pending
     places_fewer pending =
@@ -112,7 +112,7 @@ module _ (p : Plan) where
 
   -- ---- what is pending around a document, and what is missing by then
 
-  module _ (outside : Bool) (old : Work) (want : Wanted) (now : Work) (d : Document) (h : IsInMaking p outside old want now d) where
+  module _ (outside : Bool) (old : Registry) (want : Wanted) (now : Registry) (d : Document) (h : IsInMaking p outside old want now d) where
     around_begun : (q : Purpose) → IsBegun p outside h.mid h.start d.row d.in_definition q → pending_around q now.pending ≡ h.mid.pending
     around_begun (purpose.Own entered) is =
         ap (λ ps. if entered then without_last ps else ps) (h.step.still_pending ∙ ap (λ w. w.pending) is.2)
@@ -145,15 +145,15 @@ module _ (p : Plan) where
         let c = missing-wider p.rows p.contract h.start now (step_wider p h.start now h.step) in
         omega (arith, a, b, c)
 
-  pub replied_fewer : (outside : Bool) (old : Work) (want : Wanted) (now : Work) (r : Reply) → IsRepliedBy p outside old want now r
+  pub replied_fewer : (outside : Bool) (old : Registry) (want : Wanted) (now : Registry) (r : Reply) → IsRepliedBy p outside old want now r
       → missing p.rows p.contract now ≤ missing p.rows p.contract old
   replied_fewer outside old want now (answer s) h = missing-wider p.rows p.contract old now (step_wider p old now h.0)
   replied_fewer outside old want now (document d) h = making_fewer outside old want now d h
 
   -- ---- what a document asks lies lower
 
-  pub asks_lower : (now : Work) (d : Document) → IsChecked p.rows → IsTemplate p d → (i : ℕ) (a : src-ask.Ask) → i < length d.asks.items
-      → left_of_asked p now (ask_of (get_or d.asks.items i a)) < document_rank p now now.pending d.row d.purpose
+  pub asks_lower : (now : Registry) (d : Document) → IsChecked p.rows → IsTemplate p d → (i : ℕ) (a : src-ask.Ask) → i < length d.asks.items
+      → measure_of_asked p now (ask_of (get_or d.asks.items i a)) < document_rank p now now.pending d.row d.purpose
   asks_lower now d checked t i a less =
       let P : List Ask → Type 0 = λ asks. All (IsAskedIn p.rows d.row) asks in
       let every : P (map ask_of d.asks.items) = subst P (sym t.asks) (asks_in_order (basis_of_plan p) d.row t.entry checked t.at) in
@@ -164,8 +164,8 @@ module _ (p : Plan) where
       let same : missing p.rows p.contract now ≤ missing p.rows p.contract now = omega arith in
       by d.purpose (to_asked p now now d.row (ask_of (get_or d.asks.items i a)) there.1 same refl)
     where
-      by : (q : Purpose) → left_of_asked p now (ask_of (get_or d.asks.items i a)) < left_of_filled p now d.row
-          → left_of_asked p now (ask_of (get_or d.asks.items i a)) < document_rank p now now.pending d.row q
+      by : (q : Purpose) → measure_of_asked p now (ask_of (get_or d.asks.items i a)) < measure_of_filled p now d.row
+          → measure_of_asked p now (ask_of (get_or d.asks.items i a)) < document_rank p now now.pending d.row q
       by (purpose.Own entered) e = e
       by (purpose.Definition name entered) e = e
       by (purpose.Members optional) e = e
@@ -173,28 +173,28 @@ module _ (p : Plan) where
 
   -- ---- replies
 
-  pub within_more : (k l : ℕ) (w : Work) (r : Reply) → k ≤ l → IsWithin p k w r → IsWithin p l w r
+  pub within_more : (k l : ℕ) (w : Registry) (r : Reply) → k ≤ l → IsWithin p k w r → IsWithin p l w r
   within_more k l w (answer s) less is = is
   within_more k l w (document d) less is = omega (arith, less, is)
 
-  pub opened_within : (inside : Bool) (n : ℕ) (q : Purpose) (d : Document) (new : Work) (k : ℕ) → IsOpened p inside n q d
+  pub opened_within : (inside : Bool) (n : ℕ) (q : Purpose) (d : Document) (new : Registry) (k : ℕ) → IsOpened p inside n q d
       → document_rank p new new.pending n q ≤ k → IsWithin p k new (document d)
   opened_within inside n q d new k is low =
       let same : document_rank p new new.pending d.row d.purpose ≡ document_rank p new new.pending n q =
       ap (λ m. document_rank p new new.pending m d.purpose) is.0 ∙ ap (λ x. document_rank p new new.pending n x) is.1 in
       omega (arith, same, low)
 
-  pub own_within : (old new : Work) (n : ℕ) → new ≡ record old { pending = pending_in p.inlines old.pending n }
-      → left_of_filled p new n ≤ left_of_own_document p old n
+  pub own_within : (old new : Registry) (n : ℕ) → new ≡ record old { pending = pending_in p.inlines old.pending n }
+      → measure_of_filled p new n ≤ measure_of_own_document p old n
   own_within old new n is =
       let e = ap (missing p.rows p.contract) is ∙ missing_pending old (pending_in p.inlines old.pending n) in
       let f = to_filled p old new n (omega (arith, e)) (ap (λ w. w.pending) is) in
       omega (arith, f)
 
-  pub definition_within : (old mid new : Work) (n : ℕ) (k : Text) → IsChecked p.rows → n < length p.rows → Step p old mid
+  pub definition_within : (old mid new : Registry) (n : ℕ) (k : Text) → IsChecked p.rows → n < length p.rows → Step p old mid
       → name_of n p.contract mid.names ≡ Some k → get_member k mid.definitions ≡ None
       → new ≡ record (begun_with mid k) { pending = pending_in p.inlines mid.pending n }
-      → left_of_filled p new n ≤ left_of_part p old n
+      → measure_of_filled p new n ≤ measure_of_part p old n
   definition_within old mid new n k checked known step named none is =
       let a = to_define p old mid n (missing-wider p.rows p.contract old mid (step_wider p old mid step)) step.still_pending in
       let b = to_definition p mid (begun_with mid k) n checked (begun-fewer p mid n k known named none) in
@@ -202,12 +202,12 @@ module _ (p : Plan) where
       omega (arith, a, b, c)
 
   -- where only what is pending changes
-  pub left_fewer : (now new : Work) (ps : List ℕ) → new ≡ record now { pending = ps }
+  pub left_fewer : (now new : Registry) (ps : List ℕ) → new ≡ record now { pending = ps }
       → missing p.rows p.contract new ≤ missing p.rows p.contract now
   left_fewer now new ps is = let e = ap (missing p.rows p.contract) is ∙ missing_pending now ps in omega (arith, e)
 
   -- where a definition is finished
-  pub finished_fewer : (now : Work) (k : Text) (d b : Data) → get_member k now.definitions ≡ Some b
+  pub finished_fewer : (now : Registry) (k : Text) (d b : Data) → get_member k now.definitions ≡ Some b
       → missing p.rows p.contract (finished_with now k d) ≤ missing p.rows p.contract now
   finished_fewer now k d b is = missing-wider p.rows p.contract now (finished_with now k d) (record {
     names = λ m name e. e;
@@ -220,9 +220,9 @@ module _ (p : Plan) where
   -- ---- one turn
 
   -- d asks, and waits
-  pub asking_less : (outside : Bool) (want : Wanted) (now new : Work) (d : Document) (ds : List Document) (r : Reply) (k : ℕ)
+  pub asking_less : (outside : Bool) (want : Wanted) (now new : Registry) (d : Document) (ds : List Document) (r : Reply) (k : ℕ)
       → IsRepliedBy p outside now want new r → IsWithin p k new r → k < document_rank p now now.pending d.row d.purpose
-      → left_of_reply p new r (d ∷ ds) < left_going p now d ds
+      → measure_of_reply p new r (d ∷ ds) < left_going p now d ds
   asking_less outside want now new d ds (answer s) k is within low =
       let fewer = replied_fewer outside now want new (answer s) is in
       let same : new.pending ≡ now.pending = is.0.still_pending in
@@ -244,9 +244,9 @@ module _ (p : Plan) where
       omega (arith, all, e, f)
 
   -- d is done, and is the answer
-  pub closing_answered : (outside : Bool) (old : Work) (want : Wanted) (now new : Work) (d : Document) (ds : List Document) (s : Data)
+  pub closing_answered : (outside : Bool) (old : Registry) (want : Wanted) (now new : Registry) (d : Document) (ds : List Document) (s : Data)
       → IsInMaking p outside old want now d → missing p.rows p.contract new ≤ missing p.rows p.contract now
-      → IsRepliedBy p outside old want new (answer s) → left_of_reply p new (answer s) ds < left_going p now d ds
+      → IsRepliedBy p outside old want new (answer s) → measure_of_reply p new (answer s) ds < left_going p now d ds
   closing_answered outside old want now new d ds s h fewer is =
       let same : new.pending ≡ pending_around d.purpose now.pending = is.0.still_pending ∙ sym (making_around outside old want now d h) in
       let all : left_waiting p new new.pending ds ≡ left_waiting p new (pending_around d.purpose now.pending) ds =
@@ -256,7 +256,7 @@ module _ (p : Plan) where
       omega (arith, all, e, f)
 
   -- and that is the reply
-  pub closing_replies : (outside : Bool) (old : Work) (want : Wanted) (now new : Work) (d : Document) (ds : List Document) (s : Data)
+  pub closing_replies : (outside : Bool) (old : Registry) (want : Wanted) (now new : Registry) (d : Document) (ds : List Document) (s : Data)
       → IsInMaking p outside old want now d → missing p.rows p.contract new ≤ missing p.rows p.contract now
       → IsRepliedBy p outside old want new (answer s) → HasReplied p outside old want ds (IsLess p now d ds new) new ds (Some s)
   closing_replies outside old want now new d ds s h fewer is = record {
@@ -267,10 +267,10 @@ module _ (p : Plan) where
   }
 
   -- d is done
-  pub closing_less : (outside : Bool) (old : Work) (want : Wanted) (now new : Work) (d : Document) (ds : List Document) (r : Reply) (k : ℕ)
+  pub closing_less : (outside : Bool) (old : Registry) (want : Wanted) (now new : Registry) (d : Document) (ds : List Document) (r : Reply) (k : ℕ)
       → IsInMaking p outside old want now d → missing p.rows p.contract new ≤ missing p.rows p.contract now
       → IsRepliedBy p outside old want new r → IsWithin p k new r → k < document_rank p now now.pending d.row d.purpose
-      → left_of_reply p new r ds < left_going p now d ds
+      → measure_of_reply p new r ds < left_going p now d ds
   closing_less outside old want now new d ds (answer s) k h fewer is within low =
       closing_answered outside old want now new d ds s h fewer is
   closing_less outside old want now new d ds (document x) k h fewer is within low =
@@ -287,7 +287,7 @@ module _ (p : Plan) where
       omega (arith, all, e, f)
 
   -- d has one answer more
-  pub answered_same : (w : Work) (d x : Document) (s : Data) (ds : List Document) → length d.answers.items < length d.asks.items
+  pub answered_same : (w : Registry) (d x : Document) (s : Data) (ds : List Document) → length d.answers.items < length d.asks.items
       → HasAnswered d s x → left_going p w x ds ≡ left_waiting p w w.pending (d ∷ ds)
   answered_same w d x s ds less has =
       let counted : length x.answers.items ≡ length d.answers.items + 1 = ap length has.answers ∙ length-append d.answers.items (s ∷ []) in

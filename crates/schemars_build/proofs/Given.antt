@@ -8,7 +8,7 @@ use Rattle.schemars_types.specs.declared.contract.Contract.{Contract}
 use Rattle.schemars_types.specs.declared.contract.Contract.TheVariants.{Deserialize, Serialize}
 use Rattle.schemars_types.specs.SameContract.{is_same_contract}
 use Rattle.schemars_build.specs.Naming.{NamedRow, Naming, is_of, name_of}
-use Rattle.schemars_build.specs.Work.{IsGiven, AreGiven, GivesNames}
+use Rattle.schemars_build.specs.Registry.{IsGiven, AreGiven, GivesNames}
 use Rattle.schemars_build.proofs.NamingLemmas.{same_contract-equal}
 
 pub name_of-joined : (n : ℕ) (c : Contract) (old more : Naming) (name : Text) → name_of n c old ≡ Some name

@@ -26,12 +26,12 @@ use Rattle.schemars_documents.specs.Describes.{without_options, are_optional}
 use Rattle.schemars_documents.specs.OfShape.{entry_template}
 use Rattle.schemars_build.specs.Naming.{name_of}
 use Rattle.schemars_build.specs.Placed.{is_pending, pending_in, is_in_place}
-use Rattle.schemars_build.specs.Work.{Plan, Work, Step, GivesNames, undone, reference_to, basis_of_plan, without_last}
+use Rattle.schemars_build.specs.Registry.{Plan, Registry, Step, GivesNames, rolled_back, reference_to, basis_of_plan, without_last}
 use Rattle.schemars_build.proofs.Given.{gives-keeps}
 use Rattle.schemars_build.specs.Reached.{AreReached}
 use Rattle.schemars_build.specs.Parts.{IsOwn, IsMade, IsPart, IsFilledIn, IsAnswer, AreAnswers}
 use Rattle.schemars_build.specs.Making.{Wanted, own, defined, flattened, asked, wanted_for, IsReply, IsBegun, IsTemplate, IsTemplateAt, IsOpened, ComesFrom, IsInMaking, HasAnswered, IsNext, AreWaiting, Reply, answer, document, IsRepliedBy, IsGivenBack, HasReplied, GoesOn, IsTaken, AreMaking, HasFirst}
-use Rattle.schemars_build.specs.Left.{document_rank, left_waiting, left_of_reply, left_making, left_of_turn, IsWithin, IsLess}
+use Rattle.schemars_build.specs.Measure.{document_rank, left_waiting, measure_of_reply, measure_of_making, measure_of_turn, IsWithin, IsLess}
 use Rattle.schemars_build.proofs.Ending.{answered_same, asking_less}
 use Rattle.schemars_build.proofs.Innermost.{last_got}
 use Rattle.schemars_build.specs.declared.build.Document.{Document}
@@ -41,25 +41,25 @@ use Rattle.schemars_build.proofs.Building.{answers_more, own_of_filled, in_place
 use Rattle.schemars_build.proofs.Filling.{filled_in, members_answer}
 use Rattle.schemars_build.proofs.Placing.{left_pending, pending_grows}
 use Rattle.schemars_build.proofs.Reaching.{reached_defines, reached_by_name}
-use Rattle.schemars_build.proofs.Steps.{begun_with, finished_with, undone-begun, undone-finished, begun-contains, finished-found, step_refl, step_trans, step_names, step_defines, step_entered}
+use Rattle.schemars_build.proofs.Steps.{begun_with, finished_with, rolled_back-begun, rolled_back-finished, begun-contains, finished-found, step_refl, step_trans, step_names, step_defines, step_entered}
 
 -- ---- what leads where
 
-pub leads_at_once : (plan : Plan) (inside : Bool) (w : Work) (want : Wanted) → ComesFrom plan inside w want w want
-leads_at_once plan inside w want = record { step = step_refl plan w; undone = refl; gives = λ new s step is. is }
+pub leads_at_once : (plan : Plan) (inside : Bool) (w : Registry) (want : Wanted) → ComesFrom plan inside w want w want
+leads_at_once plan inside w want = record { step = step_refl plan w; rolled_back = refl; gives = λ new s step is. is }
 
-pub leads_trans : (plan : Plan) (inside : Bool) (a : Work) (p : Wanted) (b : Work) (q : Wanted) (c : Work) (r : Wanted)
+pub leads_trans : (plan : Plan) (inside : Bool) (a : Registry) (p : Wanted) (b : Registry) (q : Wanted) (c : Registry) (r : Wanted)
     → ComesFrom plan inside a p b q → ComesFrom plan inside b q c r → ComesFrom plan inside a p c r
 leads_trans plan inside a p b q c r h g = record {
   step = step_trans plan a b c h.step g.step;
-  undone = g.undone ∙ h.undone;
+  rolled_back = g.rolled_back ∙ h.rolled_back;
   gives = λ new s step is. h.gives new s (step_trans plan b c new g.step step) (g.gives new s step is);
 }
 
-pub replied_from : (plan : Plan) (inside : Bool) (old : Work) (want : Wanted) (mid : Work) (got : Wanted) (now : Work) (r : Reply)
+pub replied_from : (plan : Plan) (inside : Bool) (old : Registry) (want : Wanted) (mid : Registry) (got : Wanted) (now : Registry) (r : Reply)
     → ComesFrom plan inside old want mid got → IsRepliedBy plan inside mid got now r → IsRepliedBy plan inside old want now r
 replied_from plan inside old want mid got now (answer s) h is =
-    (step_trans plan old mid now h.step is.0, is.1 ∙ h.undone, h.gives now s is.0 is.2)
+    (step_trans plan old mid now h.step is.0, is.1 ∙ h.rolled_back, h.gives now s is.0 is.2)
 replied_from plan inside old want mid got now (document d) h is = record {
   template = is.template;
   mid = is.mid;
@@ -67,43 +67,43 @@ replied_from plan inside old want mid got now (document d) h is = record {
   leads = leads_trans plan inside old want mid got is.mid (wanted_for d.row d.purpose) h is.leads;
   begun = is.begun;
   step = is.step;
-  undone = is.undone;
+  rolled_back = is.rolled_back;
   answers = is.answers;
 }
 
 -- a row in place
-pub leads_in_place : (plan : Plan) (inside : Bool) (old : Work) (n : ℕ) → is_in_place plan.rows plan.inlines old.pending n ≡ true
+pub leads_in_place : (plan : Plan) (inside : Bool) (old : Registry) (n : ℕ) → is_in_place plan.rows plan.inlines old.pending n ≡ true
     → ComesFrom plan inside old (asked (part n)) old (own n)
 leads_in_place plan inside old n placed = record {
   step = step_refl plan old;
-  undone = refl;
+  rolled_back = refl;
   gives = λ new s step is. part_answer plan inside old new n s (in_place plan inside old new n s step placed is);
 }
 
 -- a row by its name
-pub leads_defined : (plan : Plan) (inside : Bool) (old mid : Work) (n : ℕ) (k : Text) → mid ≡ record old { names = mid.names }
+pub leads_defined : (plan : Plan) (inside : Bool) (old mid : Registry) (n : ℕ) (k : Text) → mid ≡ record old { names = mid.names }
     → GivesNames plan.rows old.names mid.names
     → ((m : ℕ) (c : Contract) (q : Text) → name_of m c old.names ≡ None → name_of m c mid.names ≡ Some q → (m ≡ n) × (c ≡ plan.contract))
     → name_of n plan.contract mid.names ≡ Some k → is_in_place plan.rows plan.inlines old.pending n ≡ false
-    → is_inline_at plan.rows n ≡ false → plan.root ≢ Some n → n < length plan.rows → undone mid ≡ undone old
+    → is_inline_at plan.rows n ≡ false → plan.root ≢ Some n → n < length plan.rows → rolled_back mid ≡ rolled_back old
     → ComesFrom plan inside old (asked (part n)) mid (defined k)
 leads_defined plan inside old mid n k given names alone named placed apart other known un = record {
   step = step;
-  undone = un;
+  rolled_back = un;
   gives = λ new s next is. part_answer plan inside old new n s (whole new s next is.0 is.1);
 }
   where
     step : Step plan old mid
     step = subst (λ w. Step plan old w) (sym given) (step_names plan old mid.names names)
 
-    whole : (new : Work) (s : Data) → Step plan mid new → IsMade plan mid new k → s ≡ reference (reference_to plan.path k)
+    whole : (new : Registry) (s : Data) → Step plan mid new → IsMade plan mid new k → s ≡ reference (reference_to plan.path k)
         → IsPart plan inside old new n s
     whole new s next made same =
         let now_named : name_of n plan.contract new.names ≡ Some k =
         gives-keeps plan.rows mid.names new.names n plan.contract k next.names named in
         let kept : is_in_place plan.rows plan.inlines new.pending n ≡ false =
         ap (λ p. is_in_place plan.rows plan.inlines p n) (next.still_pending ∙ ap (λ w. w.pending) given) ∙ placed in
-        let P : Work → Type 0 = λ w. AreReached plan false w new (string (reference_to plan.path k) ∷ []) in
+        let P : Registry → Type 0 = λ w. AreReached plan false w new (string (reference_to plan.path k) ∷ []) in
         let Q : Data → Type 0 = λ t. AreReached plan inside old new (references t) in
         record {
           written = inl (reference_to plan.path k, (inr (k, now_named, made.defined, refl, (known, apart), other), kept), same);
@@ -112,18 +112,18 @@ leads_defined plan inside old mid n k given names alone named placed apart other
         }
 
 -- the members of a row
-pub leads_members : (plan : Plan) (inside : Bool) (old : Work) (n : ℕ) (required : Bool)
+pub leads_members : (plan : Plan) (inside : Bool) (old : Registry) (n : ℕ) (required : Bool)
     → ComesFrom plan inside old (asked (members_of n required)) old
     (flattened (without_options plan.rows n) (are_optional plan.rows n required))
 leads_members plan inside old n required = record {
   step = step_refl plan old;
-  undone = refl;
+  rolled_back = refl;
   gives = λ new s step is. members_answer plan inside old new n required is.0 s is.1 is.2;
 }
 
 -- ---- a document that was just opened
 
-fresh : (plan : Plan) (outside : Bool) (old : Work) (want : Wanted) (mid start : Work) (d : Document) → IsTemplate plan d
+fresh : (plan : Plan) (outside : Bool) (old : Registry) (want : Wanted) (mid start : Registry) (d : Document) → IsTemplate plan d
     → d.answers.items ≡ [] → ComesFrom plan outside old want mid (wanted_for d.row d.purpose)
     → IsBegun plan outside mid start d.row d.in_definition d.purpose → IsInMaking plan outside old want start d
 fresh plan outside old want mid start d template none leads begun =
@@ -135,7 +135,7 @@ fresh plan outside old want mid start d template none leads begun =
       leads = leads;
       begun = begun;
       step = step_refl plan start;
-      undone = refl;
+      rolled_back = refl;
       answers = subst P (sym none) (no_answers plan d.in_definition start);
     }
 
@@ -145,7 +145,7 @@ pub opened_now : (plan : Plan) (d : Document) → d.row < length plan.rows → I
 opened_now plan d known t asks none =
     (refl, refl, refl, none, record { known = known; entry = t.0; at = t.1; template = t.2; asks = asks ∙ ap asks_of t.2 })
 
-pub opened_reply : (plan : Plan) (outside inside : Bool) (old : Work) (want : Wanted) (mid start : Work) (n : ℕ) (p : Purpose)
+pub opened_reply : (plan : Plan) (outside inside : Bool) (old : Registry) (want : Wanted) (mid start : Registry) (n : ℕ) (p : Purpose)
     (d : Document)
     → IsOpened plan inside n p d → ComesFrom plan outside old want mid (wanted_for n p) → IsBegun plan outside mid start n inside p
     → IsInMaking plan outside old want start d
@@ -159,7 +159,7 @@ opened_reply plan outside inside old want mid start n p d is leads begun =
 
 -- ---- one answer more
 
-pub answered_making : (plan : Plan) (around : Bool) (before : Work) (more : Wanted) (old now : Work) (outside : Bool) (want : Wanted)
+pub answered_making : (plan : Plan) (around : Bool) (before : Registry) (more : Wanted) (old now : Registry) (outside : Bool) (want : Wanted)
     (d e : Document) (s : Data) → IsInMaking plan around before more old d → IsNext d outside want
     → IsRepliedBy plan outside old want now (answer s) → HasAnswered d s e → IsInMaking plan around before more now e
 answered_making plan around before more old now outside want d e s h next is has = record {
@@ -178,7 +178,7 @@ answered_making plan around before more old now outside want d e s h next is has
       (subst (λ b. IsBegun plan around h.mid h.start e.row b d.purpose) (sym has.in_definition)
       (subst (λ m. IsBegun plan around h.mid h.start m d.in_definition d.purpose) (sym has.row) h.begun));
   step = step_trans plan h.start old now h.step is.0;
-  undone = is.1 ∙ h.undone;
+  rolled_back = is.1 ∙ h.rolled_back;
   answers = answers;
 }
   where
@@ -219,7 +219,7 @@ asks_known plan d checked t i a less =
 
 -- ---- a document whose rows have all answered
 
-module _ (plan : Plan) (outside : Bool) (old : Work) (want : Wanted) (now : Work) (d : Document)
+module _ (plan : Plan) (outside : Bool) (old : Registry) (want : Wanted) (now : Registry) (d : Document)
     (h : IsInMaking plan outside old want now d) (all : length d.asks.items ≤ length d.answers.items) where
   whole : AreAnswers plan d.in_definition h.start now (asks_of (entry_template (basis_of_plan plan) h.template.entry)) d.answers.items
   whole = subst (λ asks. AreAnswers plan d.in_definition h.start now asks d.answers.items)
@@ -234,13 +234,13 @@ module _ (plan : Plan) (outside : Bool) (old : Work) (want : Wanted) (now : Work
 
 -- ---- what is made of it
 
-module _ (plan : Plan) (inside : Bool) (mid start now : Work) (n : ℕ) (entered : Bool)
+module _ (plan : Plan) (inside : Bool) (mid start now : Registry) (n : ℕ) (entered : Bool)
     (is_new : entered ≡ plan.inlines && not (is_pending mid.pending n))
     (begun : start ≡ record mid { pending = pending_in plan.inlines mid.pending n }) (step : Step plan start now) where
   entered_step : Step plan (record mid { pending = pending_in plan.inlines mid.pending n }) now
   entered_step = subst (λ w. Step plan w now) begun step
 
-  pub left : (new : Work) → new ≡ record now { pending = if entered then without_last now.pending else now.pending }
+  pub left : (new : Registry) → new ≡ record now { pending = if entered then without_last now.pending else now.pending }
       → new ≡ record now { pending = mid.pending }
   left new is =
       let inner : now.pending ≡ pending_in plan.inlines mid.pending n = entered_step.still_pending in
@@ -257,15 +257,15 @@ module _ (plan : Plan) (inside : Bool) (mid start now : Work) (n : ℕ) (entered
   left_own s filled = own_of_filled plan inside mid now (pending_in plan.inlines mid.pending n) n s refl entered_step
       (subst (λ w. IsFilledIn plan inside w now n s) begun filled)
 
-module _ (plan : Plan) (mid : Work) (n : ℕ) (k : Text) (none : get_member k mid.definitions ≡ None) (text : IsUtf8 k)
-    (named : name_of n plan.contract mid.names ≡ Some k) (now : Work) (s : Data) (step : Step plan (begun_with mid k) now)
+module _ (plan : Plan) (mid : Registry) (n : ℕ) (k : Text) (none : get_member k mid.definitions ≡ None) (text : IsUtf8 k)
+    (named : name_of n plan.contract mid.names ≡ Some k) (now : Registry) (s : Data) (step : Step plan (begun_with mid k) now)
     (own : IsOwn plan true (begun_with mid k) now n s) where
   pub defined_step : Step plan mid (finished_with now k s)
   defined_step = step_defines plan mid now n k s none text step
       (gives-keeps plan.rows mid.names now.names n plan.contract k step.names named) own.document
 
-  pub defined_undone : undone now ≡ undone (begun_with mid k) → undone (finished_with now k s) ≡ undone mid
-  defined_undone un = undone-finished now k s (begun-contains plan mid k now step) ∙ (un ∙ undone-begun mid k none)
+  pub defined_undone : rolled_back now ≡ rolled_back (begun_with mid k) → rolled_back (finished_with now k s) ≡ rolled_back mid
+  defined_undone un = rolled_back-finished now k s (begun-contains plan mid k now step) ∙ (un ∙ rolled_back-begun mid k none)
 
   pub defined_made : IsMade plan mid (finished_with now k s) k
   defined_made = record {
@@ -275,22 +275,22 @@ module _ (plan : Plan) (mid : Work) (n : ℕ) (k : Text) (none : get_member k mi
         reached_defines plan mid now k s none begins (own.reached plain);
   }
 
-begun_undone : (plan : Plan) (outside : Bool) (mid start : Work) (n : ℕ) (inside : Bool) (p : Purpose)
-    → IsBegun plan outside mid start n inside p → undone start ≡ undone mid
-begun_undone plan outside mid start n inside (purpose.Own entered) is = ap undone is.2
+begun_undone : (plan : Plan) (outside : Bool) (mid start : Registry) (n : ℕ) (inside : Bool) (p : Purpose)
+    → IsBegun plan outside mid start n inside p → rolled_back start ≡ rolled_back mid
+begun_undone plan outside mid start n inside (purpose.Own entered) is = ap rolled_back is.2
 begun_undone plan outside mid start n inside (purpose.Definition name entered) is =
-    ap undone is.4 ∙ undone-begun mid (string_bytes name) is.2
-begun_undone plan outside mid start n inside (purpose.Members optional) is = ap undone is.1
-begun_undone plan outside mid start n inside purpose.Content is = ap undone is.1
+    ap rolled_back is.4 ∙ rolled_back-begun mid (string_bytes name) is.2
+begun_undone plan outside mid start n inside (purpose.Members optional) is = ap rolled_back is.1
+begun_undone plan outside mid start n inside purpose.Content is = ap rolled_back is.1
 
-pub making_undone : (plan : Plan) (outside : Bool) (old : Work) (want : Wanted) (now : Work) (d : Document)
-    → IsInMaking plan outside old want now d → undone now ≡ undone old
+pub making_undone : (plan : Plan) (outside : Bool) (old : Registry) (want : Wanted) (now : Registry) (d : Document)
+    → IsInMaking plan outside old want now d → rolled_back now ≡ rolled_back old
 making_undone plan outside old want now d h =
-    h.undone ∙ (begun_undone plan outside h.mid h.start d.row d.in_definition d.purpose h.begun ∙ h.leads.undone)
+    h.rolled_back ∙ (begun_undone plan outside h.mid h.start d.row d.in_definition d.purpose h.begun ∙ h.leads.rolled_back)
 
 -- ---- a document that is done
 
-module _ (plan : Plan) (outside : Bool) (old : Work) (want : Wanted) (now : Work) (d : Document)
+module _ (plan : Plan) (outside : Bool) (old : Registry) (want : Wanted) (now : Registry) (d : Document)
     (h : IsInMaking plan outside old want now d) (s : Data) (filled : IsFilledIn plan d.in_definition h.start now d.row s) where
   leads_for : (p : Purpose) → d.purpose ≡ p → ComesFrom plan outside old want h.mid (wanted_for d.row p)
   leads_for p is = subst (λ q. ComesFrom plan outside old want h.mid (wanted_for d.row q)) is h.leads
@@ -298,15 +298,15 @@ module _ (plan : Plan) (outside : Bool) (old : Work) (want : Wanted) (now : Work
   pub begun_for : (p : Purpose) → d.purpose ≡ p → IsBegun plan outside h.mid h.start d.row d.in_definition p
   begun_for p is = subst (λ q. IsBegun plan outside h.mid h.start d.row d.in_definition q) is h.begun
 
-  un : undone now ≡ undone h.mid
-  un = h.undone ∙ begun_undone plan outside h.mid h.start d.row d.in_definition d.purpose h.begun
+  un : rolled_back now ≡ rolled_back h.mid
+  un = h.rolled_back ∙ begun_undone plan outside h.mid h.start d.row d.in_definition d.purpose h.begun
 
-  pub closes_own : (entered : Bool) (new : Work) → d.purpose ≡ purpose.Own entered
+  pub closes_own : (entered : Bool) (new : Registry) → d.purpose ≡ purpose.Own entered
       → new ≡ record now { pending = if entered then without_last now.pending else now.pending }
       → IsRepliedBy plan outside old want new (answer s)
   closes_own entered new is left_is =
       let b = begun_for (purpose.Own entered) is in
-      let after : Work = record now { pending = h.mid.pending } in
+      let after : Registry = record now { pending = h.mid.pending } in
       let same : new ≡ after = left plan outside h.mid h.start now d.row entered b.1 b.2 h.step new left_is in
       let here : IsFilledIn plan outside h.start now d.row s = subst (λ x. IsFilledIn plan x h.start now d.row s) b.0 filled in
       let made : IsRepliedBy plan outside h.mid (own d.row) after (answer s) = (
@@ -338,7 +338,7 @@ module _ (plan : Plan) (outside : Bool) (old : Work) (want : Wanted) (now : Work
       (step, un, content_answer plan outside h.mid now d.row b s t place here stands same)
 
   -- the row is asked once more, as a part
-  pub closes_referred : (b : Bool) (new : Work) (r : Reply) → d.purpose ≡ purpose.Content
+  pub closes_referred : (b : Bool) (new : Registry) (r : Reply) → d.purpose ≡ purpose.Content
       → b ≡ (is_inline_at plan.rows d.row || plan.inlines) → must_be_in_place b s ≡ false
       → IsRepliedBy plan d.in_definition now (asked (part d.row)) new r → IsRepliedBy plan outside old want new r
   closes_referred b new r is place stands again =
@@ -348,7 +348,7 @@ module _ (plan : Plan) (outside : Bool) (old : Work) (want : Wanted) (now : Work
       let step : Step plan h.mid now = subst (λ w. Step plan w now) begun.1 h.step in
       let referred : ComesFrom plan outside h.mid (asked (content d.row)) now (asked (part d.row)) = record {
         step = step;
-        undone = un;
+        rolled_back = un;
         gives = λ later t next one. content_referred plan outside h.mid now later d.row b s t place step next here stands
             (record { written = one.said; reached = one.needed });
       } in
@@ -357,7 +357,7 @@ module _ (plan : Plan) (outside : Bool) (old : Work) (want : Wanted) (now : Work
       replied_from plan outside old want h.mid (asked (content d.row)) new r (leads_for purpose.Content is)
       (replied_from plan outside h.mid (asked (content d.row)) now (asked (part d.row)) new r referred around)
 
-  pub closes_definition : (name : String Global) (entered : Bool) (mid new : Work) (t : Data) → d.purpose ≡ purpose.Definition name entered
+  pub closes_definition : (name : String Global) (entered : Bool) (mid new : Registry) (t : Data) → d.purpose ≡ purpose.Definition name entered
       → IsUtf8 (string_bytes name)
       → mid ≡ record now { pending = if entered then without_last now.pending else now.pending }
       → new ≡ finished_with mid (string_bytes name) s → t ≡ reference (reference_to plan.path (string_bytes name))
@@ -365,13 +365,13 @@ module _ (plan : Plan) (outside : Bool) (old : Work) (want : Wanted) (now : Work
   closes_definition name entered mid new t is text left_is finished same =
       let b = begun_for (purpose.Definition name entered) is in
       let k = string_bytes name in
-      let start : Work = begun_with h.mid k in
-      let after : Work = record now { pending = h.mid.pending } in
+      let start : Registry = begun_with h.mid k in
+      let after : Registry = record now { pending = h.mid.pending } in
       let back : mid ≡ after = left plan true start h.start now d.row entered b.1 b.4 h.step mid left_is in
       let here : IsFilledIn plan true h.start now d.row s = subst (λ x. IsFilledIn plan x h.start now d.row s) b.0 filled in
       let step : Step plan start after = left_step plan true start h.start now d.row entered b.1 b.4 h.step in
       let own_is : IsOwn plan true start after d.row s = left_own plan true start h.start now d.row entered b.1 b.4 h.step s here in
-      let undone_after : undone after ≡ undone start = un ∙ sym (undone-begun h.mid k b.2) in
+      let undone_after : rolled_back after ≡ rolled_back start = un ∙ sym (rolled_back-begun h.mid k b.2) in
       let made : IsRepliedBy plan outside h.mid (defined k) (finished_with after k s) (answer t) = (
         defined_step plan h.mid d.row k b.2 text b.3 after s step own_is,
         defined_undone plan h.mid d.row k b.2 text b.3 after s step own_is undone_after,
@@ -383,19 +383,19 @@ module _ (plan : Plan) (outside : Bool) (old : Work) (want : Wanted) (now : Work
 
 -- ---- what waits
 
-waiting_undone : (plan : Plan) (first : Bool) (start : Work) (all : Wanted) (outside : Bool) (old : Work) (want : Wanted)
-    (ds : List Document) → AreWaiting plan first start all outside old want ds → undone old ≡ undone start
-waiting_undone plan first start all outside old want [] h = ap undone h.1
+waiting_undone : (plan : Plan) (first : Bool) (start : Registry) (all : Wanted) (outside : Bool) (old : Registry) (want : Wanted)
+    (ds : List Document) → AreWaiting plan first start all outside old want ds → rolled_back old ≡ rolled_back start
+waiting_undone plan first start all outside old want [] h = ap rolled_back h.1
 waiting_undone plan first start all outside old want (d ∷ ds) h =
     making_undone plan h.0 h.1 h.2 old d h.3 ∙ waiting_undone plan first start all h.0 h.1 h.2 ds h.5
 
-replied_undone : (plan : Plan) (outside : Bool) (old : Work) (want : Wanted) (now : Work) (r : Reply)
-    → IsRepliedBy plan outside old want now r → undone now ≡ undone old
+replied_undone : (plan : Plan) (outside : Bool) (old : Registry) (want : Wanted) (now : Registry) (r : Reply)
+    → IsRepliedBy plan outside old want now r → rolled_back now ≡ rolled_back old
 replied_undone plan outside old want now (answer s) h = h.1
 replied_undone plan outside old want now (document d) h = making_undone plan outside old want now d h
 
-pub goes_on_undone : (plan : Plan) (first : Bool) (start : Work) (all : Wanted) (now : Work) (es : List Document) (o : Option Data)
-    → GoesOn plan first start all now es o → undone now ≡ undone start
+pub goes_on_undone : (plan : Plan) (first : Bool) (start : Registry) (all : Wanted) (now : Registry) (es : List Document) (o : Option Data)
+    → GoesOn plan first start all now es o → rolled_back now ≡ rolled_back start
 goes_on_undone plan first start all now es o h = replied_undone plan h.outside h.old h.want now h.reply h.replied
     ∙ waiting_undone plan first start all h.outside h.old h.want h.around h.waiting
 
@@ -404,15 +404,15 @@ goes_on_undone plan first start all now es o h = replied_undone plan h.outside h
 same_answer : (s t : Data) → Some s ≡ Some t → s ≡ t
 same_answer s t e = cc
 
-module _ (plan : Plan) (first : Bool) (start : Work) (all : Wanted) (now : Work) where
-  home : (outside : Bool) (old : Work) (want : Wanted) (ds : List Document) (r : Reply) (t : Data) → IsGivenBack r ds [] (Some t)
+module _ (plan : Plan) (first : Bool) (start : Registry) (all : Wanted) (now : Registry) where
+  home : (outside : Bool) (old : Registry) (want : Wanted) (ds : List Document) (r : Reply) (t : Data) → IsGivenBack r ds [] (Some t)
       → AreWaiting plan first start all outside old want ds → IsRepliedBy plan outside old want now r
       → Step plan start now × IsReply plan first start now all t
   home outside old want ds (answer u) t given waiting replied =
       let same : t ≡ u = same_answer t u given.0 in
       let none : AreWaiting plan first start all outside old want [] =
       subst (λ xs. AreWaiting plan first start all outside old want xs) (sym given.1) waiting in
-      let P : Bool → Work → Wanted → Type 0 = λ b w x. IsRepliedBy plan b w x now (answer t) in
+      let P : Bool → Registry → Wanted → Type 0 = λ b w x. IsRepliedBy plan b w x now (answer t) in
       let here : P outside old want = subst (λ v. IsRepliedBy plan outside old want now (answer v)) (sym same) replied in
       let is : P first start all = subst (λ x. P first start x) none.2 (subst (λ w. P first w want) none.1
       (subst (λ b. P b old want) none.0 here)) in
@@ -428,7 +428,7 @@ module _ (plan : Plan) (first : Bool) (start : Work) (all : Wanted) (now : Work)
       (home h.outside h.old h.want h.around h.reply t h.given h.waiting h.replied)
   taken_home (d ∷ ds) (Some t) fs s is h = absurd (none-some s (sym is.0))
 
-  going : (outside : Bool) (old : Work) (want : Wanted) (around es : List Document) (r : Reply) → IsGivenBack r around es None
+  going : (outside : Bool) (old : Registry) (want : Wanted) (around es : List Document) (r : Reply) → IsGivenBack r around es None
       → AreWaiting plan first start all outside old want around → IsRepliedBy plan outside old want now r
       → AreMaking plan first start all now es
   going outside old want around es (answer s) given waiting replied = absurd (none-some s given.0)
@@ -444,7 +444,7 @@ module _ (plan : Plan) (first : Bool) (start : Work) (all : Wanted) (now : Work)
   }
 
   -- the first document waits for an answer that is at hand
-  waits : (outside : Bool) (old : Work) (want : Wanted) (around es : List Document) (r : Reply) (t : Data)
+  waits : (outside : Bool) (old : Registry) (want : Wanted) (around es : List Document) (r : Reply) (t : Data)
       → IsGivenBack r around es (Some t)
       → AreWaiting plan first start all outside old want around → IsRepliedBy plan outside old want now r
       → AreWaiting plan first start all outside old want es × IsRepliedBy plan outside old want now (answer t)
@@ -476,27 +476,27 @@ module _ (plan : Plan) (first : Bool) (start : Work) (all : Wanted) (now : Work)
 
   -- and has as much to go
   pub taken_left : (es : List Document) (o : Option Data) (fs : List Document) → IsTaken es o fs None
-      → GoesOn plan first start all now es o → left_making plan now fs ≡ left_of_turn plan now es o
-  taken_left es None fs is h = ap (left_making plan now) is.1
+      → GoesOn plan first start all now es o → measure_of_making plan now fs ≡ measure_of_turn plan now es o
+  taken_left es None fs is h = ap (measure_of_making plan now) is.1
   taken_left [] (Some t) fs is h = absurd (none-some t is)
   taken_left (d ∷ ds) (Some t) fs is h =
       let both = waits h.outside h.old h.want h.around (d ∷ ds) h.reply t h.given h.waiting h.replied in
-      ap (left_making plan now) is.2 ∙ answered_same plan now d is.1 t ds both.0.4.less is.3
+      ap (measure_of_making plan now) is.2 ∙ answered_same plan now d is.1 t ds both.0.4.less is.3
 
-pub making_first : (plan : Plan) (first : Bool) (start : Work) (all : Wanted) (now : Work) (es : List Document)
+pub making_first : (plan : Plan) (first : Bool) (start : Registry) (all : Wanted) (now : Registry) (es : List Document)
     → AreMaking plan first start all now es → HasFirst (IsTemplate plan) es
 making_first plan first start all now es h = subst (λ xs. HasFirst (IsTemplate plan) xs) (sym h.are) h.making.template
 
 -- ---- a call has replied
 
-pub turn_left : (p : Plan) (w : Work) (r : Reply) (ds es : List Document) (o : Option Data) → IsGivenBack r ds es o
-    → left_of_turn p w es o ≡ left_of_reply p w r ds
-turn_left p w (answer s) ds es o given = ap (λ x. left_of_turn p w es x) given.0 ∙ ap (left_waiting p w w.pending) given.1
-turn_left p w (document d) ds es o given = ap (λ x. left_of_turn p w es x) given.0 ∙ ap (left_making p w) given.1
+pub turn_left : (p : Plan) (w : Registry) (r : Reply) (ds es : List Document) (o : Option Data) → IsGivenBack r ds es o
+    → measure_of_turn p w es o ≡ measure_of_reply p w r ds
+turn_left p w (answer s) ds es o given = ap (λ x. measure_of_turn p w es x) given.0 ∙ ap (left_waiting p w w.pending) given.1
+turn_left p w (document d) ds es o given = ap (λ x. measure_of_turn p w es x) given.0 ∙ ap (measure_of_making p w) given.1
 
 -- what leads to what a call has replied to
-pub replied_through : (plan : Plan) (inside : Bool) (old : Work) (want : Wanted) (mid : Work) (got : Wanted) (ds : List Document)
-    (L M : Reply → Type 0) (now : Work) (es : List Document) (o : Option Data) → ComesFrom plan inside old want mid got
+pub replied_through : (plan : Plan) (inside : Bool) (old : Registry) (want : Wanted) (mid : Registry) (got : Wanted) (ds : List Document)
+    (L M : Reply → Type 0) (now : Registry) (es : List Document) (o : Option Data) → ComesFrom plan inside old want mid got
     → ((r : Reply) → L r → M r) → HasReplied plan inside mid got ds L now es o → HasReplied plan inside old want ds M now es o
 replied_through plan inside old want mid got ds L M now es o leads like h = record {
   reply = h.reply;
@@ -516,7 +516,7 @@ last_is_first P xs (d ∷ ds) x n long is at has = subst P (sym (at ∙ last_got
 first_same : (x y : Document) (xs ys : List Document) → x ∷ xs ≡ y ∷ ys → (x ≡ y) × (xs ≡ ys)
 first_same x y xs ys e = (cc, cc)
 
-module _ (plan : Plan) (first : Bool) (start : Work) (all : Wanted) (now new : Work) (es fs : List Document) (o : Option Data)
+module _ (plan : Plan) (first : Bool) (start : Registry) (all : Wanted) (now new : Registry) (es fs : List Document) (o : Option Data)
     (at : AreMaking plan first start all now es) where
   -- the first document asks
   pub asking_goes_on : (inside : Bool) (a : Ask) (L : Reply → Type 0) → IsNext at.inner inside (asked a)
@@ -535,17 +535,17 @@ module _ (plan : Plan) (first : Bool) (start : Work) (all : Wanted) (now new : W
       }
 
   pub asking_goes_less : (inside : Bool) (a : Ask) (k : ℕ) → k < document_rank plan now now.pending at.inner.row at.inner.purpose
-      → HasReplied plan inside now (asked a) es (IsWithin plan k new) new fs o → left_of_turn plan new fs o < left_making plan now es
+      → HasReplied plan inside now (asked a) es (IsWithin plan k new) new fs o → measure_of_turn plan new fs o < measure_of_making plan now es
   asking_goes_less inside a k low h =
-      let P : List Document → Type 0 = λ xs. left_of_reply plan new h.reply xs < left_making plan now xs in
+      let P : List Document → Type 0 = λ xs. measure_of_reply plan new h.reply xs < measure_of_making plan now xs in
       let less : P es = subst P (sym at.are)
       (asking_less plan inside (asked a) now new at.inner at.around h.reply k h.replied h.is_like low) in
       let same = turn_left plan new h.reply es fs o h.given in
-      subst (λ m. m < left_making plan now es) (sym same) less
+      subst (λ m. m < measure_of_making plan now es) (sym same) less
 
   -- the first document is done
   module _ (d : Document) (ds : List Document) (are : es ≡ d ∷ ds)
-      (closes : (outside : Bool) (old : Work) (want : Wanted) → IsInMaking plan outside old want now d
+      (closes : (outside : Bool) (old : Registry) (want : Wanted) → IsInMaking plan outside old want now d
       → HasReplied plan outside old want ds (IsLess plan now d ds new) new fs o) where
     same : (at.inner ≡ d) × (at.around ≡ ds)
     same = first_same at.inner d at.around ds (sym at.are ∙ are)
@@ -565,8 +565,8 @@ module _ (plan : Plan) (first : Bool) (start : Work) (all : Wanted) (now new : W
       replied = closed.replied;
     }
 
-    pub closing_goes_less : left_of_turn plan new fs o < left_making plan now es
+    pub closing_goes_less : measure_of_turn plan new fs o < measure_of_making plan now es
     closing_goes_less =
         let left = turn_left plan new closed.reply ds fs o closed.given in
-        subst (λ m. left_of_turn plan new fs o < m) (sym (ap (left_making plan now) are))
-        (subst (λ m. m < left_making plan now (d ∷ ds)) (sym left) closed.is_like)
+        subst (λ m. measure_of_turn plan new fs o < m) (sym (ap (measure_of_making plan now) are))
+        (subst (λ m. m < measure_of_making plan now (d ∷ ds)) (sym left) closed.is_like)

@@ -7,7 +7,7 @@ use Rattle.serde_json.specs.Find.{get_member}
 use Rattle.schemars_schema.specs.Json.{Text}
 use Rattle.schemars_schema.specs.Edits.{without, replaced}
 use Rattle.schemars_definitions.proofs.Members.{without-put, without-replaced, without-replaced_other}
-use Rattle.schemars_build.specs.Work.{without_all}
+use Rattle.schemars_build.specs.Registry.{without_all}
 
 pub without_all-joined : (ks : List Text) (k : Text) (ms : Members) → without_all (ks ++ k ∷ []) ms ≡ without_all ks (without k ms)
 without_all-joined [] k ms = refl

@@ -13,7 +13,7 @@ use Rattle.schemars_documents.specs.declared.template.SchemaTemplate.{SchemaTemp
 use Rattle.schemars_documents.specs.OfShape.{entry_template}
 use Rattle.schemars_build.specs.Naming.{name_of}
 use Rattle.schemars_build.specs.Placed.{is_pending, pending_in}
-use Rattle.schemars_build.specs.Work.{Plan, Work, Step, undone, reference_to, basis_of_plan}
+use Rattle.schemars_build.specs.Registry.{Plan, Registry, Step, rolled_back, reference_to, basis_of_plan}
 use Rattle.schemars_build.specs.Missing.{row_asked}
 use Rattle.schemars_build.specs.Parts.{IsOwn, IsMade, IsFilledIn, IsAnswer, AreAnswers}
 use Rattle.schemars_build.specs.declared.build.Document.{Document}
@@ -42,7 +42,7 @@ row_wanted (defined k) = 0
 row_wanted (flattened n optional) = n
 row_wanted (asked a) = row_asked a
 
-abbrev pub IsReply : Plan → Bool → Work → Work → Wanted → Data → Type 0
+abbrev pub IsReply : Plan → Bool → Registry → Registry → Wanted → Data → Type 0
 IsReply plan inside old new (own n) s = IsOwn plan inside old new n s
 IsReply plan inside old new (defined k) s = IsMade plan old new k × (s ≡ reference (reference_to plan.path k))
 IsReply plan inside old new (flattened n optional) s = (d : Data) × IsFilledIn plan inside old new n d × (s ≡ flattened_part optional d)
@@ -58,7 +58,7 @@ wanted_for n (purpose.Members optional) = flattened n optional
 wanted_for n purpose.Content = asked (content n)
 
 -- a document that is wanted at `mid` is begun at `start`: the row is entered, and a definition gets its dummy
-abbrev pub IsBegun : Plan → Bool → Work → Work → ℕ → Bool → Purpose → Type 0
+abbrev pub IsBegun : Plan → Bool → Registry → Registry → ℕ → Bool → Purpose → Type 0
 IsBegun plan outside mid start n inside (purpose.Own entered) =
     (inside ≡ outside)
     × (entered ≡ plan.inlines && not (is_pending mid.pending n))
@@ -93,20 +93,20 @@ abbrev pub IsOpened : Plan → Bool → ℕ → Purpose → Document → Type 0
 IsOpened plan inside n p d = (d.row ≡ n) × (d.purpose ≡ p) × (d.in_definition ≡ inside) × (d.answers.items ≡ []) × IsTemplate plan d
 
 -- what is wanted at `old` is given by what is got, later on, of what is wanted at `mid`
-pub record ComesFrom (plan : Plan) (inside : Bool) (old : Work) (want : Wanted) (mid : Work) (got : Wanted) : Type 0 where
+pub record ComesFrom (plan : Plan) (inside : Bool) (old : Registry) (want : Wanted) (mid : Registry) (got : Wanted) : Type 0 where
   pub step : Step plan old mid
-  pub undone : undone mid ≡ undone old
-  pub gives : (new : Work) (s : Data) → Step plan mid new → IsReply plan inside mid new got s → IsReply plan inside old new want s
+  pub rolled_back : rolled_back mid ≡ rolled_back old
+  pub gives : (new : Registry) (s : Data) → Step plan mid new → IsReply plan inside mid new got s → IsReply plan inside old new want s
 
 -- a document is being made for what is wanted at `old`; the first of the rows that it asks have answered by now
-pub record IsInMaking (plan : Plan) (outside : Bool) (old : Work) (want : Wanted) (now : Work) (d : Document) : Type 0 where
+pub record IsInMaking (plan : Plan) (outside : Bool) (old : Registry) (want : Wanted) (now : Registry) (d : Document) : Type 0 where
   pub template : IsTemplate plan d
-  pub mid : Work
-  pub start : Work
+  pub mid : Registry
+  pub start : Registry
   pub leads : ComesFrom plan outside old want mid (wanted_for d.row d.purpose)
   pub begun : IsBegun plan outside mid start d.row d.in_definition d.purpose
   pub step : Step plan start now
-  pub undone : undone now ≡ undone start
+  pub rolled_back : rolled_back now ≡ rolled_back start
   pub answers : AreAnswers plan d.in_definition start now (map ask_of (take (length d.answers.items) d.asks.items)) d.answers.items
 
 -- the same document, with one answer more
@@ -131,11 +131,11 @@ pub record IsNext (d : Document) (outside : Bool) (want : Wanted) : Type 0 where
 
 -- the first of these documents waits for what is wanted at `old`, and each other one for the one before it; the last is made for
 -- what was wanted first, at `start`
-abbrev pub AreWaiting : Plan → Bool → Work → Wanted → Bool → Work → Wanted → List Document → Type 0
+abbrev pub AreWaiting : Plan → Bool → Registry → Wanted → Bool → Registry → Wanted → List Document → Type 0
 AreWaiting plan first start all outside old want [] = (outside ≡ first) × (old ≡ start) × (want ≡ all)
 AreWaiting plan first start all outside old want (d ∷ ds) =
     (around : Bool)
-    × (before : Work)
+    × (before : Registry)
     × (more : Wanted)
     × IsInMaking plan around before more old d
     × IsNext d outside want
@@ -148,10 +148,10 @@ pub data Reply : Type 0 where
   document : Document → Reply
 
 -- a reply to what is wanted at `old`: what is wanted, or a document for it
-abbrev pub IsRepliedBy : Plan → Bool → Work → Wanted → Work → Reply → Type 0
+abbrev pub IsRepliedBy : Plan → Bool → Registry → Wanted → Registry → Reply → Type 0
 IsRepliedBy plan outside old want now (answer s) =
     Step plan old now
-    × (undone now ≡ undone old)
+    × (rolled_back now ≡ rolled_back old)
     × IsReply plan outside old now want s
 IsRepliedBy plan outside old want now (document d) = IsInMaking plan outside old want now d
 
@@ -161,8 +161,8 @@ IsGivenBack (answer s) ds es o = (o ≡ Some s) × (es ≡ ds)
 IsGivenBack (document d) ds es o = (o ≡ None) × (es ≡ d ∷ ds)
 
 -- there is a reply like that to what is wanted
-pub record HasReplied (plan : Plan) (outside : Bool) (old : Work) (want : Wanted) (ds : List Document) (IsLike : Reply → Type 0)
-    (now : Work)
+pub record HasReplied (plan : Plan) (outside : Bool) (old : Registry) (want : Wanted) (ds : List Document) (IsLike : Reply → Type 0)
+    (now : Registry)
     (es : List Document) (o : Option Data) : Type 0 where
   pub reply : Reply
   pub given : IsGivenBack reply ds es o
@@ -170,10 +170,10 @@ pub record HasReplied (plan : Plan) (outside : Bool) (old : Work) (want : Wanted
   pub is_like : IsLike reply
 
 -- a reply to what is waited for
-pub record GoesOn (plan : Plan) (first : Bool) (start : Work) (all : Wanted) (now : Work) (es : List Document)
+pub record GoesOn (plan : Plan) (first : Bool) (start : Registry) (all : Wanted) (now : Registry) (es : List Document)
     (o : Option Data) : Type 0 where
   pub outside : Bool
-  pub old : Work
+  pub old : Registry
   pub want : Wanted
   pub around : List Document
   pub reply : Reply
@@ -195,9 +195,9 @@ HasFirst IsLike [] = ⊥
 HasFirst IsLike (d ∷ ds) = IsLike d
 
 -- the first document is being made, and the others wait
-pub record AreMaking (plan : Plan) (first : Bool) (start : Work) (all : Wanted) (now : Work) (es : List Document) : Type 0 where
+pub record AreMaking (plan : Plan) (first : Bool) (start : Registry) (all : Wanted) (now : Registry) (es : List Document) : Type 0 where
   pub outside : Bool
-  pub old : Work
+  pub old : Registry
   pub want : Wanted
   pub inner : Document
   pub around : List Document

@@ -3,8 +3,8 @@ ghost use Rattle.std.specs.Prelude.{Bool, codes, reverse, ◌≡◌, ◌<◌, �
 ghost use Rattle.schemars_types.specs.Faults.{IsChecked};
 ghost use Rattle.schemars_documents.specs.Documents.{reference};
 ghost use Rattle.schemars_build.specs.Placed.{is_in_place};
-ghost use Rattle.schemars_build.specs.Work as specs;
-ghost use Rattle.schemars_build.specs.Work.{Step, undone, reference_to};
+ghost use Rattle.schemars_build.specs.Registry as specs;
+ghost use Rattle.schemars_build.specs.Registry.{Step, rolled_back, reference_to};
 ghost use Rattle.schemars_build.specs.Plans.{plan_of};
 ghost use Rattle.schemars_types.specs.Edges.{is_inline_at};
 ghost use Rattle.schemars_documents.specs.Template as spec;
@@ -12,10 +12,10 @@ ghost use Rattle.schemars_documents.specs.View.{ask_of};
 ghost use Rattle.schemars_build.specs.Missing.{row_asked};
 ghost use Rattle.schemars_build.specs.Parts.{IsAnswer, IsOwn};
 ghost use Rattle.schemars_build.specs.Making.{Wanted, own, asked, wanted, row_wanted, IsReply, IsTemplate, IsTemplateAt, IsOpened, IsInMaking, document, IsGivenBack, HasReplied, GoesOn, IsTaken, HasFirst, AreMaking};
-ghost use Rattle.schemars_build.specs.Left.{left_of_asked, left_of_own_document, left_of_part, left_making, left_of_turn, IsWithin, IsLess};
+ghost use Rattle.schemars_build.specs.Measure.{measure_of_asked, measure_of_own_document, measure_of_part, measure_of_making, measure_of_turn, IsWithin, IsLess};
 ghost use Rattle.schemars_build.specs.declared.build.Document as src;
 
-use crate::work::Work;
+use crate::registry::Registry;
 use schemars_definitions::Definitions;
 use schemars_documents::entry_template;
 use schemars_documents::template::basis::Basis;
@@ -79,17 +79,17 @@ enum Request {
 pub fn own_document<D: Definitions>(
     alloc: Global,
     plan: &Plan<'_>,
-    work: &mut Work<D>,
+    registry: &mut Registry<D>,
     in_definition: bool,
     n: TypeNo,
 ) -> Result<Schema, AllocError>
     requires checked { IsChecked (plan_of plan.now).rows }
     requires known { n < length (plan_of plan.now).rows }
-    ensures undone { undone work.new ≡ undone work.old }
-    ensures step { OnOk result (Step (plan_of plan.now) work.old work.new) }
-    ensures is { IfOk result (IsOwn (plan_of plan.now) in_definition work.old work.new n) }
+    ensures rolled_back { rolled_back registry.new ≡ rolled_back registry.old }
+    ensures step { OnOk result (Step (plan_of plan.now) registry.old registry.new) }
+    ensures is { IfOk result (IsOwn (plan_of plan.now) in_definition registry.old registry.new n) }
 {
-    let own = made(alloc, plan, work, in_definition, Request::Own(n))?;
+    let own = run(alloc, plan, registry, in_definition, Request::Own(n))?;
     Ok(own)
 }
 
@@ -98,50 +98,50 @@ pub fn own_document<D: Definitions>(
 pub fn answer<D: Definitions>(
     alloc: Global,
     plan: &Plan<'_>,
-    work: &mut Work<D>,
+    registry: &mut Registry<D>,
     in_definition: bool,
     ask: Ask,
 ) -> Result<Schema, AllocError>
     requires checked { IsChecked (plan_of plan.now).rows }
     requires known { row_asked (ask_of ask) < length (plan_of plan.now).rows }
-    ensures undone { undone work.new ≡ undone work.old }
-    ensures step { OnOk result (Step (plan_of plan.now) work.old work.new) }
-    ensures is { IfOk result (IsAnswer (plan_of plan.now) in_definition work.old work.new
+    ensures rolled_back { rolled_back registry.new ≡ rolled_back registry.old }
+    ensures step { OnOk result (Step (plan_of plan.now) registry.old registry.new) }
+    ensures is { IfOk result (IsAnswer (plan_of plan.now) in_definition registry.old registry.new
         (ask_of ask)) }
 {
-    let answer = made(alloc, plan, work, in_definition, Request::Asked(ask))?;
+    let answer = run(alloc, plan, registry, in_definition, Request::Asked(ask))?;
     Ok(answer)
 }
 
 // Answers the request. The documents that are being made are in a list, the innermost last: each
 // waits for the one after it, and no call waits in another call for it.
-fn made<D: Definitions>(
+fn run<D: Definitions>(
     alloc: Global,
     plan: &Plan<'_>,
-    work: &mut Work<D>,
+    registry: &mut Registry<D>,
     in_definition: bool,
     request: Request,
 ) -> Result<Schema, AllocError>
     requires checked { IsChecked (plan_of plan.now).rows }
     requires known { row_wanted (wanted request) < length (plan_of plan.now).rows }
-    ensures undone { undone work.new ≡ undone work.old }
-    ensures step { OnOk result (Step (plan_of plan.now) work.old work.new) }
+    ensures rolled_back { rolled_back registry.new ≡ rolled_back registry.old }
+    ensures step { OnOk result (Step (plan_of plan.now) registry.old registry.new) }
     ensures is { IfOk result
-        (IsReply (plan_of plan.now) in_definition work.old work.new (wanted request)) }
+        (IsReply (plan_of plan.now) in_definition registry.old registry.new (wanted request)) }
 {
     let mut making = Vec::new(alloc);
-    let mut answer = begun(alloc, plan, work, &mut making, in_definition, request)?;
+    let mut answer = start(alloc, plan, registry, &mut making, in_definition, request)?;
     'going: loop {
-        let last = taken(&mut making, answer)?;
+        let last = deliver(&mut making, answer)?;
         if let Some(schema) = last {
             return Ok(schema);
         }
-        answer = resumed(alloc, plan, work, &mut making)?;
+        answer = step(alloc, plan, registry, &mut making)?;
     }
 }
 
 // Gives an answer to the document that waits for it. Where none waits, it is what was asked first.
-fn taken(
+fn deliver(
     making: &mut Vec<Document<'_>>,
     answer: Option<Schema>,
 ) -> Result<Option<Schema>, AllocError>
@@ -158,22 +158,22 @@ fn taken(
 }
 
 // Goes on with the innermost document: it asks the next row, or is done where all have answered.
-fn resumed<'t, D: Definitions>(
+fn step<'t, D: Definitions>(
     alloc: Global,
     plan: &Plan<'t>,
-    work: &mut Work<D>,
+    registry: &mut Registry<D>,
     making: &mut Vec<Document<'t>>,
 ) -> Result<Option<Schema>, AllocError>
     requires checked { IsChecked (plan_of plan.now).rows }
     requires first { HasFirst (IsTemplate (plan_of plan.now)) (reverse making.old.items) }
-    ensures undone { OnErr result (undone work.new ≡ undone work.old) }
-    ensures goes_on { IfOk result (λ o. (first : Bool) (start : specs.Work) (all : Wanted)
-        → AreMaking (plan_of plan.now) first start all work.old (reverse making.old.items)
-        → GoesOn (plan_of plan.now) first start all work.new (reverse making.new.items) o) }
-    ensures less { IfOk result (λ o. (first : Bool) (start : specs.Work) (all : Wanted)
-        → AreMaking (plan_of plan.now) first start all work.old (reverse making.old.items)
-        → left_of_turn (plan_of plan.now) work.new (reverse making.new.items) o
-        < left_making (plan_of plan.now) work.old (reverse making.old.items)) }
+    ensures rolled_back { OnErr result (rolled_back registry.new ≡ rolled_back registry.old) }
+    ensures goes_on { IfOk result (λ o. (first : Bool) (start : specs.Registry) (all : Wanted)
+        → AreMaking (plan_of plan.now) first start all registry.old (reverse making.old.items)
+        → GoesOn (plan_of plan.now) first start all registry.new (reverse making.new.items) o) }
+    ensures less { IfOk result (λ o. (first : Bool) (start : specs.Registry) (all : Wanted)
+        → AreMaking (plan_of plan.now) first start all registry.old (reverse making.old.items)
+        → measure_of_turn (plan_of plan.now) registry.new (reverse making.new.items) o
+        < measure_of_making (plan_of plan.now) registry.old (reverse making.old.items)) }
 {
     let (in_definition, next) = match making.last() {
         Some(document) => (
@@ -183,33 +183,33 @@ fn resumed<'t, D: Definitions>(
         None => unreachable!(),
     };
     if let Some(ask) = next {
-        return reply_to(alloc, plan, work, making, in_definition, ask);
+        return reply_to(alloc, plan, registry, making, in_definition, ask);
     }
     match making.pop() {
-        Some(document) => closed(alloc, plan, work, making, document),
+        Some(document) => finish_document(alloc, plan, registry, making, document),
         None => unreachable!(),
     }
 }
 
 // Replies to the first request.
-fn begun<'t, D: Definitions>(
+fn start<'t, D: Definitions>(
     alloc: Global,
     plan: &Plan<'t>,
-    work: &mut Work<D>,
+    registry: &mut Registry<D>,
     making: &mut Vec<Document<'t>>,
     in_definition: bool,
     request: Request,
 ) -> Result<Option<Schema>, AllocError>
     requires checked { IsChecked (plan_of plan.now).rows }
     requires known { row_wanted (wanted request) < length (plan_of plan.now).rows }
-    ensures undone { undone work.new ≡ undone work.old }
+    ensures rolled_back { rolled_back registry.new ≡ rolled_back registry.old }
     ensures replies { IfOk result
-        (HasReplied (plan_of plan.now) in_definition work.old (wanted request)
-        (reverse making.old.items) (λ r. Unit {0}) work.new (reverse making.new.items)) }
+        (HasReplied (plan_of plan.now) in_definition registry.old (wanted request)
+        (reverse making.old.items) (λ r. Unit {0}) registry.new (reverse making.new.items)) }
 {
     match request {
-        Request::Own(n) => own(alloc, plan, work, making, in_definition, n),
-        Request::Asked(ask) => reply_to(alloc, plan, work, making, in_definition, ask),
+        Request::Own(n) => start_own(alloc, plan, registry, making, in_definition, n),
+        Request::Asked(ask) => reply_to(alloc, plan, registry, making, in_definition, ask),
     }
 }
 
@@ -218,57 +218,57 @@ fn begun<'t, D: Definitions>(
 fn reply_to<'t, D: Definitions>(
     alloc: Global,
     plan: &Plan<'t>,
-    work: &mut Work<D>,
+    registry: &mut Registry<D>,
     making: &mut Vec<Document<'t>>,
     in_definition: bool,
     ask: Ask,
 ) -> Result<Option<Schema>, AllocError>
     requires checked { IsChecked (plan_of plan.now).rows }
     requires known { row_asked (ask_of ask) < length (plan_of plan.now).rows }
-    ensures undone { undone work.new ≡ undone work.old }
+    ensures rolled_back { rolled_back registry.new ≡ rolled_back registry.old }
     ensures replies { IfOk result
-        (HasReplied (plan_of plan.now) in_definition work.old (asked (ask_of ask))
+        (HasReplied (plan_of plan.now) in_definition registry.old (asked (ask_of ask))
         (reverse making.old.items) (IsWithin (plan_of plan.now)
-        (left_of_asked (plan_of plan.now) work.old (ask_of ask)) work.new)
-        work.new (reverse making.new.items)) }
+        (measure_of_asked (plan_of plan.now) registry.old (ask_of ask)) registry.new)
+        registry.new (reverse making.new.items)) }
 {
     match ask {
-        Ask::Part(n) => part(alloc, plan, work, making, in_definition, n),
+        Ask::Part(n) => place_part(alloc, plan, registry, making, in_definition, n),
         Ask::MembersOf(n, required) => {
             let inner = without_options(plan.types, n);
             let is_optional = !required && row_inside(plan.types, n).is_some();
             let purpose = Purpose::Members(is_optional);
-            opened(alloc, plan, making, in_definition, inner, purpose)
+            push_document(alloc, plan, making, in_definition, inner, purpose)
         }
-        Ask::Content(n) => opened(alloc, plan, making, in_definition, n, Purpose::Content),
+        Ask::Content(n) => push_document(alloc, plan, making, in_definition, n, Purpose::Content),
     }
 }
 
 // The row's own document: done, where it asks nothing, or begun. Where rows are inlined, the row is
 // pending until it is done.
-fn own<'t, D: Definitions>(
+fn start_own<'t, D: Definitions>(
     alloc: Global,
     plan: &Plan<'t>,
-    work: &mut Work<D>,
+    registry: &mut Registry<D>,
     making: &mut Vec<Document<'t>>,
     in_definition: bool,
     n: TypeNo,
 ) -> Result<Option<Schema>, AllocError>
     requires checked { IsChecked (plan_of plan.now).rows }
     requires known { n < length (plan_of plan.now).rows }
-    ensures undone { undone work.new ≡ undone work.old }
+    ensures rolled_back { rolled_back registry.new ≡ rolled_back registry.old }
     ensures replies { IfOk result
-        (HasReplied (plan_of plan.now) in_definition work.old (own n)
+        (HasReplied (plan_of plan.now) in_definition registry.old (own n)
         (reverse making.old.items) (IsWithin (plan_of plan.now)
-        (left_of_own_document (plan_of plan.now) work.old n) work.new)
-        work.new (reverse making.new.items)) }
+        (measure_of_own_document (plan_of plan.now) registry.old n) registry.new)
+        registry.new (reverse making.new.items)) }
 {
-    let entered = work.enter(plan.inlines, n)?;
+    let entered = registry.enter(plan.inlines, n)?;
     let template = template_at(alloc, plan, n)?;
     let asks = template.asks(alloc)?;
     if asks.is_empty() {
         let schema = fill(alloc, template, VecDeque::new(alloc))?;
-        work.leave(entered);
+        registry.leave(entered);
         return Ok(Some(schema));
     }
     let answers = VecDeque::with_capacity(alloc, asks.len())?;
@@ -285,39 +285,39 @@ fn own<'t, D: Definitions>(
 
 // Replies with row `n` as a part: with a reference to its definition or to the root, or with what
 // is to stand in its place or in its definition.
-fn part<'t, D: Definitions>(
+fn place_part<'t, D: Definitions>(
     alloc: Global,
     plan: &Plan<'t>,
-    work: &mut Work<D>,
+    registry: &mut Registry<D>,
     making: &mut Vec<Document<'t>>,
     in_definition: bool,
     n: TypeNo,
 ) -> Result<Option<Schema>, AllocError>
     requires checked { IsChecked (plan_of plan.now).rows }
     requires known { n < length (plan_of plan.now).rows }
-    ensures undone { undone work.new ≡ undone work.old }
+    ensures rolled_back { rolled_back registry.new ≡ rolled_back registry.old }
     ensures replies { IfOk result
-        (HasReplied (plan_of plan.now) in_definition work.old (asked (spec.part n))
+        (HasReplied (plan_of plan.now) in_definition registry.old (asked (spec.part n))
         (reverse making.old.items) (IsWithin (plan_of plan.now)
-        (left_of_part (plan_of plan.now) work.old n) work.new)
-        work.new (reverse making.new.items)) }
+        (measure_of_part (plan_of plan.now) registry.old n) registry.new)
+        registry.new (reverse making.new.items)) }
 {
-    if is_in_place(plan, work, n) {
-        return own(alloc, plan, work, making, in_definition, n);
+    if is_in_place(plan, registry, n) {
+        return start_own(alloc, plan, registry, making, in_definition, n);
     }
     if plan.root == Some(n) {
-        work.meet_root(in_definition);
+        registry.note_root_reference(in_definition);
         let root = root_reference(alloc)?;
         return Ok(Some(root));
     }
-    let is_named = work.is_named(plan.contract, n);
-    let name = work.name_for(alloc, plan.types, plan.contract, n)?;
-    if !work.begin_new(alloc, name.as_str(), is_named)? {
+    let is_named = registry.is_named(plan.contract, n);
+    let name = registry.name_for(alloc, plan.types, plan.contract, n)?;
+    if !registry.begin_new(alloc, name.as_str(), is_named)? {
         let reference = reference_to(alloc, plan.path, name.as_str())?;
         return Ok(Some(reference));
     }
-    let entered = work.enter(plan.inlines, n)?;
-    opened(
+    let entered = registry.enter(plan.inlines, n)?;
+    push_document(
         alloc,
         plan,
         making,
@@ -328,14 +328,14 @@ fn part<'t, D: Definitions>(
 }
 
 // Whether row `n` is in place where it is a part.
-fn is_in_place<D: Definitions>(plan: &Plan<'_>, work: &Work<D>, n: TypeNo) -> bool
-    ensures { result ≡ is_in_place (plan_of plan.now).rows plan.now.inlines work.now.pending n }
+fn is_in_place<D: Definitions>(plan: &Plan<'_>, registry: &Registry<D>, n: TypeNo) -> bool
+    ensures { result ≡ is_in_place (plan_of plan.now).rows plan.now.inlines registry.now.pending n }
 {
-    is_inline(plan.types, n) || (plan.inlines && !work.is_pending(n))
+    is_inline(plan.types, n) || (plan.inlines && !registry.is_pending(n))
 }
 
 // Begins the document of row `n`, with its notes, of which nothing has been answered.
-fn opened<'t>(
+fn push_document<'t>(
     alloc: Global,
     plan: &Plan<'t>,
     making: &mut Vec<Document<'t>>,
@@ -386,22 +386,22 @@ fn template_at<'t>(
 }
 
 // Replies with what is made of a document whose parts have all answered.
-fn closed<'t, D: Definitions>(
+fn finish_document<'t, D: Definitions>(
     alloc: Global,
     plan: &Plan<'t>,
-    work: &mut Work<D>,
+    registry: &mut Registry<D>,
     making: &mut Vec<Document<'t>>,
     document: Document<'t>,
 ) -> Result<Option<Schema>, AllocError>
     requires checked { IsChecked (plan_of plan.now).rows }
     requires template { IsTemplate (plan_of plan.now) document }
     requires all_answered { length document.asks.items ≤ length document.answers.items }
-    ensures undone { OnErr result (undone work.new ≡ undone work.old) }
-    ensures replies { IfOk result (λ o. (outside : Bool) (old : specs.Work) (want : Wanted)
-        → IsInMaking (plan_of plan.now) outside old want work.old document.entry
+    ensures rolled_back { OnErr result (rolled_back registry.new ≡ rolled_back registry.old) }
+    ensures replies { IfOk result (λ o. (outside : Bool) (old : specs.Registry) (want : Wanted)
+        → IsInMaking (plan_of plan.now) outside old want registry.old document.entry
         → HasReplied (plan_of plan.now) outside old want (reverse making.old.items)
-        (IsLess (plan_of plan.now) work.old document.entry (reverse making.old.items) work.new)
-        work.new (reverse making.new.items) o) }
+        (IsLess (plan_of plan.now) registry.old document.entry (reverse making.old.items) registry.new)
+        registry.new (reverse making.new.items) o) }
 {
     let Document {
         row,
@@ -414,13 +414,13 @@ fn closed<'t, D: Definitions>(
     let mut schema = fill(alloc, template, answers)?;
     match purpose {
         Purpose::Own(entered) => {
-            work.leave(entered);
+            registry.leave(entered);
             Ok(Some(schema))
         }
         Purpose::Definition(name, entered) => {
             let reference = reference_to(alloc, plan.path, name.as_str())?;
-            work.leave(entered);
-            work.finish(alloc, name.as_str(), schema)?;
+            registry.leave(entered);
+            registry.finish(alloc, name.as_str(), schema)?;
             Ok(Some(reference))
         }
         Purpose::Members(is_optional) => {
@@ -429,7 +429,7 @@ fn closed<'t, D: Definitions>(
         }
         Purpose::Content => {
             if !must_be_in_place(&schema, is_inline(plan.types, row) || plan.inlines) {
-                return part(alloc, plan, work, making, in_definition, row);
+                return place_part(alloc, plan, registry, making, in_definition, row);
             }
             open_inside(alloc, &mut schema)?;
             Ok(Some(schema))

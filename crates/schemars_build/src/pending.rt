@@ -2,7 +2,7 @@
 ghost use Rattle.std.specs.Prelude.{ℕ, ◌≡◌, ◌<◌, [], not, length, Some, IfOk, OnOk, OnErr, nat_eq, slice_get};
 ghost use Rattle.indexmap.specs.IndexSet.{insert_key};
 ghost use Rattle.schemars_build.specs.Placed.{is_pending};
-ghost use Rattle.schemars_build.specs.Work.{without_last};
+ghost use Rattle.schemars_build.specs.Registry.{without_last};
 
 use schemars_types::TypeNo;
 use std::alloc::{AllocError, Global};

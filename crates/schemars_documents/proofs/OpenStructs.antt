@@ -13,9 +13,9 @@ use Rattle.schemars_shapes.specs.Shape.{Shape, Field, Flattened, Fields, Entry, 
 use Rattle.schemars_types.specs.KeyOptions.{KeyOptions, key_options}
 use Rattle.schemars_types.specs.Rows.{Row, entry_at}
 use Rattle.schemars_types.specs.Edges.{option_at}
-use Rattle.schemars_types.specs.Effective.{without_options_within, without_options, flattened_fields, weakened, part_fields, shape_fields, fields_within, row_fields, flattened_enums, shape_enums, enums_within, part_enums, enum_at, spread_fields, spread_payload, spread_variant, spread_in}
+use Rattle.schemars_types.specs.Effective.{without_options_within, without_options, flattened_fields, required_only_if, part_fields, shape_fields, fields_within, row_fields, flattened_enums, shape_enums, enums_within, part_enums, enum_at, expanded_fields, expanded_payload, expanded_variant, expanded_shape_in}
 use Rattle.schemars_types.specs.declared.contract.Contract.{Contract}
-use Rattle.schemars_types.specs.Meaning.{Choice, is_required, has_payload, has_variant, has_shape, belongs_within, choices_within, belongs}
+use Rattle.schemars_types.specs.Meaning.{VariantMatch, is_required, has_payload, has_variant, has_shape, belongs_within, choices_within, belongs}
 use Rattle.schemars_types.specs.OpenStructs.{joined_fields, joined_payload, joined_variant, joined_shape, struct_fields_within, joined_in, no_choices, belongs_plainly_within, belongs_plainly}
 use Rattle.schemars_documents.specs.PlainTable.{IsTagged, AreTagged, IsPlainShape, IsOpenStruct, IsPlainPart, ArePlainParts, IsPlainEntry, IsPlainTable, parts_in, payload_parts, variant_parts, PayloadHasNamesApart, VariantsHaveNamesApart, ShapeHasNamesApart, enum_names_at, may_miss, IsPartShape, IsPartEntry, IsPartUnder, ArePartsUnder, IsEntryUnder, IsPlainUnder}
 
@@ -44,7 +44,7 @@ module _ (rows : List Row) where
   pub part_same : (own : ℕ → List Field) (p : Flattened) → IsPlainPart rows p → part_fields rows own p ≡ own p.ty
   part_same own p h =
       let b = bare p h in
-      ap (λ o. if is_some o then map (weakened p.required) (own (without_options rows p.ty)) else own (without_options rows p.ty)) b.0
+      ap (λ o. if is_some o then map (required_only_if p.required) (own (without_options rows p.ty)) else own (without_options rows p.ty)) b.0
       ∙ ap own b.1
 
   flattened_same : (f g : ℕ → List Field) → ((n : ℕ) → f n ≡ g n) → (ps : List Flattened) → ArePlainParts rows ps
@@ -98,27 +98,27 @@ module _ (rows : List Row) where
     abbrev F : Flattened → List Field
     F = part_fields rows (row_fields rows)
 
-    fields_join : (x : Fields) → ArePlainParts rows x.flatten → spread_fields F (part_enums rows) x ≡ joined_fields F x
+    fields_join : (x : Fields) → ArePlainParts rows x.flatten → expanded_fields F (part_enums rows) x ≡ joined_fields F x
     fields_join x h =
         ap (λ ns. record { list = x.list ++ flattened_fields F x.flatten; flatten = map enum_at ns; closed = x.closed })
         (no_enums_in (part_enums rows) x.flatten h part_no_enums)
 
-    payload_join : (p : Payload) → ArePlainParts rows (payload_parts p) → spread_payload F (part_enums rows) p ≡ joined_payload F p
+    payload_join : (p : Payload) → ArePlainParts rows (payload_parts p) → expanded_payload F (part_enums rows) p ≡ joined_payload F p
     payload_join (struct_payload x) h = ap struct_payload (fields_join x h)
     payload_join _ h = refl
 
     variants_join : (xs : List Variant) → ArePlainParts rows (variant_parts xs)
-        → map (spread_variant F (part_enums rows)) xs ≡ map (joined_variant F) xs
+        → map (expanded_variant F (part_enums rows)) xs ≡ map (joined_variant F) xs
     variants_join [] h = refl
     variants_join (x ∷ xs) h =
         let each = parts_apart rows (payload_parts x.payload) (variant_parts xs) h in
         λ i. record { name = x.name; payload = payload_join x.payload each.0 i; notes = x.notes } ∷ variants_join xs each.1 i
 
     -- nothing is left to flatten
-    pub spread_joins : (s : Shape) → ArePlainParts rows (parts_in s) → spread_in rows s ≡ joined_shape F s
-    spread_joins (shape.struct x) h = ap shape.struct (fields_join x h)
-    spread_joins (shape.enum tagging xs) h = ap (shape.enum tagging) (variants_join xs h)
-    spread_joins s h = refl
+    pub expanded_joins : (s : Shape) → ArePlainParts rows (parts_in s) → expanded_shape_in rows s ≡ joined_shape F s
+    expanded_joins (shape.struct x) h = ap shape.struct (fields_join x h)
+    expanded_joins (shape.enum tagging xs) h = ap (shape.enum tagging) (variants_join xs h)
+    expanded_joins s h = refl
 
     abbrev G : Flattened → List Field
     G p = struct_fields_within rows (length rows) p.ty
@@ -145,7 +145,7 @@ module _ (rows : List Row) where
 
 -- ---- the meaning of a shape into which nothing is flattened
 
-module _ (contract : Contract) (C : ℕ → Data → List Choice) (P : ℕ → Data → Bool) (part : Flattened → List Field) where
+module _ (contract : Contract) (C : ℕ → Data → List VariantMatch) (P : ℕ → Data → Bool) (part : Flattened → List Field) where
   payload_means : (p : Payload) (v : Data) → has_payload contract P C (joined_payload part p) v
       ≡ has_payload contract P no_choices (joined_payload part p) v
   payload_means no_payload v = refl
@@ -182,7 +182,7 @@ belongs_same rows plain contract patterns zero n v = refl
 belongs_same rows plain contract patterns (suc steps) n v =
     go (entry_at rows n) (plain n) (fun_ext (λ m. fun_ext (λ w. belongs_same rows plain contract patterns steps m w)))
   where
-    C : ℕ → Data → List Choice
+    C : ℕ → Data → List VariantMatch
     C = choices_within rows contract patterns steps
 
     go : (o : Option Entry) → IsPlainEntry rows o
@@ -190,7 +190,7 @@ belongs_same rows plain contract patterns (suc steps) n v =
         → elim o as (λ z. Bool) [
           | None ↦ false
           | Some entry ↦ has_shape contract patterns (key_options rows) (choices_within rows contract patterns steps)
-              (belongs_within rows contract patterns steps) (spread_in rows entry.shape) v
+              (belongs_within rows contract patterns steps) (expanded_shape_in rows entry.shape) v
         ] ≡ elim o as (λ z. Bool) [
           | None ↦ false
           | Some entry ↦ has_shape contract patterns (key_options rows) no_choices
@@ -199,7 +199,7 @@ belongs_same rows plain contract patterns (suc steps) n v =
     go None h same = refl
     go (Some e) h same =
         (λ i. has_shape contract patterns (key_options rows) C (same i)
-        ((spread_joins rows plain e.shape h.2 ∙ shape_plainly rows plain e.shape h.2) i) v)
+        ((expanded_joins rows plain e.shape h.2 ∙ shape_plainly rows plain e.shape h.2) i) v)
         ∙ shape_means contract C (belongs_plainly_within rows contract patterns steps) (G rows plain) patterns (key_options rows) e.shape v
 
 -- in a plain table nothing is flattened but structs that have to be there, and a row means just that
@@ -261,7 +261,7 @@ module _ (rows : List Row) (contract : Contract) where
       go : (o : Option Entry) → IsPlainEntry rows o → IsEntryUnder contract rows o
       go None h = tt
       go (Some e) h =
-          let same = spread_joins rows plain e.shape h.2 in (
+          let same = expanded_joins rows plain e.shape h.2 in (
             h.0,
             h.1,
             subst (ShapeHasNamesApart (enum_names_at rows)) (sym same)

@@ -11,7 +11,7 @@ use Rattle.schemars_shapes.specs.Units.{is_none}
 use Rattle.schemars_shapes.specs.Decimals.{entry_has_float}
 use Rattle.schemars_types.specs.Rows.{Row, entry_at}
 use Rattle.schemars_types.specs.Edges.{option_at}
-use Rattle.schemars_types.specs.Effective.{without_options, flattened_enums, part_enums, spread_in}
+use Rattle.schemars_types.specs.Effective.{without_options, flattened_enums, part_enums, expanded_shape_in}
 use Rattle.schemars_types.specs.declared.contract.Contract.{Contract}
 use Rattle.schemars_types.specs.Meaning.{is_required}
 
@@ -105,7 +105,7 @@ IsPlainShape _ = Unit {0}
 
 abbrev pub IsPlainEntry : List Row → Option Entry → Type 0
 IsPlainEntry rows None = Unit {0}
-IsPlainEntry rows (Some e) = AreNotes e.notes × IsPlainShape (spread_in rows e.shape) × ArePlainParts rows (parts_in e.shape)
+IsPlainEntry rows (Some e) = AreNotes e.notes × IsPlainShape (expanded_shape_in rows e.shape) × ArePlainParts rows (parts_in e.shape)
 
 -- Literals are plain, the notes of rows, fields and variants are annotations alone, and what is flattened is an open struct.
 -- The names of a struct's own and flattened fields are all different, and those of the variants that are told by their
@@ -127,7 +127,7 @@ enum_names (shape.enum (shape.by_tag tag closed) xs) = tag ∷ all_payload_names
 enum_names _ = []
 
 abbrev pub enum_names_at : List Row → ℕ → List Text
-enum_names_at rows n = elim (entry_at rows n) [ None ↦ [] | Some e ↦ enum_names (spread_in rows e.shape) ]
+enum_names_at rows n = elim (entry_at rows n) [ None ↦ [] | Some e ↦ enum_names (expanded_shape_in rows e.shape) ]
 
 -- none of these names is a field's
 abbrev pub AreNoNames : List Field → List Text → Type 0
@@ -221,8 +221,8 @@ ArePartsUnder contract rows (p ∷ ps) = IsPartUnder contract rows p × AreParts
 
 abbrev pub IsEntryUnder : Contract → List Row → Option Entry → Type 0
 IsEntryUnder contract rows None = Unit {0}
-IsEntryUnder contract rows (Some e) = AreNotes e.notes × IsPlainShape (spread_in rows e.shape)
-    × ShapeHasNamesApart (enum_names_at rows) (spread_in rows e.shape) × ArePartsUnder contract rows (parts_in e.shape)
+IsEntryUnder contract rows (Some e) = AreNotes e.notes × IsPlainShape (expanded_shape_in rows e.shape)
+    × ShapeHasNamesApart (enum_names_at rows) (expanded_shape_in rows e.shape) × ArePartsUnder contract rows (parts_in e.shape)
 
 -- What is flattened is, its Options taken off, an open struct, or an enum that has to be there under the contract, is told by its names
 -- or by a tag, has a variant and no notes on units. No enum stands in a struct that may be missing, nor in a variant of a flattened enum

@@ -12,7 +12,7 @@ use Rattle.schemars_impls.specs.Dictionary.{TypeRow, IsIn, IsAdded, KeepsTo, Ref
 use Rattle.schemars_impls.specs.Keeps.{Keeps, AllContinue, Continues}
 use Rattle.schemars_build.specs.Naming.{IsOneToOne}
 use Rattle.schemars_documents.specs.Template.{part}
-use Rattle.schemars_build.specs.Work.{Work}
+use Rattle.schemars_build.specs.Registry.{Registry}
 use Rattle.schemars_walk.specs.Walk.{TransformStep}
 use Rattle.schemars_headline.specs.Calls.{IsRootCall}
 use Rattle.schemars_headline.specs.Drafts.{DraftHeadlines, dialect_of}
@@ -86,7 +86,7 @@ module _ {O : Type 0} (Q : TransformStep O) (ts us : Transforms O) (s : State) (
   }
 
   -- the document that leaves this work behind
-  pub root_made : (w : Work) (new : State) (d : Data) → IsChecked s.rows
+  pub root_made : (w : Registry) (new : State) (d : Data) → IsChecked s.rows
       → new ≡ record s { names = w.names; definitions = w.definitions } → IsThrough (ApplyInOrder Q) ts us (IsRootMade s n w) d
       → IsRootInTable Q ts us s n (IsUntransformedCall s n new) d
   root_made w new d checked same root =

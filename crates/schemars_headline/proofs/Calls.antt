@@ -21,8 +21,8 @@ use Rattle.schemars_documents.specs.Basis.{Basis}
 use Rattle.schemars_definitions.specs.Keys.{HasKeysOnce}
 use Rattle.schemars_types.specs.declared.contract.Contract.{Contract}
 use Rattle.schemars_documents.specs.PlainTable.{IsPlainUnder, HasPlainNotes, HasNoFloat}
-use Rattle.schemars_build.specs.Work.{Plan, Work, IsKey, Refers, IsDefinition, Step, reference_to, basis_of_plan}
-use Rattle.schemars_headline.specs.State.{State, state_plan, work_of, after_root, HasOwnDefinitions}
+use Rattle.schemars_build.specs.Registry.{Plan, Registry, IsKey, Refers, IsDefinition, Step, reference_to, basis_of_plan}
+use Rattle.schemars_headline.specs.State.{State, state_plan, registry_of, after_root, HasOwnDefinitions}
 use Rattle.schemars_headline.specs.Headline.{IsPlainFor, RootHeadline, IsDraftPath, IsRootOf, IsTitledRoot, CannotPlace, with_definitions}
 use Rattle.schemars_build.specs.Placed.{is_in_place, IsPlaced, IsDocument}
 use Rattle.schemars_build.specs.Parts.{IsSubschema, IsDocumentOf}
@@ -37,7 +37,7 @@ use Rattle.schemars_headline.proofs.Roots.{root_placed, root_call_means}
 -- ---- definitions between calls
 
 -- references that are known in another work too
-definition-moved : (plan other : Plan) (old new : Work) → plan.rows ≡ other.rows → plan.contract ≡ other.contract
+definition-moved : (plan other : Plan) (old new : Registry) → plan.rows ≡ other.rows → plan.contract ≡ other.contract
     → plan.titles ≡ other.titles → plan.inlines ≡ other.inlines
     → ((n : ℕ) (name : Text) → name_of n plan.contract old.names ≡ Some name → name_of n other.contract new.names ≡ Some name)
     → ((n : ℕ) (r : Text) → Refers plan false old n r → Refers other false new n r) → (k : Text) (d : Data) → IsDefinition plan old k d
@@ -58,7 +58,7 @@ definition-moved plan other old new rows contract titles inlines names refers k 
 }
 
 -- what a root call has, of what was there and what it adds
-pub definitions_in : (s : State) (root : Option ℕ) (w : Work) → Step (state_plan s root) (work_of s) w → HasOwnDefinitions s
+pub definitions_in : (s : State) (root : Option ℕ) (w : Registry) → Step (state_plan s root) (registry_of s) w → HasOwnDefinitions s
     → AllStand (state_plan s root) w
 definitions_in s root w step own k d found = go (get_member k s.definitions) refl
   where
@@ -68,54 +68,54 @@ definitions_in s root w step own k d found = go (get_member k s.definitions) ref
         let kept : get_member k w.definitions ≡ Some e = step.stays k e is in
         let same : e ≡ d = cc in
         let P : Data → Type 0 = λ x. Stands (state_plan s root) w k x in
-        subst P same (stands_before (state_plan s root) w k e (definition-wider (state_plan s None) (work_of s) w
-        (step_wider (state_plan s root) (work_of s) w step) k e (own k e is)))
+        subst P same (stands_before (state_plan s root) w k e (definition-wider (state_plan s None) (registry_of s) w
+        (step_wider (state_plan s root) (registry_of s) w step) k e (own k e is)))
 
 -- no definition refers to the root, so they can stay
-pub definitions_kept : (s : State) (root : Option ℕ) (w : Work) → w.meets_root ≡ false → Step (state_plan s root) (work_of s) w
+pub definitions_kept : (s : State) (root : Option ℕ) (w : Registry) → w.has_root_reference ≡ false → Step (state_plan s root) (registry_of s) w
     → HasOwnDefinitions s → HasOwnDefinitions (record s { names = w.names; definitions = w.definitions })
 definitions_kept s root w none step own k d found = go (get_member k s.definitions) refl
   where
     new : State
     new = record s { names = w.names; definitions = w.definitions }
 
-    from_root : (n : ℕ) (r : Text) → Refers (state_plan s root) false w n r → Refers (state_plan new None) false (work_of new) n r
+    from_root : (n : ℕ) (r : Text) → Refers (state_plan s root) false w n r → Refers (state_plan new None) false (registry_of new) n r
     from_root n r (inl h) = absurd (true≢false (sym h.1 ∙ none))
     from_root n r (inr h) = inr (h.0, h.1, h.2, h.3, h.4, λ e. cc)
 
-    wider : Wider s.settings.contract (work_of s) (work_of new)
+    wider : Wider s.settings.contract (registry_of s) (registry_of new)
     wider = record {
-      names = (step_wider (state_plan s root) (work_of s) w step).names;
-      keys = (step_wider (state_plan s root) (work_of s) w step).keys;
+      names = (step_wider (state_plan s root) (registry_of s) w step).names;
+      keys = (step_wider (state_plan s root) (registry_of s) w step).keys;
       meets = λ e. e;
     }
 
-    go : (o : Option Data) → get_member k s.definitions ≡ o → IsDefinition (state_plan new None) (work_of new) k d
-    go None is = definition-moved (state_plan s root) (state_plan new None) w (work_of new) refl refl refl refl
+    go : (o : Option Data) → get_member k s.definitions ≡ o → IsDefinition (state_plan new None) (registry_of new) k d
+    go None is = definition-moved (state_plan s root) (state_plan new None) w (registry_of new) refl refl refl refl
         (λ n name e. e) from_root k d
         (step.adds k d is found).definition
     go (Some e) is =
         let kept : get_member k w.definitions ≡ Some e = step.stays k e is in
         let same : e ≡ d = cc in
-        let P : Data → Type 0 = λ x. IsDefinition (state_plan new None) (work_of new) k x in
-        subst P same (definition-wider (state_plan s None) (work_of s) (work_of new) wider k e (own k e is))
+        let P : Data → Type 0 = λ x. IsDefinition (state_plan new None) (registry_of new) k x in
+        subst P same (definition-wider (state_plan s None) (registry_of s) (registry_of new) wider k e (own k e is))
 
 -- the old ones stay the generator's own as names join
-names_joined : (s : State) (w : Work) (root : Option ℕ) → Step (state_plan s root) (work_of s) w → HasOwnDefinitions s
+names_joined : (s : State) (w : Registry) (root : Option ℕ) → Step (state_plan s root) (registry_of s) w → HasOwnDefinitions s
     → HasOwnDefinitions (record s { names = w.names })
 names_joined s w root step own k d found =
     let new = record s { names = w.names } in
-    definition-wider (state_plan s None) (work_of s) (work_of new) (record {
-      names = λ n name e. (step_wider (state_plan s root) (work_of s) w step).names n name e;
+    definition-wider (state_plan s None) (registry_of s) (registry_of new) (record {
+      names = λ n name e. (step_wider (state_plan s root) (registry_of s) w step).names n name e;
       keys = λ q is. is;
       meets = λ e. e;
     }) k d (own k d found)
 
-pub after_root_own : (s : State) (n : ℕ) (w : Work) → Step (state_plan s (Some n)) (work_of s) w → HasOwnDefinitions s
+pub after_root_own : (s : State) (n : ℕ) (w : Registry) → Step (state_plan s (Some n)) (registry_of s) w → HasOwnDefinitions s
     → HasOwnDefinitions (after_root s w)
-after_root_own s n w step own = go w.meets_root refl
+after_root_own s n w step own = go w.has_root_reference refl
   where
-    go : (b : Bool) → w.meets_root ≡ b → HasOwnDefinitions (record s {
+    go : (b : Bool) → w.has_root_reference ≡ b → HasOwnDefinitions (record s {
       names = w.names;
       definitions = if b then s.definitions else
           w.definitions;
@@ -124,9 +124,9 @@ after_root_own s n w step own = go w.meets_root refl
     go false is = definitions_kept s (Some n) w is step own
 
 pub part_own : (s new : State) → new ≡ record s { names = new.names; definitions = new.definitions }
-    → Step (state_plan s None) (work_of s) (work_of new) → HasOwnDefinitions s → HasOwnDefinitions new
+    → Step (state_plan s None) (registry_of s) (registry_of new) → HasOwnDefinitions s → HasOwnDefinitions new
 part_own s new same step own =
-    subst HasOwnDefinitions (sym same) (definitions_kept s None (work_of new) refl step own)
+    subst HasOwnDefinitions (sym same) (definitions_kept s None (registry_of new) refl step own)
 
 -- ---- root documents
 
@@ -136,7 +136,7 @@ pub plain_for : (dialect : Dialect) (contract : Contract) (rows : List Row) → 
 plain_for dialect contract rows (inl plain) = plain_under rows contract plain
 plain_for dialect contract rows (inr (reads, plain)) = plain
 
-pub root_means : (s : State) (n : ℕ) (w : Work) (d : Data) → IsChecked s.rows → IsRootOf s n w d → HasKeysOnce w.definitions
+pub root_means : (s : State) (n : ℕ) (w : Registry) (d : Data) → IsChecked s.rows → IsRootOf s n w d → HasKeysOnce w.definitions
     → IsOneToOne w.names → RootHeadline draft2020_12 s n d
 root_means s n w d checked root once one own path plain =
     root_call_means s n w d root checked one once (definitions_in s (Some n) w root.step own) path
@@ -146,9 +146,9 @@ pub own_are_whole : (s : State) → HasNoFloat s.rows → HasOwnDefinitions s �
     → members_have_float s.definitions ≡ false
 own_are_whole s none own once =
     let plan = state_plan s None in
-    definitions_whole plan (work_of s) none (λ k d found. stands_now plan (work_of s) k d (own k d found)) once
+    definitions_whole plan (registry_of s) none (λ k d found. stands_now plan (registry_of s) k d (own k d found)) once
 
-pub root_is_whole : (s : State) (n : ℕ) (w : Work) (d : Data) → IsRootOf s n w d → HasKeysOnce w.definitions → HasNoFloat s.rows
+pub root_is_whole : (s : State) (n : ℕ) (w : Registry) (d : Data) → IsRootOf s n w d → HasKeysOnce w.definitions → HasNoFloat s.rows
     → HasOwnDefinitions s → has_float d ≡ false
 root_is_whole s n w d root once none own =
     whole_with_definitions (state_plan s (Some n)).path w.definitions (root_document (name_at s.rows n) s.settings.meta_schema root.own) d
@@ -161,8 +161,8 @@ root_is_whole s n w d root once none own =
 
 pub always_placed : (s : State) (n : ℕ) → HasPlainNotes s.rows → IsDraftPath (state_plan s None).path → CannotPlace s n → ⊥
 always_placed s n plain path h =
-    let R = Refers (state_plan s (Some n)) true h.work in
-    let there = root_placed (state_plan s (Some n)) h.work n (name_at s.rows n) s.settings.meta_schema h.is_document.0 h.own plain R
+    let R = Refers (state_plan s (Some n)) true h.registry in
+    let there = root_placed (state_plan s (Some n)) h.registry n (name_at s.rows n) s.settings.meta_schema h.is_document.0 h.own plain R
     (document_describes (basis_of_plan (state_plan s (Some n))) s.settings.inlines R [] n h.own h.is_document) path in
     let some = there.1 in
     let none = h.no_place in
@@ -170,7 +170,7 @@ always_placed s n plain path h =
 
 -- ---- parts
 
-pub reference_of_part : (s : State) (n : ℕ) (d : Data) → IsSubschema (state_plan s None) false (work_of s) n d
+pub reference_of_part : (s : State) (n : ℕ) (d : Data) → IsSubschema (state_plan s None) false (registry_of s) n d
     → is_in_place s.rows s.settings.inlines [] n ≡ false
     → (name : Text) × (name_of n s.settings.contract s.names ≡ Some name) × IsKey name s.definitions
     × (d ≡ reference (reference_to (state_plan s None).path name))
@@ -179,20 +179,20 @@ reference_of_part s n d (inl (r, (inr h, e), same)) apart = (h.0, h.1, h.2, same
 reference_of_part s n d (inr h) apart = absurd (true≢false (sym h.1 ∙ apart))
 
 -- what a call leaves of its work
-abbrev left_by : State → Work → Work
-left_by s w = work_of (record s { names = w.names; definitions = w.definitions })
+abbrev left_by : State → Registry → Registry
+left_by s w = registry_of (record s { names = w.names; definitions = w.definitions })
 
-refers_left : (s : State) (w : Work) (j : ℕ) (r : Text) → Refers (state_plan s None) false w j r
+refers_left : (s : State) (w : Registry) (j : ℕ) (r : Text) → Refers (state_plan s None) false w j r
     → Refers (state_plan s None) false (left_by s w) j r
 refers_left s w j r (inl h) = cc
 refers_left s w j r (inr h) = inr h
 
 -- what the running call has marked doesn't matter without a root
-pub part_kept : (s new : State) (w : Work) (n : ℕ) (d : Data) → new ≡ record s { names = w.names; definitions = w.definitions }
-    → w.pending ≡ [] → IsSubschema (state_plan s None) false w n d → IsSubschema (state_plan new None) false (work_of new) n d
+pub part_kept : (s new : State) (w : Registry) (n : ℕ) (d : Data) → new ≡ record s { names = w.names; definitions = w.definitions }
+    → w.pending ≡ [] → IsSubschema (state_plan s None) false w n d → IsSubschema (state_plan new None) false (registry_of new) n d
 part_kept s new w n d same none h =
     let plan = state_plan s None in
-    let P : State → Type 0 = λ x. IsSubschema (state_plan x None) false (work_of x) n d in
+    let P : State → Type 0 = λ x. IsSubschema (state_plan x None) false (registry_of x) n d in
     let Q : List ℕ → Type 0 = λ p. IsPlaced plan.rows plan.inlines p (Refers plan false w)
     (IsDocument (basis_of_plan plan) plan.inlines (Refers plan false w) p) n d in
     let R : ℕ → Text → Type 0 = Refers plan false w in
@@ -202,8 +202,8 @@ part_kept s new w n d same none h =
     (IsDocument (basis_of_plan plan) plan.inlines S []) moved (document-wider (basis_of_plan plan) plan.inlines R S moved []) n d
     (subst Q none h))
 
-pub step_kept : (s : State) (w : Work) → Step (state_plan s None) (work_of s) w
-    → Step (state_plan s None) (work_of s) (left_by s w)
+pub step_kept : (s : State) (w : Registry) → Step (state_plan s None) (registry_of s) w
+    → Step (state_plan s None) (registry_of s) (left_by s w)
 unfolding definition-moved
 step_kept s w h = record {
   names = h.names;
@@ -222,7 +222,7 @@ step_kept s w h = record {
 }
 
 -- nor does what the call has begun and marked
-pub reached_kept : (plan : Plan) (inside : Bool) (s : State) (old w : Work) (from : List Data) → AreReached plan inside old w from
+pub reached_kept : (plan : Plan) (inside : Bool) (s : State) (old w : Registry) (from : List Data) → AreReached plan inside old w from
     → AreReached plan inside old (left_by s w) from
 reached_kept plan inside s old w from h = record {
   definitions = h.definitions;
@@ -278,11 +278,11 @@ accepted_nothing = record {
 pub one_to_one-none : IsOneToOne []
 one_to_one-none = record { one_row = λ m n c d name a b. cc }
 
-pub cannot_place : (s : State) (n : ℕ) (old w : Work) (t : Data) (path : Text) (ms : Members) → old ≡ work_of s
+pub cannot_place : (s : State) (n : ℕ) (old w : Registry) (t : Data) (path : Text) (ms : Members) → old ≡ registry_of s
     → Step (state_plan s (Some n)) old w → IsTitledRoot s old n w t → path ≡ (state_plan s None).path → ms ≡ w.definitions
     → with_definitions path ms t ≡ None → CannotPlace s n
 cannot_place s n old w t path ms between step titled same_path same none = record {
-  work = w;
+  registry = w;
   step = subst (λ x. Step (state_plan s (Some n)) x w) between step;
   own = titled.own;
   is_document = subst (λ p. IsDocumentOf (state_plan s (Some n)) true w p n titled.own) (ap (λ x. x.pending) between) titled.is_document;
@@ -290,7 +290,7 @@ cannot_place s n old w t path ms between step titled same_path same none = recor
   reached = λ plain. subst (λ x. AreReached (state_plan s (Some n)) false x w (references titled.own)) between (titled.reached plain);
 }
 
-pub root_of : (s : State) (n : ℕ) (old w : Work) (t d : Data) (path : Text) (ms : Members) → old ≡ work_of s
+pub root_of : (s : State) (n : ℕ) (old w : Registry) (t d : Data) (path : Text) (ms : Members) → old ≡ registry_of s
     → Step (state_plan s (Some n)) old w → IsTitledRoot s old n w t → path ≡ (state_plan s None).path → ms ≡ w.definitions
     → with_definitions path ms t ≡ Some d → IsRootOf s n w d
 root_of s n old w t d path ms between step titled same_path same made = record {

@@ -20,7 +20,7 @@ use Rattle.schemars_shapes.specs.Shape as shape
 use Rattle.schemars_shapes.specs.Shape.{Shape, Required, Field, Fields, Flattened, Entry}
 use Rattle.schemars_types.specs.Rows.{Row, entry_at}
 use Rattle.schemars_types.specs.Edges.{option_at}
-use Rattle.schemars_types.specs.Effective.{effective, shape_fields, fields_within, without_options, weakened, part_fields, flattened_in, part_enums, spread, spread_in}
+use Rattle.schemars_types.specs.Effective.{effective, shape_fields, fields_within, without_options, required_only_if, part_fields, flattened_in, part_enums, expanded_shape, expanded_shape_in}
 use Rattle.schemars_types.specs.KeyOptions.{key_options}
 use Rattle.schemars_documents.specs.PlainTable.{AreNoted, IsPlainShape, ArePlainParts, parts_in, IsPlainEntry, IsPlainTable, IsNotedShape, IsNotedThroughout, HasPlainNotesThroughout}
 use Rattle.schemars_documents.specs.Basis.{Basis}
@@ -54,7 +54,7 @@ module _ (R : Demand) (A : Ask → Data → Type 0) (basis : Basis) (Under : Lis
   no_fields p = []
 
   other-good : (kind : Shape) (s : Data) (others : Flattened → List Field) (enums : Flattened → List ℕ) → IsNoStruct kind
-      → IsPlainShape (spread others enums kind) → IsNotedShape kind → Under (parts_in kind) → IsDocument A no_fields basis kind s
+      → IsPlainShape (expanded_shape others enums kind) → IsNotedShape kind → Under (parts_in kind) → IsDocument A no_fields basis kind s
       → IsGood R s
   other-good shape.null s others enums other p own flat is = rw is (type-good R (codes "null"))
   other-good shape.bool s others enums other p own flat is = rw is (type-good R (codes "boolean"))
@@ -111,7 +111,7 @@ module _ (R : Demand) (A : Ask → Data → Type 0) (basis : Basis) (Under : Lis
       rw (is ∙ literal_document-schema d (literal_is_schema d p)) (literal-good R d p)
 
   shape-good : (kind : Shape) (s : Data) (others : Flattened → List Field) (enums : Flattened → List ℕ)
-      → IsPlainShape (spread others enums kind) → IsNotedShape kind → Under (parts_in kind) → Fills A (template_of basis kind) s
+      → IsPlainShape (expanded_shape others enums kind) → IsNotedShape kind → Under (parts_in kind) → Fills A (template_of basis kind) s
       → IsGood R s
   shape-good (shape.struct x) s others enums p own flat h = subst (IsGood R) (sym h.is) (structs x own flat h.parts h.answered)
   shape-good kind s others enums p own flat h =
@@ -132,14 +132,14 @@ module _ (rows : List Row) (noted : HasPlainNotesThroughout rows) where
   noted-entry has all (Some e) own = noted-shape has all e.shape own.1
 
   -- fields that need not be there have the same notes
-  noted-weakened : (r : Required) (xs : List Field) → AreNoted xs → AreNoted (map (weakened r) xs)
+  noted-weakened : (r : Required) (xs : List Field) → AreNoted xs → AreNoted (map (required_only_if r) xs)
   noted-weakened r [] h = tt
   noted-weakened r (x ∷ xs) h = (h.0, noted-weakened r xs h.1)
 
   noted-part : (own : ℕ → List Field) → ((n : ℕ) → AreNoted (own n)) → (p : Flattened) → AreNoted (part_fields rows own p)
   noted-part own all p = go (is_some (option_at rows p.ty))
     where
-      go : (b : Bool) → AreNoted (if b then map (weakened p.required) (own (without_options rows p.ty))
+      go : (b : Bool) → AreNoted (if b then map (required_only_if p.required) (own (without_options rows p.ty))
           else own (without_options rows p.ty))
       go true = noted-weakened p.required (own (without_options rows p.ty)) (all (without_options rows p.ty))
       go false = all (without_options rows p.ty)
@@ -155,7 +155,7 @@ module _ (rows : List Row) (noted : HasPlainNotesThroughout rows) where
 -- what a table says of a row that it has
 abbrev pub IsNotedUnder : List Row → (List Flattened → Type 0) → Entry → Type 0
 IsNotedUnder rows Under e =
-    AreNotes e.notes × IsPlainShape (spread_in rows e.shape) × IsNotedShape e.shape × Under (parts_in e.shape)
+    AreNotes e.notes × IsPlainShape (expanded_shape_in rows e.shape) × IsNotedShape e.shape × Under (parts_in e.shape)
 
 module _ (R : Demand) (basis : Basis) (Refers : ℕ → Text → Type 0) (names : (j : ℕ) (r : Text) → Refers j r → R.refers r) where
   abbrev pub In : ℕ → ℕ → Data → Type 0

@@ -16,7 +16,7 @@ use Rattle.schemars_types.specs.declared.contract.Contract.{Contract}
 use Rattle.schemars_types.specs.Faults.{IsChecked}
 use Rattle.schemars_documents.specs.PlainTable.{IsPlainTable, IsPlainUnder}
 use Rattle.schemars_build.specs.Naming.{IsOneToOne}
-use Rattle.schemars_build.specs.Work.{Plan, Work, Refers, reference_to, basis_of_plan}
+use Rattle.schemars_build.specs.Registry.{Plan, Registry, Refers, reference_to, basis_of_plan}
 use Rattle.schemars_meaning.proofs.Schemas.{described}
 use Rattle.schemars_meaning.proofs.Referring.{plain_rows, under_rows}
 use Rattle.schemars_build.proofs.Settled.{settled}
@@ -45,7 +45,7 @@ abbrev NamesOne : Text → Members → Text → Type 0
 NamesOne key definitions t =
     (t ≡ codes "#") ⊎ ((k : Text) × IsNameOf key k t × ((d : Data) × (get_member k definitions ≡ Some d) × IsSchema d))
 
-module _ (plan : Plan) (w : Work) (key : Text) (at : StandsAt plan.path key) (definitions : AllStand plan w) where
+module _ (plan : Plan) (w : Registry) (key : Text) (at : StandsAt plan.path key) (definitions : AllStand plan w) where
   -- the definitions by themselves
   abbrev alone : Members
   alone = put key (object w.definitions) no_members
@@ -104,7 +104,7 @@ one-resolves key definitions document has t is = subst (λ d. is_some (resolved 
 
 -- ---- what a root call makes
 
-module _ (s : State) (n : ℕ) (w : Work) (document : Data) (root : IsRootOf s n w document) (once : HasKeysOnce w.definitions)
+module _ (s : State) (n : ℕ) (w : Registry) (document : Data) (root : IsRootOf s n w document) (once : HasKeysOnce w.definitions)
     (own : HasOwnDefinitions s) (key : Text) (at : StandsAt (path_of s) key) where
   abbrev plan : Plan
   plan = state_plan s (Some n)
@@ -169,7 +169,7 @@ module _ (s : State) (n : ℕ) (w : Work) (document : Data) (root : IsRootOf s n
   plain_for_draft07 (inr (reads, plain)) = absurd (false≢true reads)
 
 -- what a root call makes means its type in each draft
-pub draft_headlines : (s : State) (n : ℕ) (w : Work) (d : Data) → IsChecked s.rows → IsRootOf s n w d → HasKeysOnce w.definitions
+pub draft_headlines : (s : State) (n : ℕ) (w : Registry) (d : Data) → IsChecked s.rows → IsRootOf s n w d → HasKeysOnce w.definitions
     → IsOneToOne w.names → DraftHeadlines s n d
 draft_headlines s n w d checked root once one Draft2020_12 own path plain = root_means s n w d checked root once one own path plain
 draft_headlines s n w d checked root once one Draft2019_09 own path plain =

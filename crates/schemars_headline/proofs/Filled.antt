@@ -9,7 +9,7 @@ use Rattle.schemars_builders.specs.Variants.{unit_variant}
 use Rattle.schemars_shapes.specs.Shape.{Field, Fields, Flattened, Payload, Variant, no_payload, newtype_payload, tuple_payload, struct_payload}
 use Rattle.schemars_shapes.specs.Units.{is_bare_unit}
 use Rattle.schemars_types.specs.declared.contract.Contract.{Contract}
-use Rattle.schemars_types.specs.Effective.{flattened_fields, effective, spread_payload, spread_variant}
+use Rattle.schemars_types.specs.Effective.{flattened_fields, effective, expanded_payload, expanded_variant}
 use Rattle.schemars_types.specs.KeyOptions.{KeyOptions, keys}
 use Rattle.schemars_documents.specs.PlainTable.{AreNoted, IsTagged, AreTagged, payload_parts, variant_parts, IsNotedPayload, AreNotedVariants}
 use Rattle.schemars_documents.specs.Documents.{Keyword}
@@ -158,14 +158,14 @@ module _ (R : Demand) (A : Ask → Data → Type 0) (basis : Basis) (Under : Lis
   -- ---- with a tag inside
 
   module _ (others : Flattened → List Field) (enums : Flattened → List ℕ) (tag : Text) (closed : Bool) where
-    tag-makes : (name : Text) (p : Payload) → IsTagged tag (spread_payload others enums p) → IsNotedPayload p
+    tag-makes : (name : Text) (p : Payload) → IsTagged tag (expanded_payload others enums p) → IsNotedPayload p
         → Under (payload_parts p) → Makes (tagged tag name closed (content_template contract p))
     tag-makes name no_payload is own flat us fit = tagged-good R tag name closed _ (type-good R (codes "null"))
     tag-makes name (newtype_payload n) is own flat us fit = absurd is
     tag-makes name (tuple_payload ns) is own flat us fit = absurd is
     tag-makes name (struct_payload x) is own flat us fit = tagged-good R tag name closed _ (structs x own flat us fit)
 
-    internals-make : (xs : List Variant) → AreTagged tag (map (spread_variant others enums) xs) → AreNotedVariants xs
+    internals-make : (xs : List Variant) → AreTagged tag (map (expanded_variant others enums) xs) → AreNotedVariants xs
         → Under (variant_parts xs) → AllMake (map (internal_item contract tag closed) xs)
     internals-make [] are own flat = tt
     internals-make (x ∷ xs) are own flat =
@@ -175,7 +175,7 @@ module _ (R : Demand) (A : Ask → Data → Type 0) (basis : Basis) (Under : Lis
           internals-make xs are.1 own.2 flats.1,
         )
 
-    pub internal-makes : (xs : List Variant) → AreTagged tag (map (spread_variant others enums) xs) → AreNotedVariants xs
+    pub internal-makes : (xs : List Variant) → AreTagged tag (map (expanded_variant others enums) xs) → AreNotedVariants xs
         → Under (variant_parts xs) → Makes (internal_template contract tag closed xs)
     internal-makes [] are own flat us fit = good_truth R false
     internal-makes (x ∷ xs) are own flat us fit =

@@ -36,7 +36,7 @@ use Rattle.schemars_documents.specs.PlainTable.{EntryHasNoFloat, HasNoFloat}
 use Rattle.schemars_schema.specs.Edits.{without, replaced, with_item, holds_text, with_member, with_first, changed_at}
 use Rattle.schemars_schema.specs.Placing.{placed, placed_at, tokens_of}
 use Rattle.schemars_shapes.specs.Units.{is_bare_unit}
-use Rattle.schemars_build.specs.Work.{Plan, Work, basis_of_plan}
+use Rattle.schemars_build.specs.Registry.{Plan, Registry, basis_of_plan}
 use Rattle.schemars_headline.proofs.Standing.{MayRefer, AllStand}
 use Rattle.schemars_headline.specs.Headline.{with_definitions}
 use Rattle.schemars_definitions.specs.Keys.{HasKeysOnce}
@@ -497,7 +497,7 @@ pub found_whole : (ms : Members) → HasKeysOnce ms → ((k : Text) (d : Data) �
 found_whole ms once h = members_whole ms (all_members IsWhole ms once h)
 
 -- so the definitions of a table's rows have none
-pub definitions_whole : (plan : Plan) (w : Work) → HasNoFloat plan.rows → AllStand plan w → HasKeysOnce w.definitions
+pub definitions_whole : (plan : Plan) (w : Registry) → HasNoFloat plan.rows → AllStand plan w → HasKeysOnce w.definitions
     → members_have_float w.definitions ≡ false
 definitions_whole plan w none definitions once =
     found_whole w.definitions once (λ k d found.

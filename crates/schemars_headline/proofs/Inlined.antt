@@ -27,11 +27,11 @@ use Rattle.schemars_build.proofs.Placing.{Answers}
 use Rattle.schemars_build.specs.Missing.{row_asked}
 use Rattle.schemars_build.proofs.Asked.{option_edges}
 use Rattle.schemars_headline.proofs.AskedRows.{own_asked}
-use Rattle.schemars_build.specs.Work.{Work, Refers, basis_of_plan}
+use Rattle.schemars_build.specs.Registry.{Registry, Refers, basis_of_plan}
 use Rattle.schemars_build.specs.Parts.{IsSubschema}
 use Rattle.schemars_build.specs.Reached.{IsReached, by_reference, by_definition}
 use Rattle.schemars_meaning.proofs.ReferencesKept.{references-root}
-use Rattle.schemars_headline.specs.State.{State, state_plan, work_of}
+use Rattle.schemars_headline.specs.State.{State, state_plan, registry_of}
 use Rattle.schemars_headline.specs.Headline.{Edge, HasNoCycle, IsInlined, IsRootOf, with_definitions}
 use Rattle.schemars_headline.proofs.Resolving.{all_pass, described_resolved}
 
@@ -177,7 +177,7 @@ bare basis R n s plain free h =
     let described = bare_document basis R n s free h in bare_silent basis described.0 n s plain described.1
 
 -- where rows are inlined and none is pending, each is in place
-pub part_inlined : (s : State) (n : ℕ) (d : Data) → IsSubschema (state_plan s None) false (work_of s) n d → IsInlined s d
+pub part_inlined : (s : State) (n : ℕ) (d : Data) → IsSubschema (state_plan s None) false (registry_of s) n d → IsInlined s d
 part_inlined s n d (inl h) inlines plain free = absurd (true≢false (sym (inlined s.settings.inlines inlines) ∙ h.1.1))
   where
     or_true : (b : Bool) → b || true ≡ true
@@ -188,7 +188,7 @@ part_inlined s n d (inl h) inlines plain free = absurd (true≢false (sym (inlin
     inlined b is = ap (λ x. is_in_place s.rows x [] n) is ∙ or_true (is_inline_at s.rows n)
 part_inlined s n d (inr h) inlines plain free =
     let plan = state_plan s None in
-    let R = Refers plan false (work_of s) in
+    let R = Refers plan false (registry_of s) in
     bare (basis_of_plan plan) R n d plain free (subst (λ b. IsDocument (basis_of_plan plan) b R [] n d) inlines h.0)
 
 -- ---- root documents
@@ -206,7 +206,7 @@ no_definition path (member k d ms) all =
     absurd (unreached path (member k d ms) k (all k d there))
 
 -- the root document is that of the row alone, which has no part that is a reference
-pub root_bare : (s : State) (n : ℕ) (w : Work) (d : Data) (root : IsRootOf s n w d) → s.settings.inlines ≡ true → IsPlainTable s.rows
+pub root_bare : (s : State) (n : ℕ) (w : Registry) (d : Data) (root : IsRootOf s n w d) → s.settings.inlines ≡ true → IsPlainTable s.rows
     → HasNoCycle s.rows → s.definitions ≡ no_members
     → (w.definitions ≡ no_members) × ((depth : ℕ) × Describes (basis_of_plan (state_plan s (Some n))) Nothing depth n root.own)
     × (root_document (name_at s.rows n) s.settings.meta_schema root.own ≡ d)
@@ -227,7 +227,7 @@ root_bare s n w d root inlines plain free none =
     let same : Q no_members = subst Q nothing root.is_root in
     (nothing, described, cc)
 
-pub root_inlined : (s : State) (n : ℕ) (w : Work) (d : Data) → IsRootOf s n w d → s.definitions ≡ no_members → IsInlined s d
+pub root_inlined : (s : State) (n : ℕ) (w : Registry) (d : Data) → IsRootOf s n w d → s.definitions ≡ no_members → IsInlined s d
 root_inlined s n w d root none inlines plain free =
     let parts = root_bare s n w d root inlines plain free none in
     let basis = basis_of_plan (state_plan s (Some n)) in

@@ -21,9 +21,9 @@ use Rattle.schemars_documents.specs.Template.{Ask, part, members_of, content}
 use Rattle.schemars_documents.specs.Describes.{without_options, are_optional}
 use Rattle.schemars_build.specs.Placed.{IsFilled}
 use Rattle.schemars_build.specs.Parts.{IsSaid, IsFilledOf, AreNeededFor}
-use Rattle.schemars_build.specs.Work.{Plan, Work, Refers, basis_of_plan}
+use Rattle.schemars_build.specs.Registry.{Plan, Registry, Refers, basis_of_plan}
 use Rattle.schemars_build.specs.Reached.{IsReached, AreReached}
-use Rattle.schemars_headline.specs.State.{State, state_plan, work_of, after_root}
+use Rattle.schemars_headline.specs.State.{State, state_plan, registry_of, after_root}
 use Rattle.schemars_headline.specs.Headline.{HasNoCycle, IsRootOf}
 use Rattle.schemars_headline.specs.Drafts.{Draft, Draft07, Draft2019_09, Draft2020_12, made_for}
 use Rattle.schemars_headline.specs.Inlined.{InlinesAll, IsInlinedFor, NeedsNoDefinitions}
@@ -44,7 +44,7 @@ unreferred = without_rest Never
 silent : (d : Data) → Everywhere (RefersOnce Never) d → references d ≡ []
 silent d is = no_item (references d) (each-passes Never (λ x. false) (λ t never. absurd never) d is)
 
-module _ (s : State) (n : ℕ) (w : Work) (document : Data) (root : IsRootOf s n w document) (all : InlinesAll s)
+module _ (s : State) (n : ℕ) (w : Registry) (document : Data) (root : IsRootOf s n w document) (all : InlinesAll s)
     (none : s.definitions ≡ no_members) where
   abbrev plan : Plan
   plan = state_plan s (Some n)
@@ -63,13 +63,13 @@ module _ (s : State) (n : ℕ) (w : Work) (document : Data) (root : IsRootOf s n
       silent (for_draft2019_09 document) (draft2019_09-refers Never document (for_items unreferred document everywhere))
   made_silent Draft2020_12 = root_inlined s n w document root none all.0 all.1 all.2
 
-pub root_inlined_for : (draft : Draft) (s : State) (n : ℕ) (w : Work) (d : Data) → IsRootOf s n w d → IsInlinedFor draft s d
+pub root_inlined_for : (draft : Draft) (s : State) (n : ℕ) (w : Registry) (d : Data) → IsRootOf s n w d → IsInlinedFor draft s d
 root_inlined_for draft s n w d root all none = made_silent s n w d root all none draft
 
 -- ---- definitions
 
-pub root_needs_none : (s : State) (n : ℕ) (w : Work) (d : Data) → IsRootOf s n w d → NeedsNoDefinitions s (after_root s w)
-root_needs_none s n w d root all none = go w.meets_root
+pub root_needs_none : (s : State) (n : ℕ) (w : Registry) (d : Data) → IsRootOf s n w d → NeedsNoDefinitions s (after_root s w)
+root_needs_none s n w d root all none = go w.has_root_reference
   where
     go : (b : Bool) → (if b then s.definitions else w.definitions) ≡ no_members
     go true = none
@@ -85,7 +85,7 @@ of_none : (xs : List Data) → xs ≡ [] → All (λ x. ⊥) xs
 of_none xs is = subst (All (λ x. ⊥)) (sym is) (All-nil (λ x. ⊥))
 
 -- a document that is made while no row is pending
-filled_silent : (plan : Plan) (w : Work) → plan.inlines ≡ true → IsPlainTable plan.rows → HasNoCycle plan.rows → (n : ℕ) (d : Data)
+filled_silent : (plan : Plan) (w : Registry) → plan.inlines ≡ true → IsPlainTable plan.rows → HasNoCycle plan.rows → (n : ℕ) (d : Data)
     → IsFilledOf plan false w [] n d → references d ≡ []
 filled_silent plan w inlines plain free n d h =
     let R = Refers plan false w in
@@ -93,19 +93,19 @@ filled_silent plan w inlines plain free n d h =
     let filled : IsFilled basis true R [] n d = subst (λ b. IsFilled basis b R [] n d) inlines h in
     bare_silent basis filled.0 n d plain (bare-within basis R free filled.0 [] n d (λ m is. cc) filled.1)
 
-answer_silent : (s : State) (a : Ask) (t : Data) → InlinesAll s → IsSaid (state_plan s None) false (work_of s) a t → references t ≡ []
+answer_silent : (s : State) (a : Ask) (t : Data) → InlinesAll s → IsSaid (state_plan s None) false (registry_of s) a t → references t ≡ []
 answer_silent s (part n) t all h = part_inlined s n t h all.0 all.1 all.2
 answer_silent s (members_of n required) t all h =
     let own : references h.0 ≡ [] =
-    filled_silent (state_plan s None) (work_of s) all.0 all.1 all.2 (without_options s.rows n) h.0 h.1 in
+    filled_silent (state_plan s None) (registry_of s) all.0 all.1 all.2 (without_options s.rows n) h.0 h.1 in
     ap references h.2 ∙ none_of (references (flattened_part (are_optional s.rows n required) h.0))
     (flattened_part-refers (λ x. ⊥) (are_optional s.rows n required) h.0 (of_none (references h.0) own))
 answer_silent s (content n) t all (b, in_place, (d, own, inl is)) =
     ap references is.1 ∙ none_of (references (opened_inside d)) (opened_inside-refers (λ x. ⊥) d
-    (of_none (references d) (filled_silent (state_plan s None) (work_of s) all.0 all.1 all.2 n d own)))
+    (of_none (references d) (filled_silent (state_plan s None) (registry_of s) all.0 all.1 all.2 n d own)))
 answer_silent s (content n) t all (b, in_place, (d, own, inr is)) = part_inlined s n t is.1 all.0 all.1 all.2
 
-from_nothing : (old new : State) (from : List Data) → from ≡ [] → AreReached (state_plan old None) true (work_of old) (work_of new) from
+from_nothing : (old new : State) (from : List Data) → from ≡ [] → AreReached (state_plan old None) true (registry_of old) (registry_of new) from
     → old.definitions ≡ no_members → new.definitions ≡ no_members
 from_nothing old new from bare reached none =
     let path = (state_plan old None).path in
@@ -116,20 +116,20 @@ from_nothing old new from bare reached none =
 
 -- whatever is asked: a part, the members of another map, or the content beside a tag
 pub answer_needs_none : (old new : State) (a : Ask) (t : Data) → new ≡ record old { names = new.names; definitions = new.definitions }
-    → IsSaid (state_plan new None) false (work_of new) a t
-    → AreNeededFor (state_plan old None) true (work_of old) (work_of new) a t → NeedsNoDefinitions old new
+    → IsSaid (state_plan new None) false (registry_of new) a t
+    → AreNeededFor (state_plan old None) true (registry_of old) (registry_of new) a t → NeedsNoDefinitions old new
 answer_needs_none old new a t same said needed all none = by a said needed
   where
-    silent_answer : (b : Ask) → IsSaid (state_plan new None) false (work_of new) b t → references t ≡ []
+    silent_answer : (b : Ask) → IsSaid (state_plan new None) false (registry_of new) b t → references t ≡ []
     silent_answer b h = answer_silent new b t (subst InlinesAll (sym same) all) h
 
-    by : (b : Ask) → IsSaid (state_plan new None) false (work_of new) b t
-        → AreNeededFor (state_plan old None) true (work_of old) (work_of new) b t → new.definitions ≡ no_members
+    by : (b : Ask) → IsSaid (state_plan new None) false (registry_of new) b t
+        → AreNeededFor (state_plan old None) true (registry_of old) (registry_of new) b t → new.definitions ≡ no_members
     by (part n) h need = from_nothing old new (references t) (silent_answer (part n) h) (need all.1) none
     by (members_of n required) h need =
         from_nothing old new (references need.0)
-        (filled_silent (state_plan old None) (work_of new) all.0 all.1 all.2 (without_options old.rows n) need.0 need.1) (need.2 all.1) none
+        (filled_silent (state_plan old None) (registry_of new) all.0 all.1 all.2 (without_options old.rows n) need.0 need.1) (need.2 all.1) none
     by (content n) h need =
         let own : references need.0 ≡ [] =
-        filled_silent (state_plan old None) (work_of new) all.0 all.1 all.2 n need.0 need.1 in
+        filled_silent (state_plan old None) (registry_of new) all.0 all.1 all.2 n need.0 need.1 in
         from_nothing old new (references need.0 ++ references t) (λ i. own i ++ silent_answer (content n) h i) (need.2 all.1) none

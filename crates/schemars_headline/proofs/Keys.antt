@@ -11,7 +11,7 @@ use Rattle.schemars_text.specs.OrderedText.{is_listed}
 use Rattle.schemars_schema.specs.Annotations.{is_annotation}
 use Rattle.schemars_schema.proofs.Objects.{annotation-not_listed}
 use Rattle.schemars_definitions.specs.Keys.{HasKeysOnce}
-use Rattle.schemars_build.specs.Work.{IsKey}
+use Rattle.schemars_build.specs.Registry.{IsKey}
 use Rattle.schemars_text.proofs.Members.{get_member-here}
 
 -- ---- which keys there are

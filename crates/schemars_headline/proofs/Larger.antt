@@ -17,9 +17,9 @@ use Rattle.schemars_documents.specs.Template.{Template, Ask, part, members_of, c
 use Rattle.schemars_documents.specs.OfShape.{values_template, template_of}
 use Rattle.schemars_documents.specs.Describes.{IsOwnDocument, IsContent, Fills, without_options_within, without_options}
 use Rattle.schemars_build.specs.Placed.{is_pending, pending_in, IsPlaced, IsFilledWithin}
-use Rattle.schemars_build.specs.Work.{StandsApart, Refers, basis_of_plan}
+use Rattle.schemars_build.specs.Registry.{StandsApart, Refers, basis_of_plan}
 use Rattle.schemars_build.proofs.Placing.{Answers, document-wider}
-use Rattle.schemars_headline.specs.State.{State, state_plan, work_of, HasOwnDefinitions}
+use Rattle.schemars_headline.specs.State.{State, state_plan, registry_of, HasOwnDefinitions}
 use Rattle.schemars_build.specs.Missing.{row_asked}
 use Rattle.schemars_build.proofs.Asked.{option_edges}
 use Rattle.schemars_headline.proofs.AskedRows.{own_asked}
@@ -175,7 +175,7 @@ more_types_own s rows checked same own k d found =
       is_text = h.is_text;
       pending = h.pending;
       document = document-wider (basis_of_plan (state_plan new None)) s.settings.inlines R
-          (Refers (state_plan new None) false (work_of s)) to_more
+          (Refers (state_plan new None) false (registry_of s)) to_more
           h.pending h.row d (
             h.document.0,
             within-more (basis_of_plan (state_plan s None)) rows s.settings.inlines R
@@ -185,7 +185,7 @@ more_types_own s rows checked same own k d found =
     }
   where
     R : ℕ → Text → Type 0
-    R = Refers (state_plan s None) false (work_of s)
+    R = Refers (state_plan s None) false (registry_of s)
 
     stays : (n m : ℕ) (e : Entry) → entry_at s.rows n ≡ Some e → Contains (numbers_of e.shape) m → key_options rows m ≡ key_options s.rows m
     stays n m e at c =
@@ -210,8 +210,8 @@ more_types_own s rows checked same own k d found =
         let known : m < length s.rows = checked.within.within n m (subst P (sym at) c) in
         (option_same m known, without_options-same s.rows rows checked option_same longer m known)
 
-    to_more : (n : ℕ) (r : Text) → Refers (state_plan s None) false (work_of s) n r
-        → Refers (state_plan (record s { rows = rows }) None) false (work_of s) n r
+    to_more : (n : ℕ) (r : Text) → Refers (state_plan s None) false (registry_of s) n r
+        → Refers (state_plan (record s { rows = rows }) None) false (registry_of s) n r
     to_more n r (inl h) = cc
     to_more n r (inr h) = inr (h.0, h.1, h.2, h.3, apart_in_more s.rows (length s.rows) rows same n h.4, h.5)
 

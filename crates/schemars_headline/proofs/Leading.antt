@@ -23,7 +23,7 @@ use Rattle.schemars_types.proofs.Asked.{asked, entry_low}
 use Rattle.schemars_documents.specs.Describes.{IsWritten, Describes}
 use Rattle.schemars_documents.specs.PlainTable.{IsPlainUnder, parts_in, payload_parts, variant_parts}
 use Rattle.schemars_build.specs.Naming.{Naming, IsOneToOne, name_of}
-use Rattle.schemars_build.specs.Work.{Plan, Work, IsKey, reference_to, basis_of_plan}
+use Rattle.schemars_build.specs.Registry.{Plan, Registry, IsKey, reference_to, basis_of_plan}
 use Rattle.schemars_headline.specs.Headline.{AcceptsItsValues}
 use Rattle.schemars_headline.proofs.Keys.{key_here, key_later, key_cases}
 use Rattle.schemars_meaning.proofs.Mapping.{describes-wider, written_map}
@@ -194,7 +194,7 @@ holds_at path definitions document found counts = record {
 }
 
 -- the root is the document itself, or says the same
-abbrev pub IsItsRoot : Plan → Work → Data → Type 0
+abbrev pub IsItsRoot : Plan → Registry → Data → Type 0
 IsItsRoot plan w document =
     (n : ℕ) → plan.root ≡ Some n
     → (own : Data) × (depth : ℕ) × ((patterns : Patterns) (f : Text → Judge)
@@ -204,7 +204,7 @@ IsItsRoot plan w document =
 bound_enough : (a len defs counted n : ℕ) → len ≤ defs + 1 → defs ≤ counted → (a + 1) * (counted + 2) ≤ n → (a + 1) * (len + 1) ≤ n
 bound_enough a len defs counted n few less h = grind (arith, mul-le-mul_left)
 
-module _ (plan : Plan) (w : Work) (document : Data) (checked : IsChecked plan.rows) (plain : IsPlainUnder plan.contract plan.rows)
+module _ (plan : Plan) (w : Registry) (document : Data) (checked : IsChecked plan.rows) (plain : IsPlainUnder plan.contract plan.rows)
     (one : IsOneToOne w.names) (definitions : AllStand plan w)
     (holds : HoldsDefinitions plan.path w.definitions document) (is_root : IsItsRoot plan w document) where
   abbrev row_named : (k : Text) → IsKey k w.definitions → RowNamed plan w.names k

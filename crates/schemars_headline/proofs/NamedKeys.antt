@@ -8,8 +8,8 @@ use Rattle.serde_json.specs.Find.{as_str}
 use Rattle.schemars_schema.specs.Json.{Text}
 use Rattle.schemars_schema.specs.References.{references}
 use Rattle.schemars_documents.specs.PlainTable.{HasPlainNotesThroughout}
-use Rattle.schemars_build.specs.Work.{IsKey, Refers, reference_to, basis_of_plan}
-use Rattle.schemars_headline.specs.State.{State, state_plan, work_of, HasOwnDefinitions, ReferencesNameKeys}
+use Rattle.schemars_build.specs.Registry.{IsKey, Refers, reference_to, basis_of_plan}
+use Rattle.schemars_headline.specs.State.{State, state_plan, registry_of, HasOwnDefinitions, ReferencesNameKeys}
 use Rattle.schemars_headline.proofs.Keys.{key_here, key_later, key_cases}
 use Rattle.schemars_build.proofs.Placing.{document_describes}
 use Rattle.schemars_headline.proofs.Resolving.{resolve-each, described_resolved}
@@ -58,14 +58,14 @@ key_named path (member k d ms) r h = elim (or_cases (option_map_or (bytes_eq (re
 pub noted_name_keys : (s : State) → HasOwnDefinitions s → HasPlainNotesThroughout s.rows → ReferencesNameKeys s
 noted_name_keys s own noted k d r found among =
     let definition = own k d found in
-    let all = (described_resolved test (basis_of_plan (state_plan s None)) (Refers (state_plan s None) false (work_of s)) noted leads
+    let all = (described_resolved test (basis_of_plan (state_plan s None)) (Refers (state_plan s None) false (registry_of s)) noted leads
     definition.document.0 definition.row d (document_describes (basis_of_plan (state_plan s None)) s.settings.inlines
-    (Refers (state_plan s None) false (work_of s)) definition.pending definition.row d definition.document)).1 in
+    (Refers (state_plan s None) false (registry_of s)) definition.pending definition.row d definition.document)).1 in
     key_named (state_plan s None).path s.definitions r (resolve-each test (references d) r all among)
   where
     test : Data → Bool
     test = names_key (state_plan s None).path s.definitions
 
-    leads : (j : ℕ) (t : Text) → Refers (state_plan s None) false (work_of s) j t → test (string t) ≡ true
+    leads : (j : ℕ) (t : Text) → Refers (state_plan s None) false (registry_of s) j t → test (string t) ≡ true
     leads j t (inl h) = cc
     leads j t (inr h) = rw (h.3) (names_a_key (state_plan s None).path s.definitions h.0 h.2)

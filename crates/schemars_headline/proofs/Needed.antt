@@ -12,7 +12,7 @@ use Rattle.schemars_documents.specs.Documents.{root_document}
 use Rattle.schemars_documents.specs.PlainTable.{IsPlainTable}
 use Rattle.schemars_meaning.proofs.Referring.{plain_rows}
 use Rattle.schemars_meaning.proofs.ReferencesKept.{references-root}
-use Rattle.schemars_build.specs.Work.{Plan, Work, Refers, IsKey, basis_of_plan}
+use Rattle.schemars_build.specs.Registry.{Plan, Registry, Refers, IsKey, basis_of_plan}
 use Rattle.schemars_build.specs.Reached.{IsReached}
 use Rattle.schemars_definitions.proofs.Members.{without-put}
 use Rattle.schemars_build.proofs.Placing.{document_describes}
@@ -28,7 +28,7 @@ stands_behind : (path key : Text) → StandsAt path key → key_of path ≡ key
 stands_behind path key (inl at) = ap key_of at.0 ∙ sym at.1
 stands_behind path key (inr at) = ap key_of at.0 ∙ sym at.1
 
-module _ (s : State) (n : ℕ) (w : Work) (document : Data) (root : IsRootOf s n w document) (plain : IsPlainTable s.rows)
+module _ (s : State) (n : ℕ) (w : Registry) (document : Data) (root : IsRootOf s n w document) (plain : IsPlainTable s.rows)
     (draft : IsDraftPath (path_of s)) (none : s.definitions ≡ no_members) where
   abbrev plan : Plan
   plan = state_plan s (Some n)
@@ -79,7 +79,7 @@ module _ (s : State) (n : ℕ) (w : Work) (document : Data) (root : IsRootOf s n
       let reached : P w.definitions (references root.own) = each name (subst (IsKey name) (sym same) here) in
       subst (P definitions) from (subst (λ xs. P xs (references root.own)) same reached)
 
-pub root_needed : (s : State) (n : ℕ) (w : Work) (d : Data) → IsRootOf s n w d → NeedsItsDefinitions s d
+pub root_needed : (s : State) (n : ℕ) (w : Registry) (d : Data) → IsRootOf s n w d → NeedsItsDefinitions s d
 root_needed s n w d root none draft plain =
     placed_reached s n w d root plain draft none
     (placed_in (path_of s) w.definitions (members_in (root_document (name_at s.rows n) s.settings.meta_schema root.own)) d draft

@@ -15,7 +15,7 @@ use Rattle.schemars_types.specs.Rows.{Row, name_at, entry_at}
 use Rattle.schemars_documents.specs.Documents.{with_title, with_meta_schema, root_document}
 use Rattle.schemars_documents.specs.PlainTable.{HasPlainLiteral, IsNotedEntry, HasPlainNotes, IsNotedThroughout, HasPlainNotesThroughout, IsNotedShape}
 use Rattle.schemars_documents.specs.Describes.{Describes}
-use Rattle.schemars_build.specs.Work.{Plan, Work, Refers, reference_to, basis_of_plan}
+use Rattle.schemars_build.specs.Registry.{Plan, Registry, Refers, reference_to, basis_of_plan}
 use Rattle.schemars_meaning.proofs.Mapping.{describes-wider}
 use Rattle.schemars_build.proofs.Placing.{document_describes}
 use Rattle.schemars_headline.specs.State.{State, path_of, state_plan}
@@ -73,7 +73,7 @@ to-name path key name (inr at) text =
     subst (λ p. IsName key (reference_to p name)) (sym at.0)
     (subst (λ k. IsName k (reference_to (codes "/definitions") name)) (sym at.1) (definitions-name name text))
 
-module _ (plan : Plan) (w : Work) (key : Text) (at : StandsAt plan.path key) (definitions : AllStand plan w) where
+module _ (plan : Plan) (w : Registry) (key : Text) (at : StandsAt plan.path key) (definitions : AllStand plan w) where
   refers-name : (root : Option ℕ) (j : ℕ) (r : Text) → Refers (record plan { root = root }) true w j r → IsName key r
   refers-name root j r (inl is) = inl is.2
   refers-name root j r (inr is) =
@@ -168,7 +168,7 @@ noted_notes rows noted n = go (entry_at rows n) (noted n)
     go None own = tt
     go (Some e) own = (own.0, noted-literal e.shape own.1)
 
-module _ (old : State) (n : ℕ) (w : Work) (document : Data) (key : Text) (h : IsRootOf old n w document)
+module _ (old : State) (n : ℕ) (w : Registry) (document : Data) (key : Text) (h : IsRootOf old n w document)
     (noted : HasPlainNotesThroughout old.rows)
     (once : HasKeysOnce w.definitions) (definitions : AllStand (state_plan old (Some n)) w) (at : StandsAt (path_of old) key) where
   abbrev plan : Plan

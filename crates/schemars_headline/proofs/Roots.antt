@@ -12,7 +12,7 @@ use Rattle.schemars_schema.proofs.Objects.{IsSilent, judge-put}
 use Rattle.schemars_builders.specs.NullLaw.{context2020_12, IsDraft, AcceptsNullToo}
 use Rattle.schemars_shapes.specs.Shape.{Entry, Shape, Field, Flattened}
 use Rattle.schemars_types.specs.Rows.{Row, name_at, entry_at}
-use Rattle.schemars_types.specs.Effective.{spread, flattened_in, part_enums}
+use Rattle.schemars_types.specs.Effective.{expanded_shape, flattened_in, part_enums}
 use Rattle.schemars_types.specs.declared.contract.Contract.{Contract}
 use Rattle.schemars_types.specs.Faults.{IsChecked}
 use Rattle.schemars_documents.specs.Documents.{root_document}
@@ -21,10 +21,10 @@ use Rattle.schemars_shapes.specs.Shape as shape
 use Rattle.schemars_documents.specs.PlainTable.{IsPlainShape, HasPlainLiteral, IsEntryUnder, IsPlainUnder, IsPlainTable, IsNotedEntry, HasPlainNotes, HasPlainNotesThroughout}
 use Rattle.schemars_documents.proofs.OpenStructs.{plain_under}
 use Rattle.schemars_build.specs.Naming.{IsOneToOne}
-use Rattle.schemars_build.specs.Work.{Plan, Work, Refers, basis_of_plan}
+use Rattle.schemars_build.specs.Registry.{Plan, Registry, Refers, basis_of_plan}
 use Rattle.schemars_builders.specs.AllowNull.{allow_null}
 use Rattle.schemars_meaning.proofs.FieldsDescribed.{written_or_null}
-use Rattle.schemars_headline.specs.State.{State, state_plan, work_of, HasOwnDefinitions}
+use Rattle.schemars_headline.specs.State.{State, state_plan, registry_of, HasOwnDefinitions}
 use Rattle.schemars_headline.specs.Headline.{IsRootOf, MeansItsType, MeansItsTypeIn, SubschemaHeadline, IsDraftPath, with_definitions}
 use Rattle.schemars_meaning.proofs.Notes.{judge-root}
 use Rattle.schemars_definitions.specs.Keys.{HasKeysOnce}
@@ -46,7 +46,7 @@ key_silent key (inr is) = rw is refl
 
 -- ---- what holds of every document with the definitions
 
-module _ (plan : Plan) (w : Work) (document : Data) (checked : IsChecked plan.rows)
+module _ (plan : Plan) (w : Registry) (document : Data) (checked : IsChecked plan.rows)
     (plain : IsPlainUnder plan.contract plan.rows)
     (one : IsOneToOne w.names) (definitions : AllStand plan w)
     (holds : HoldsDefinitions plan.path w.definitions document) (is_root : IsItsRoot plan w document) where
@@ -97,7 +97,7 @@ resolved_placed path definitions ms document (inr (key, at, is)) all h =
     subst P (sym is) (placed_resolved (resolves document) key definitions ms (stands_key path key at) all h)
 
 -- a root document with its definitions means its type
-pub root_means : (plan : Plan) (w : Work) (n : ℕ) (name : Text) (uri : Option Text) (depth : ℕ) (own document : Data)
+pub root_means : (plan : Plan) (w : Registry) (n : ℕ) (name : Text) (uri : Option Text) (depth : ℕ) (own document : Data)
     → IsChecked plan.rows → IsOneToOne w.names → HasKeysOnce w.definitions → plan.root ≡ Some n
     → AllStand plan w → Describes (basis_of_plan plan) (MayRefer plan w) depth n own
     → IsPlaced plan.path w.definitions (root_document name uri own) document
@@ -128,7 +128,7 @@ root_means plan w n name uri depth own document checked one once root definition
           (root_resolved (resolves document) name uri own resolved_own);
     }
 
-plain_literal : (has : Flattened → List Field) (enums : Flattened → List ℕ) (s : Shape) → IsPlainShape (spread has enums s)
+plain_literal : (has : Flattened → List Field) (enums : Flattened → List ℕ) (s : Shape) → IsPlainShape (expanded_shape has enums s)
     → HasPlainLiteral s
 plain_literal has enums (shape.literal d) h = h
 plain_literal has enums s h = tt
@@ -140,7 +140,7 @@ plain_notes contract rows plain n = by (entry_at rows n) (plain n)
     by None h = tt
     by (Some e) h = (h.0, plain_literal (flattened_in rows) (part_enums rows) e.shape h.1)
 
-module _ (plan : Plan) (w : Work) (n : ℕ) (name : Text) (uri : Option Text) (depth : ℕ) (own : Data) (plain : HasPlainNotes plan.rows)
+module _ (plan : Plan) (w : Registry) (n : ℕ) (name : Text) (uri : Option Text) (depth : ℕ) (own : Data) (plain : HasPlainNotes plan.rows)
     (R : ℕ → Text → Type 0) (h : Describes (basis_of_plan plan) R depth n own) where
   room : (key : Text) → IsDefinitionsKey key → get_member key (members_in (root_document name uri own)) ≡ None
   room key is = no_definitions_in key is (basis_of_plan plan) R plain name uri depth n own h
@@ -151,7 +151,7 @@ module _ (plan : Plan) (w : Work) (n : ℕ) (name : Text) (uri : Option Text) (d
   root_placed draft = placing plan.path w.definitions (members_in (root_document name uri own)) draft room
 
 -- so does what is made of it by placing the definitions
-pub root_headline : (plan : Plan) (w : Work) (n : ℕ) (name : Text) (uri : Option Text) (depth : ℕ) (own document : Data)
+pub root_headline : (plan : Plan) (w : Registry) (n : ℕ) (name : Text) (uri : Option Text) (depth : ℕ) (own document : Data)
     → IsChecked plan.rows → IsOneToOne w.names → HasKeysOnce w.definitions → plan.root ≡ Some n
     → AllStand plan w → Describes (basis_of_plan plan) (MayRefer plan w) depth n own → IsDraftPath plan.path
     → with_definitions plan.path w.definitions (root_document name uri own) ≡ Some document
@@ -162,7 +162,7 @@ root_headline plan w n name uri depth own document checked one once root definit
     root_means plan w n name uri depth own document checked one once root definitions h placed plain
 
 -- so does what a root call makes
-pub root_call_means : (old : State) (n : ℕ) (w : Work) (document : Data) → IsRootOf old n w document → IsChecked old.rows
+pub root_call_means : (old : State) (n : ℕ) (w : Registry) (document : Data) → IsRootOf old n w document → IsChecked old.rows
     → IsOneToOne w.names → HasKeysOnce w.definitions → AllStand (state_plan old (Some n)) w
     → IsDraftPath (state_plan old (Some n)).path
     → IsPlainUnder old.settings.contract old.rows
@@ -179,7 +179,7 @@ root_call_means old n w document h checked one once definitions draft =
 -- ---- subschemas
 
 -- a subschema means its type in each document that holds its definitions
-pub subschema_means : (plan : Plan) (w : Work) (n : ℕ) (free : Bool) (depth : ℕ) (schema document : Data) → IsChecked plan.rows
+pub subschema_means : (plan : Plan) (w : Registry) (n : ℕ) (free : Bool) (depth : ℕ) (schema document : Data) → IsChecked plan.rows
     → IsOneToOne w.names → plan.root ≡ None → AllStand plan w
     → IsWritten (Refers plan free w) (Describes (basis_of_plan plan) (Refers plan free w) depth) n schema
     → IsPlainUnder plan.contract plan.rows → HoldsDefinitions plan.path w.definitions document
@@ -200,18 +200,18 @@ subschema_means plan w n free depth schema document checked one none definitions
     }
 
 pub subschema_headline : (s : State) (n : ℕ) (free : Bool) (schema : Data) → IsChecked s.rows → IsOneToOne s.names
-    → HasOwnDefinitions s → IsSubschema (state_plan s None) free (work_of s) n schema → SubschemaHeadline s n schema
+    → HasOwnDefinitions s → IsSubschema (state_plan s None) free (registry_of s) n schema → SubschemaHeadline s n schema
 subschema_headline s n free schema checked one definitions h plain known document holding =
     let plan = state_plan s None in
-    let written = placed_written (basis_of_plan plan) plan.inlines (Refers plan free (work_of s)) [] n schema h in
-    subschema_means plan (work_of s) n free written.0 schema document checked one refl
-    (λ name d found. stands_now plan (work_of s) name d (definitions name d found)) written.1
+    let written = placed_written (basis_of_plan plan) plan.inlines (Refers plan free (registry_of s)) [] n schema h in
+    subschema_means plan (registry_of s) n free written.0 schema document checked one refl
+    (λ name d found. stands_now plan (registry_of s) name d (definitions name d found)) written.1
     (plain_under s.rows s.settings.contract plain) (held plan.path s.definitions document known holding)
 
 -- with null added, a subschema of a plain table accepts under each draft what it accepted, and null
-pub subschema_or_null : (s : State) (n : ℕ) (free : Bool) (schema : Data) → IsSubschema (state_plan s None) free (work_of s) n schema
+pub subschema_or_null : (s : State) (n : ℕ) (free : Bool) (schema : Data) → IsSubschema (state_plan s None) free (registry_of s) n schema
     → IsPlainTable s.rows → (dialect : Dialect) → IsDraft dialect → AcceptsNullToo dialect schema (allow_null schema)
 subschema_or_null s n free schema h plain =
     let plan = state_plan s None in
-    let written = placed_written (basis_of_plan plan) plan.inlines (Refers plan free (work_of s)) [] n schema h in
-    written_or_null (basis_of_plan plan) (Refers plan free (work_of s)) plain written.0 n schema written.1
+    let written = placed_written (basis_of_plan plan) plan.inlines (Refers plan free (registry_of s)) [] n schema h in
+    written_or_null (basis_of_plan plan) (Refers plan free (registry_of s)) plain written.0 n schema written.1

@@ -6,12 +6,12 @@ use Rattle.serde_json.specs.Find.{get_member}
 use Rattle.schemars_schema.specs.Json.{Text}
 use Rattle.schemars_documents.specs.Describes.{Describes}
 use Rattle.schemars_build.specs.Naming.{name_of}
-use Rattle.schemars_build.specs.Work.{Plan, Work, Refers, IsDefinition, basis_of_plan}
+use Rattle.schemars_build.specs.Registry.{Plan, Registry, Refers, IsDefinition, basis_of_plan}
 use Rattle.schemars_meaning.proofs.Mapping.{describes-wider}
 use Rattle.schemars_build.proofs.Placing.{document_describes}
 
 -- with `#` free there are more references
-pub free_refers : (plan : Plan) (w : Work) (free : Bool) (j : ℕ) (r : Text) → Refers plan free w j r → Refers plan true w j r
+pub free_refers : (plan : Plan) (w : Registry) (free : Bool) (j : ℕ) (r : Text) → Refers plan free w j r → Refers plan true w j r
 free_refers plan w free j r (inl h) = inl (h.0, refl, h.2, h.3)
 free_refers plan w free j r (inr h) = inr h
 
@@ -20,24 +20,24 @@ abbrev pub rootless : Plan → Plan
 rootless plan = record plan { root = None }
 
 -- how a definition of a document may refer: as the running call does, or as an earlier one did, by the name of each row
-abbrev pub MayRefer : Plan → Work → ℕ → Text → Type 0
+abbrev pub MayRefer : Plan → Registry → ℕ → Text → Type 0
 MayRefer plan w n r = Refers plan true w n r ⊎ Refers (rootless plan) true w n r
 
-pub refers_may : (plan : Plan) (w : Work) (free : Bool) (j : ℕ) (r : Text) → Refers plan free w j r → MayRefer plan w j r
+pub refers_may : (plan : Plan) (w : Registry) (free : Bool) (j : ℕ) (r : Text) → Refers plan free w j r → MayRefer plan w j r
 refers_may plan w free j r h = inl (free_refers plan w free j r h)
 
 -- a definition in the document of the running call
-pub record Stands (plan : Plan) (w : Work) (name : Text) (d : Data) : Type 0 where
+pub record Stands (plan : Plan) (w : Registry) (name : Text) (d : Data) : Type 0 where
   pub row : ℕ
   pub is_named : name_of row plan.contract w.names ≡ Some name
   pub is_text : IsUtf8 name
   pub depth : ℕ
   pub describes : Describes (basis_of_plan plan) (MayRefer plan w) depth row d
 
-abbrev pub AllStand : Plan → Work → Type 0
+abbrev pub AllStand : Plan → Registry → Type 0
 AllStand plan w = (name : Text) (d : Data) → get_member name w.definitions ≡ Some d → Stands plan w name d
 
-pub stands_now : (plan : Plan) (w : Work) (name : Text) (d : Data) → IsDefinition plan w name d → Stands plan w name d
+pub stands_now : (plan : Plan) (w : Registry) (name : Text) (d : Data) → IsDefinition plan w name d → Stands plan w name d
 stands_now plan w name d h = record {
   row = h.row;
   is_named = h.is_named;
@@ -48,7 +48,7 @@ stands_now plan w name d h = record {
       (document_describes (basis_of_plan plan) plan.inlines (Refers plan false w) h.pending h.row d h.document);
 }
 
-pub stands_before : (plan : Plan) (w : Work) (name : Text) (d : Data) → IsDefinition (rootless plan) w name d → Stands plan w name d
+pub stands_before : (plan : Plan) (w : Registry) (name : Text) (d : Data) → IsDefinition (rootless plan) w name d → Stands plan w name d
 stands_before plan w name d h = record {
   row = h.row;
   is_named = h.is_named;

@@ -22,7 +22,7 @@ use Rattle.schemars_laws.proofs.Editing.{absent-once}
 use Rattle.schemars_shapes.specs.Shape.{Field, Flattened, Fields, Entry}
 use Rattle.schemars_types.specs.Rows.{Row, entry_at}
 use Rattle.schemars_types.specs.declared.contract.Contract.{Contract}
-use Rattle.schemars_types.specs.Meaning.{Choice, is_required}
+use Rattle.schemars_types.specs.Meaning.{VariantMatch, is_required}
 use Rattle.schemars_documents.specs.Documents.{Keyword, required_names}
 use Rattle.schemars_documents.specs.PlainTable.{AreNoted, ArePartsUnder, IsEntryUnder, IsNotedThroughout}
 use Rattle.schemars_documents.specs.Basis.{Basis}
@@ -162,11 +162,11 @@ module _ (N : Text → Type 0) where
   no_choice d is = cc
 
   module _ (c : Context) (on : c.dialect.reads_unevaluated ≡ true) (v : Data) where
-    item-good : (closed : Bool) (t : Data) (o : Choice) → IsItem c on closed t o v → Holds C t → Everywhere C t
+    item-good : (closed : Bool) (t : Data) (o : VariantMatch) → IsItem c on closed t o v → Holds C t → Everywhere C t
     item-good closed t o i held =
         subst (Everywhere C) (sym i.is) (form-good i.es i.ns no_parts closed i.members i.form no_part no_choice (subst (Holds C) i.is held))
 
-    items-good : (ts : List Data) (os : List Choice) → AllItems c on false ts os v → HoldsEach C (items_of ts)
+    items-good : (ts : List Data) (os : List VariantMatch) → AllItems c on false ts os v → HoldsEach C (items_of ts)
         → asked_of_items C (items_of ts)
     unfolding asked Holds
     items-good [] [] h held = tt
@@ -198,9 +198,9 @@ module _ (N : Text → Type 0) where
         let same : array (items_of p.items) ≡ d = cc in
         subst (λ e. HoldsList C e → (asked C e).as_list) same (items-good p.items p.choices h)
 
-    struct-good : (contract : Contract) (W : ℕ → Data → Type 0) (list : List Field) (offers : List (List Choice)) (closed : Bool) (s : Data)
-        → IsStruct c on contract W v list offers closed s → Holds C s → IsGood R s
-    struct-good contract W list offers closed s a held =
+    struct-good : (contract : Contract) (W : ℕ → Data → Type 0) (list : List Field) (matches_of : List (List VariantMatch)) (closed : Bool) (s : Data)
+        → IsStruct c on contract W v list matches_of closed s → Holds C s → IsGood R s
+    struct-good contract W list matches_of closed s a held =
         subst (IsGood R) (sym a.is) (record {
           schema = tt;
           everywhere = form-good (field_keywords list a.written) (required_names contract list) a.parts closed a.members a.form

@@ -15,10 +15,10 @@ use Rattle.schemars_schema.proofs.Placings.{plain-components, resolved-definitio
 use Rattle.schemars_types.specs.Faults.{IsChecked}
 use Rattle.schemars_documents.specs.PlainTable.{IsPlainTable}
 use Rattle.schemars_build.specs.Naming.{IsOneToOne}
-use Rattle.schemars_build.specs.Work.{Plan, Work, basis_of_plan, Refers}
+use Rattle.schemars_build.specs.Registry.{Plan, Registry, basis_of_plan, Refers}
 use Rattle.schemars_documents.proofs.OpenStructs.{plain_under}
 use Rattle.schemars_meaning.proofs.Schemas.{described}
-use Rattle.schemars_headline.specs.State.{State, path_of, state_plan, work_of, HasOwnDefinitions}
+use Rattle.schemars_headline.specs.State.{State, path_of, state_plan, registry_of, HasOwnDefinitions}
 use Rattle.schemars_headline.specs.Headline.{AcceptsItsValues}
 use Rattle.schemars_headline.proofs.Standing.{MayRefer, AllStand, stands_now}
 use Rattle.schemars_headline.proofs.Placed.{held}
@@ -61,10 +61,10 @@ resolve-at_end es all name e found =
 -- ---- the generator's own definitions are of the class
 
 module _ (s : State) (own : HasOwnDefinitions s) (at : path_of s ≡ components) (plain : IsPlainTable s.rows) where
-  standing : AllStand (state_plan s None) (work_of s)
-  standing name d found = stands_now (state_plan s None) (work_of s) name d (own name d found)
+  standing : AllStand (state_plan s None) (registry_of s)
+  standing name d found = stands_now (state_plan s None) (registry_of s) name d (own name d found)
 
-  refers-one : (j : ℕ) (r : Text) → Refers (state_plan s None) true (work_of s) j r → NamesOne s.definitions r
+  refers-one : (j : ℕ) (r : Text) → Refers (state_plan s None) true (registry_of s) j r → NamesOne s.definitions r
   refers-one j r (inl is) = let never : None ≡ Some j = is.0 in cc
   refers-one j r (inr is) = (
     is.0,
@@ -73,19 +73,19 @@ module _ (s : State) (own : HasOwnDefinitions s) (at : path_of s ≡ components)
     (
       is.2.0,
       is.2.1,
-      described (basis_of_plan (state_plan s None)) (MayRefer (state_plan s None) (work_of s)) (standing is.0 is.2.0 is.2.1).depth
+      described (basis_of_plan (state_plan s None)) (MayRefer (state_plan s None) (registry_of s)) (standing is.0 is.2.0 is.2.1).depth
           (standing is.0 is.2.0 is.2.1).row is.2.0 (standing is.0 is.2.0 is.2.1).describes,
     ),
   )
 
-  may_refer-one : (j : ℕ) (r : Text) → MayRefer (state_plan s None) (work_of s) j r → NamesOne s.definitions r
+  may_refer-one : (j : ℕ) (r : Text) → MayRefer (state_plan s None) (registry_of s) j r → NamesOne s.definitions r
   may_refer-one j r (inl is) = refers-one j r is
   may_refer-one j r (inr is) = refers-one j r is
 
   pub own-class : EachEverywhere (Stands (NamesOne s.definitions) IsForOpenApi) s.definitions
   own-class name d found =
       for_openapi (NamesOne s.definitions) d
-      (described-good (without_rest (NamesOne s.definitions)) (basis_of_plan (state_plan s None)) (MayRefer (state_plan s None) (work_of s))
+      (described-good (without_rest (NamesOne s.definitions)) (basis_of_plan (state_plan s None)) (MayRefer (state_plan s None) (registry_of s))
       may_refer-one plain (standing name d found).depth (standing name d found).row d (standing name d found).describes).everywhere
 
 -- ---- what they mean
@@ -98,8 +98,8 @@ module _ (s : State) (checked : IsChecked s.rows) (one : IsOneToOne s.names) (ow
   abbrev plan : Plan
   plan = state_plan s None
 
-  abbrev w : Work
-  w = work_of s
+  abbrev w : Registry
+  w = registry_of s
 
   stand : AllStand plan w
   stand = standing s own at plain

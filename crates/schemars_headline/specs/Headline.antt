@@ -15,10 +15,10 @@ use Rattle.schemars_types.specs.declared.contract.Contract.{Contract}
 use Rattle.schemars_types.specs.Meaning.{belongs}
 use Rattle.schemars_documents.specs.PlainTable.{IsPlainTable, IsPlainUnder}
 use Rattle.schemars_documents.specs.Documents.{root_document}
-use Rattle.schemars_build.specs.Work.{Work, Step}
+use Rattle.schemars_build.specs.Registry.{Registry, Step}
 use Rattle.schemars_build.specs.Parts.{IsDocumentOf}
 use Rattle.schemars_build.specs.Reached.{AreReached}
-use Rattle.schemars_headline.specs.State.{State, path_of, state_plan, work_of, HasOwnDefinitions}
+use Rattle.schemars_headline.specs.State.{State, path_of, state_plan, registry_of, HasOwnDefinitions}
 
 -- under every reading of patterns, from the bound on, the schema in this document accepts under the dialect a JSON value exactly
 -- when it belongs to the row, and never leaves it open
@@ -61,30 +61,30 @@ with_definitions path no_members document = Some document
 with_definitions path (member k d ms) document = placed_at path (member k d ms) document
 
 -- the document of row n as a root document, without the definitions, where all that was added is reached from it
-pub record IsTitledRoot (old : State) (before : Work) (n : ℕ) (work : Work) (document : Data) : Type 0 where
+pub record IsTitledRoot (old : State) (before : Registry) (n : ℕ) (registry : Registry) (document : Data) : Type 0 where
   pub own : Data
-  pub is_document : IsDocumentOf (state_plan old (Some n)) true work before.pending n own
+  pub is_document : IsDocumentOf (state_plan old (Some n)) true registry before.pending n own
   pub is_root : document ≡ root_document (name_at old.rows n) old.settings.meta_schema own
-  pub reached : IsPlainTable old.rows → AreReached (state_plan old (Some n)) false before work (references own)
+  pub reached : IsPlainTable old.rows → AreReached (state_plan old (Some n)) false before registry (references own)
 
 -- what a root call makes: the document of row n, made a root document, with the definitions, where all that was added is reached from it
-pub record IsRootOf (old : State) (n : ℕ) (work : Work) (document : Data) : Type 0 where
-  pub step : Step (state_plan old (Some n)) (work_of old) work
+pub record IsRootOf (old : State) (n : ℕ) (registry : Registry) (document : Data) : Type 0 where
+  pub step : Step (state_plan old (Some n)) (registry_of old) registry
   pub own : Data
-  pub is_document : IsDocumentOf (state_plan old (Some n)) true work [] n own
-  pub is_root : with_definitions (state_plan old (Some n)).path work.definitions
+  pub is_document : IsDocumentOf (state_plan old (Some n)) true registry [] n own
+  pub is_root : with_definitions (state_plan old (Some n)).path registry.definitions
       (root_document (name_at old.rows n) old.settings.meta_schema own) ≡ Some document
-  pub reached : IsPlainTable old.rows → AreReached (state_plan old (Some n)) false (work_of old) work (references own)
+  pub reached : IsPlainTable old.rows → AreReached (state_plan old (Some n)) false (registry_of old) registry (references own)
 
 -- a root document of row n whose definitions cannot be placed, where all that was added is reached from it
 pub record CannotPlace (old : State) (n : ℕ) : Type 0 where
-  pub work : Work
-  pub step : Step (state_plan old (Some n)) (work_of old) work
+  pub registry : Registry
+  pub step : Step (state_plan old (Some n)) (registry_of old) registry
   pub own : Data
-  pub is_document : IsDocumentOf (state_plan old (Some n)) true work [] n own
-  pub no_place : with_definitions (state_plan old (Some n)).path work.definitions
+  pub is_document : IsDocumentOf (state_plan old (Some n)) true registry [] n own
+  pub no_place : with_definitions (state_plan old (Some n)).path registry.definitions
       (root_document (name_at old.rows n) old.settings.meta_schema own) ≡ None
-  pub reached : IsPlainTable old.rows → AreReached (state_plan old (Some n)) false (work_of old) work (references own)
+  pub reached : IsPlainTable old.rows → AreReached (state_plan old (Some n)) false (registry_of old) registry (references own)
 
 -- ---- subschemas
 

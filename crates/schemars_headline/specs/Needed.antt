@@ -6,7 +6,7 @@ use Rattle.schemars_schema.specs.Json.{Text}
 use Rattle.schemars_schema.specs.Edits.{without}
 use Rattle.schemars_schema.specs.References.{references}
 use Rattle.schemars_documents.specs.PlainTable.{IsPlainTable}
-use Rattle.schemars_build.specs.Work.{IsKey}
+use Rattle.schemars_build.specs.Registry.{IsKey}
 use Rattle.schemars_build.specs.Reached.{IsReached}
 use Rattle.schemars_headline.specs.State.{State, path_of}
 use Rattle.schemars_headline.specs.Headline.{IsDraftPath}

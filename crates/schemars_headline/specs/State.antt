@@ -8,7 +8,7 @@ use Rattle.schemars_types.specs.Rows.{Row}
 use Rattle.schemars_types.specs.declared.contract.Contract.{Contract}
 use Rattle.schemars_types.specs.declared.contract.Contract.TheVariants.{Deserialize}
 use Rattle.schemars_build.specs.Naming.{Naming}
-use Rattle.schemars_build.specs.Work.{Plan, Work, IsKey, AreDefinitions, reference_to}
+use Rattle.schemars_build.specs.Registry.{Plan, Registry, IsKey, AreDefinitions, reference_to}
 
 pub record Settings : Type 0 where
   pub definitions_path : Text
@@ -56,13 +56,13 @@ path_of s = stripped s.settings.definitions_path
 
 -- ---- between calls
 
-abbrev pub work_of : State → Work
-work_of s = record {
+abbrev pub registry_of : State → Registry
+registry_of s = record {
   names = s.names;
   definitions = s.definitions;
   begun = [];
   kept = length s.names;
-  meets_root = false;
+  has_root_reference = false;
   pending = [];
 }
 
@@ -79,7 +79,7 @@ state_plan s root = record {
 -- each definition is the document of the row of its name, with references to other definitions alone: so it is where
 -- the caller changed none
 abbrev pub HasOwnDefinitions : State → Type 0
-HasOwnDefinitions s = AreDefinitions (state_plan s None) (work_of s)
+HasOwnDefinitions s = AreDefinitions (state_plan s None) (registry_of s)
 
 -- each reference in a definition names a key of the definitions
 abbrev pub ReferencesNameKeys : State → Type 0
@@ -88,5 +88,5 @@ ReferencesNameKeys s =
     → (name : Text) × IsKey name s.definitions × (r ≡ string (reference_to (path_of s) name))
 
 -- what is there after a root call: where a new definition refers to the root document, which `#` means, none of the new ones stays
-abbrev pub after_root : State → Work → State
-after_root old w = record old { names = w.names; definitions = if w.meets_root then old.definitions else w.definitions }
+abbrev pub after_root : State → Registry → State
+after_root old w = record old { names = w.names; definitions = if w.has_root_reference then old.definitions else w.definitions }

@@ -2,7 +2,7 @@
 #![tactic(auto, using(crate::proofs::OwnTypes::adding))]
 
 ghost use Rattle.std.specs.Prelude.{◌≡◌, ◌++◌, List, [], ◌∷◌, None, Some, IfErr, OnErr, OnOk, false, map, option_map, string_bytes};
-ghost use Rattle.schemars_shapes.specs.Shape.{Shape as shape, bare_fields, entry_of, field_of, internal_payload_of, internal_variant_of, newtype_payload, no_payload, payload_of, shape_of, struct_payload, tuple_payload, variant_of, without_notes};
+ghost use Rattle.schemars_shapes.specs.Shape.{Shape as shape, Tagging as tagging, bare_fields, entry_of, field_of, internal_payload_of, internal_variant_of, newtype_payload, no_payload, payload_of, shape_of, struct_payload, tuple_payload, variant_of, without_notes};
 ghost use Rattle.schemars_types.specs.Rows.{Row, place_of, unknown_in};
 ghost use Rattle.schemars_impls.specs.Dictionary.{IsIn, KeepsTo, RefusesAs};
 ghost use Rattle.schemars_impls.specs.Fields.{bare_variant, FieldsAreKnown, NumbersAreKnown, VariantsAreKnown};
@@ -143,7 +143,7 @@ pub fn add_tuple(
 /// Returns the entry of an enum whose variants are tagged by their names, without notes.
 pub fn external_entry(alloc: Global, variants: Vec<Variant>) -> TypeEntry
     ensures value { entry_of result
-        ≡ without_notes false (shape.enum shape.by_name (map variant_of variants.items)) }
+        ≡ without_notes false (shape.enum tagging.by_name (map variant_of variants.items)) }
     ensures known { (rows : List Row) → VariantsAreKnown rows (map variant_of variants.items)
         → unknown_in rows (shape_of result.shape) ≡ None }
 {
@@ -153,7 +153,7 @@ pub fn external_entry(alloc: Global, variants: Vec<Variant>) -> TypeEntry
 /// Returns the entry of an enum whose variants are not tagged, without notes.
 pub fn untagged_entry(alloc: Global, variants: Vec<Variant>) -> TypeEntry
     ensures value { entry_of result
-        ≡ without_notes false (shape.enum shape.by_nothing (map variant_of variants.items)) }
+        ≡ without_notes false (shape.enum tagging.by_nothing (map variant_of variants.items)) }
     ensures known { (rows : List Row) → VariantsAreKnown rows (map variant_of variants.items)
         → unknown_in rows (shape_of result.shape) ≡ None }
 {
@@ -169,8 +169,9 @@ pub fn adjacent_entry(
     closed: bool,
     variants: Vec<Variant>,
 ) -> TypeEntry
-    ensures value { entry_of result ≡ without_notes false (shape.adjacent (string_bytes tag)
-        (string_bytes content) closed (map variant_of variants.items)) }
+    ensures value { entry_of result ≡ without_notes false (shape.enum
+        (tagging.by_tag_and_content (string_bytes tag) (string_bytes content) closed)
+        (map variant_of variants.items)) }
     ensures known { (rows : List Row) → VariantsAreKnown rows (map variant_of variants.items)
         → unknown_in rows (shape_of result.shape) ≡ None }
 {
@@ -289,8 +290,8 @@ pub fn internal_entry(
     closed: bool,
     variants: Vec<InternalVariant>,
 ) -> TypeEntry
-    ensures value { entry_of result ≡ without_notes false (shape.internal (string_bytes tag)
-        closed (map internal_variant_of variants.items)) }
+    ensures value { entry_of result ≡ without_notes false (shape.enum
+        (tagging.by_tag (string_bytes tag) closed) (map internal_variant_of variants.items)) }
     ensures known { (rows : List Row)
         → VariantsAreKnown rows (map internal_variant_of variants.items)
         → unknown_in rows (shape_of result.shape) ≡ None }

@@ -16,8 +16,8 @@ use Rattle.schemars_builders.specs.Variants.{unit_variant}
 use Rattle.schemars_shapes.specs.Shape.{Field, Flattened, Payload, Variant, no_payload, newtype_payload, tuple_payload, struct_payload, needed}
 use Rattle.schemars_types.specs.declared.contract.Contract.{Contract}
 use Rattle.schemars_types.specs.declared.contract.Contract.TheVariants.{Deserialize}
-use Rattle.schemars_types.specs.Meaning.{Choice, is_text, every_member, member_fits, tagged_fits, adjacent_fits, has_required, has_fields, has_payload, has_tagged, has_beside, has_adjacent}
-use Rattle.schemars_types.specs.Effective.{spread_payload, spread_variant}
+use Rattle.schemars_types.specs.Meaning.{VariantMatch, is_text, every_member, member_fits, tagged_fits, adjacent_fits, has_required, has_fields, has_payload, has_tagged, has_beside, has_adjacent}
+use Rattle.schemars_types.specs.Effective.{expanded_payload, expanded_variant}
 use Rattle.schemars_documents.specs.PlainTable.{AreDistinctVariants}
 use Rattle.schemars_documents.specs.Documents.{Keyword}
 use Rattle.schemars_documents.specs.Template.{Ask, Template, asks_of, asks_in, filled, filled_in}
@@ -53,7 +53,7 @@ module _ (tag key : Text) where
   beside_told name p closed null h = absurd (true≢false (sym h))
   beside_told name p closed _ h = absurd (true≢false (sym h))
 
-  module _ (contract : Contract) (M : ℕ → Data → Bool) (C : ℕ → Data → List Choice) where
+  module _ (contract : Contract) (M : ℕ → Data → Bool) (C : ℕ → Data → List VariantMatch) where
     abbrev beside : Bool → Text → Payload → Data → Bool
     beside closed name p v = has_adjacent contract M C tag key closed v (record { name = name; payload = p; notes = no_members })
 
@@ -177,22 +177,22 @@ module _ (c : Context) (on : c.dialect.reads_unevaluated ≡ true) (contract : C
 -- ---- the whole
 
 module _ (c : Context) (on : c.dialect.reads_unevaluated ≡ true) (contract : Contract) (A : Ask → Data → Type 0) (M : ℕ → Data → Bool)
-    (C : ℕ → Data → List Choice) (v : Data) (json : IsJson v)
+    (C : ℕ → Data → List VariantMatch) (v : Data) (json : IsJson v)
     (names : (name : Text) (w : Data) → (judge c (unit_variant name)).fits w ≡ verdict (is_text name w))
     (part_fields : Flattened → List Field) (enums : Flattened → List ℕ) (Told : Payload → Type 0)
     (tells : (p : Payload) → Told p → (us : List Data) → Fit A (asks_of (payload_template contract p)) us
     → IsSchema (filled (payload_template contract p) us) × ((w : Data) → IsJson w → depth w < depth v
     → (judge c (filled (payload_template contract p) us)).fits w
-    ≡ verdict (has_payload contract M C (spread_payload part_fields enums p) w)))
+    ≡ verdict (has_payload contract M C (expanded_payload part_fields enums p) w)))
     (tag key : Text) (apart : bytes_eq tag key ≡ false) where
   abbrev each : Variant → Variant
-  each x = spread_variant part_fields enums x
+  each x = expanded_variant part_fields enums x
 
   abbrev item : Bool → Text → Payload → Template
   item closed name p = whole_template (said tag (unit_variant name) ∷ adjacent_payload contract key p) closed
 
   abbrev Q : Bool → Text → Payload → Bool
-  Q closed name p = beside tag key contract M C closed name (spread_payload part_fields enums p) v
+  Q closed name p = beside tag key contract M C closed name (expanded_payload part_fields enums p) v
 
   both_fit : (name : Text) (closed : Bool) (t : Template) (p : Data → Bool)
       → ((us : List Data) → Fit A (asks_of t) us → IsSchema (filled t us) × ((w : Data) → IsJson w → depth w < depth v
@@ -214,13 +214,13 @@ module _ (c : Context) (on : c.dialect.reads_unevaluated ≡ true) (contract : C
   item_fits true name no_payload h us fit = (tt, name_says c on contract M v json names tag name true)
   item_fits closed name (newtype_payload n) h us fit =
       both_fit name closed (payload_template contract (newtype_payload n))
-      (has_payload contract M C (spread_payload part_fields enums (newtype_payload n))) (tells (newtype_payload n) h) us fit
+      (has_payload contract M C (expanded_payload part_fields enums (newtype_payload n))) (tells (newtype_payload n) h) us fit
   item_fits closed name (tuple_payload ns) h us fit =
       both_fit name closed (payload_template contract (tuple_payload ns))
-      (has_payload contract M C (spread_payload part_fields enums (tuple_payload ns))) (tells (tuple_payload ns) h) us fit
+      (has_payload contract M C (expanded_payload part_fields enums (tuple_payload ns))) (tells (tuple_payload ns) h) us fit
   item_fits closed name (struct_payload y) h us fit =
       both_fit name closed (payload_template contract (struct_payload y))
-      (has_payload contract M C (spread_payload part_fields enums (struct_payload y))) (tells (struct_payload y) h) us fit
+      (has_payload contract M C (expanded_payload part_fields enums (struct_payload y))) (tells (struct_payload y) h) us fit
 
   items_fit : (closed : Bool) (xs : List Variant) → AreTold Told xs → (us : List Data)
       → Fit A (asks_in (templates_of (map (adjacent_item contract tag key closed) xs))) us

@@ -10,7 +10,7 @@ use Rattle.schemars_schema.specs.Annotations.{AreNotes}
 use Rattle.schemars_builders.specs.NullLaw.{context2020_12}
 use Rattle.schemars_builders.proofs.Nulls.{IsReady, AreReady}
 use Rattle.schemars_shapes.specs.Shape.{Field, Flattened, Fields, Payload, Variant, no_payload, newtype_payload, tuple_payload, struct_payload}
-use Rattle.schemars_types.specs.Effective.{spread_variant}
+use Rattle.schemars_types.specs.Effective.{expanded_variant}
 use Rattle.schemars_types.specs.declared.contract.Contract.{Contract}
 use Rattle.schemars_documents.specs.PlainTable.{ArePlainVariants, payload_parts, variant_parts}
 use Rattle.schemars_documents.specs.Basis.{Basis}
@@ -74,7 +74,7 @@ module _ (A : Ask → Data → Type 0) (basis : Basis) (Under : List Flattened �
   items xs = templates_of (map (payload_item basis.contract basis.titles) xs)
 
   items_ready : (xs : List Variant) (others : Flattened → List Field) (enums : Flattened → List ℕ)
-      → ArePlainVariants (map (spread_variant others enums) xs)
+      → ArePlainVariants (map (expanded_variant others enums) xs)
       → Under (variant_parts xs) → (us : List Data) → Fit A (asks_in (items xs)) us → AreReady (filled_in (items xs) us)
   items_ready [] others enums plain flat us h = tt
   items_ready (x ∷ xs) others enums plain flat us h =
@@ -86,7 +86,7 @@ module _ (A : Ask → Data → Type 0) (basis : Basis) (Under : List Flattened �
       (rw p.4 own, rw p.5 (items_ready xs others enums plain.2 flats.1 p.1 p.3))
 
   pub untagged_ready : (xs : List Variant) (others : Flattened → List Field) (enums : Flattened → List ℕ)
-      → ArePlainVariants (map (spread_variant others enums) xs)
+      → ArePlainVariants (map (expanded_variant others enums) xs)
       → Under (variant_parts xs) → (us : List Data)
       → Fit A (asks_of (untagged_template basis.contract basis.titles xs)) us
       → IsReady (filled (untagged_template basis.contract basis.titles xs) us)

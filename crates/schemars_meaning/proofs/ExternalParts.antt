@@ -15,7 +15,7 @@ use Rattle.schemars_types.specs.declared.contract.Contract.{Contract}
 use Rattle.schemars_documents.specs.Documents.{annotated}
 use Rattle.schemars_documents.specs.Template.{Ask, Template, noted, asks_of, asks_in, filled, filled_in}
 use Rattle.schemars_documents.specs.OfShape.{templates_of, member_template, payload_template, named_template, bare_units, other_items, choice_of, external_template}
-use Rattle.schemars_types.specs.Meaning.{Choice, member_choice}
+use Rattle.schemars_types.specs.Meaning.{VariantMatch, member_choice}
 use Rattle.schemars_meaning.proofs.Filling.{Fit, without_end, parted}
 use Rattle.schemars_meaning.proofs.Items.{IsItem, AnyItems, member_item}
 use Rattle.schemars_meaning.proofs.StructDocuments.{IsPart}
@@ -44,7 +44,7 @@ module _ (c : Context) (on : c.dialect.reads_unevaluated ≡ true) (contract : C
     → IsSchema (filled (payload_template contract p) us)
     × ((w : Data) → IsJson w → depth w < depth v → (judge c (filled (payload_template contract p) us)).fits w ≡ verdict (P p w)))
     (null_says : (w : Data) → (judge c null_schema).fits w ≡ verdict (is_null w)) where
-  abbrev pub offer : Variant → Choice
+  abbrev pub offer : Variant → VariantMatch
   offer x = member_choice x.name (P x.payload) v
 
   -- one variant
@@ -66,7 +66,7 @@ module _ (c : Context) (on : c.dialect.reads_unevaluated ≡ true) (contract : C
   item_filled name (tuple_payload ns) notes other told plain us fit = keyed name (tuple_payload ns) notes told plain us fit
   item_filled name (struct_payload x) notes other told plain us fit = keyed name (struct_payload x) notes told plain us fit
 
-  abbrev units : Text → Choice
+  abbrev units : Text → VariantMatch
   units k = unit_offer c on contract W v json null_says k
 
   -- the units
@@ -91,11 +91,11 @@ module _ (c : Context) (on : c.dialect.reads_unevaluated ≡ true) (contract : C
       go no_payload notes later = by x.name notes (is_bare_unit (record { name = x.name; payload = no_payload; notes = notes })) later
       go _ notes later = later
 
-  abbrev Offered : List Template → List Choice → Type 0
+  abbrev Offered : List Template → List VariantMatch → Type 0
   Offered ts os = (us : List Data) → Fit A (asks_in (templates_of ts)) us → AnyItems c on (filled_in (templates_of ts) us) os v
 
   -- the others
-  one_more : (name : Text) (p : Payload) (notes : Members) (ts : List Template) (os : List Choice) → IsNoUnit p → Told p → AreNotes notes
+  one_more : (name : Text) (p : Payload) (notes : Members) (ts : List Template) (os : List VariantMatch) → IsNoUnit p → Told p → AreNotes notes
       → Offered ts os → Offered (noted notes (named_template contract name p) ∷ ts)
       (offer (record { name = name; payload = p; notes = notes }) ∷ os)
   one_more name p notes ts os other told plain later us fit =
@@ -147,7 +147,7 @@ module _ (c : Context) (on : c.dialect.reads_unevaluated ≡ true) (contract : C
       nothing true e h = cc
       nothing false e h = h
 
-      empty : (os : List Choice) → AnyItems c on [] os v → [] ≡ os
+      empty : (os : List VariantMatch) → AnyItems c on [] os v → [] ≡ os
       empty [] h = refl
       empty (o ∷ os) h = absurd h
 

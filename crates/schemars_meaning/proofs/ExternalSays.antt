@@ -19,11 +19,11 @@ use Rattle.schemars_shapes.specs.Shape.{Field, Flattened, Payload, Variant, no_p
 use Rattle.schemars_shapes.specs.Units.{is_bare_unit}
 use Rattle.schemars_types.specs.declared.contract.Contract.{Contract}
 use Rattle.schemars_types.specs.declared.contract.Contract.TheVariants.{Deserialize}
-use Rattle.schemars_types.specs.Meaning.{is_map_of, is_text, every_member, member_fits, has_required, none, exactly_one, Choice, has_fields, has_payload, has_external}
+use Rattle.schemars_types.specs.Meaning.{is_map_of, is_text, every_member, member_fits, has_required, none, exactly_one, VariantMatch, has_fields, has_payload, has_external}
 use Rattle.schemars_documents.specs.PlainTable.{IsNoVariant, AreDistinctVariants}
 use Rattle.schemars_documents.specs.Template.{Ask, Template, noted, asks_of, asks_in, filled, filled_in}
 use Rattle.schemars_documents.specs.OfShape.{templates_of, member_template, payload_template, named_template, bare_units, other_items, choice_of, external_template}
-use Rattle.schemars_types.specs.Effective.{spread_payload, spread_variant}
+use Rattle.schemars_types.specs.Effective.{expanded_payload, expanded_variant}
 use Rattle.schemars_meaning.proofs.MapDocument.{map_document}
 use Rattle.schemars_meaning.proofs.MapKeywords.{keywords}
 use Rattle.schemars_meaning.proofs.Filling.{Fit, without_end, parted}
@@ -55,7 +55,7 @@ map_claimed k p (object (member l w ms)) h =
     ap Some (sym ((bytes_eq-Decides k l).0 (and_parts _ _ own).0))
 map_claimed k p _ h = absurd (true≢false (sym h))
 
-module _ (contract : Contract) (M : ℕ → Data → Bool) (C : ℕ → Data → List Choice) (v : Data) where
+module _ (contract : Contract) (M : ℕ → Data → Bool) (C : ℕ → Data → List VariantMatch) (v : Data) where
   abbrev pub P : Variant → Bool
   P x = has_external contract M C v x
 
@@ -133,10 +133,10 @@ module _ (contract : Contract) (M : ℕ → Data → Bool) (C : ℕ → Data →
 
 module _ (part_fields : Flattened → List Field) (enums : Flattened → List ℕ) where
   abbrev pub spread_each : Variant → Variant
-  spread_each x = spread_variant part_fields enums x
+  spread_each x = expanded_variant part_fields enums x
 
   unit_stays : (name : Text) (p : Payload) (notes : Members)
-      → is_bare_unit (record { name = name; payload = spread_payload part_fields enums p; notes = notes })
+      → is_bare_unit (record { name = name; payload = expanded_payload part_fields enums p; notes = notes })
       ≡ is_bare_unit (record { name = name; payload = p; notes = notes })
   unit_stays name no_payload notes = refl
   unit_stays name _ notes = refl
@@ -154,7 +154,7 @@ module _ (c : Context) (on : c.dialect.reads_unevaluated ≡ true) (v : Data) wh
   AllFit (t ∷ ts) [] = ⊥
   AllFit (t ∷ ts) (b ∷ bs) = IsSchema t × ((judge c t).fits v ≡ verdict b) × AllFit ts bs
 
-  abbrev offered : List Data → List Bool → List Choice
+  abbrev offered : List Data → List Bool → List VariantMatch
   offered [] bs = []
   offered (t ∷ ts) [] = []
   offered (t ∷ ts) (b ∷ bs) = record { fits = b; has_key = (judge c t).judges v } ∷ offered ts bs
@@ -165,7 +165,7 @@ module _ (c : Context) (on : c.dialect.reads_unevaluated ≡ true) (v : Data) wh
   all_say (t ∷ ts) [] h = absurd h
   all_say (t ∷ ts) (b ∷ bs) h = (h.0, h.1, λ k e. refl, all_say ts bs h.2)
 
-  offers_fit : (ts : List Data) (bs : List Bool) → AllFit ts bs → map (λ (o : Choice). o.fits) (offered ts bs) ≡ bs
+  offers_fit : (ts : List Data) (bs : List Bool) → AllFit ts bs → map (λ (o : VariantMatch). o.fits) (offered ts bs) ≡ bs
   offers_fit [] [] h = refl
   offers_fit [] (b ∷ bs) h = absurd h
   offers_fit (t ∷ ts) [] h = absurd h
@@ -215,11 +215,11 @@ module _ (c : Context) (on : c.dialect.reads_unevaluated ≡ true) where
   -- ---- the whole
 
   module _ (contract : Contract) (A : Ask → Data → Type 0) (part_fields : Flattened → List Field) (enums : Flattened → List ℕ)
-      (M : ℕ → Data → Bool) (C : ℕ → Data → List Choice) (Told : Payload → Type 0) (v : Data) (json : IsJson v)
+      (M : ℕ → Data → Bool) (C : ℕ → Data → List VariantMatch) (Told : Payload → Type 0) (v : Data) (json : IsJson v)
       (tells : (p : Payload) → Told p → (us : List Data) → Fit A (asks_of (payload_template contract p)) us
       → IsSchema (filled (payload_template contract p) us) × ((w : Data) → IsJson w → depth w < depth v
       → (judge c (filled (payload_template contract p) us)).fits w
-      ≡ verdict (has_payload contract M C (spread_payload part_fields enums p) w)))
+      ≡ verdict (has_payload contract M C (expanded_payload part_fields enums p) w)))
       (unit_says : (name : Text) → (judge c (unit_variant name)).fits v ≡ verdict (is_text name v))
       (units_say : (ks : List Text) → (judge c (units_schema ks)).fits v ≡ verdict (list_any (λ k. is_text k v) ks)) where
     abbrev each : Variant → Variant
@@ -231,17 +231,17 @@ module _ (c : Context) (on : c.dialect.reads_unevaluated ≡ true) where
     keyed_fits : (name : Text) (p : Payload) → Told p → (us : List Data)
         → Fit A (asks_of (member_template true name (payload_template contract p))) us
         → (judge c (filled (member_template true name (payload_template contract p)) us)).fits v
-        ≡ verdict (is_map_of name (has_payload contract M C (spread_payload part_fields enums p)) v)
+        ≡ verdict (is_map_of name (has_payload contract M C (expanded_payload part_fields enums p)) v)
     keyed_fits name p told us fit =
         let t = payload_template contract p in
         let own : Fit A (asks_of t) us = without_end A (asks_of t) us (without_end A (asks_of t ++ []) us fit) in
         let say = tells p told us own in
-        alone_says name (has_payload contract M C (spread_payload part_fields enums p)) (filled t us) say.0 v json say.1
+        alone_says name (has_payload contract M C (expanded_payload part_fields enums p)) (filled t us) say.0 v json say.1
 
     named_fits : (name : Text) (p : Payload) → Told p → (us : List Data) → Fit A (asks_of (named_template contract name p)) us
         → IsSchema (filled (named_template contract name p) us)
         × ((judge c (filled (named_template contract name p) us)).fits v ≡ verdict
-        (named_by contract M C v name (spread_payload part_fields enums p)))
+        (named_by contract M C v name (expanded_payload part_fields enums p)))
     named_fits name no_payload told us fit = (tt, unit_says name)
     named_fits name (newtype_payload n) told us fit = (tt, keyed_fits name (newtype_payload n) told us fit)
     named_fits name (tuple_payload ns) told us fit = (tt, keyed_fits name (tuple_payload ns) told us fit)

@@ -14,9 +14,9 @@ use Rattle.schemars_builders.proofs.Nulls.{IsReady, ready-schema}
 use Rattle.schemars_shapes.specs.Shape.{Entry}
 use Rattle.schemars_types.specs.Rows.{Row, entry_at}
 use Rattle.schemars_types.specs.KeyOptions.{key_options}
-use Rattle.schemars_types.specs.Effective.{spread_in}
+use Rattle.schemars_types.specs.Effective.{expanded_shape_in}
 use Rattle.schemars_types.specs.declared.contract.Contract.{Contract}
-use Rattle.schemars_types.specs.Meaning.{Choice, has_shape, belongs_within, choices_within}
+use Rattle.schemars_types.specs.Meaning.{VariantMatch, has_shape, belongs_within, choices_within}
 use Rattle.schemars_documents.specs.Documents.{reference}
 use Rattle.schemars_documents.specs.PlainTable.{IsEntryUnder, parts_in}
 use Rattle.schemars_documents.specs.Basis.{Basis}
@@ -124,7 +124,7 @@ module _ (s : Setting) where
   abbrev B : ℕ → ℕ → Data → Bool
   B m = belongs_within rows contract patterns m
 
-  abbrev C : ℕ → ℕ → Data → List Choice
+  abbrev C : ℕ → ℕ → Data → List VariantMatch
   C m = choices_within rows contract patterns m
 
   described_entry : (d n : ℕ) (t : Data) → D d n t → (e : Entry) × (entry_at rows n ≡ Some e)
@@ -212,7 +212,7 @@ module _ (s : Setting) where
       → (judge (context2020_12 patterns (at_most n)) t).fits v
       ≡ verdict (elim o [
         | None ↦ false
-        | Some entry ↦ has_shape contract patterns (key_options rows) (C m) (B m) (spread_in rows entry.shape) v
+        | Some entry ↦ has_shape contract patterns (key_options rows) (C m) (B m) (expanded_shape_in rows entry.shape) v
       ])
   own_says h n d below good said k ranked None at under t is v json same m costs low = absurd is
   own_says h n d below good said k ranked (Some e) at under t is v json same m costs low =

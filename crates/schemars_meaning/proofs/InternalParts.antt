@@ -9,7 +9,7 @@ use Rattle.schemars_schema.specs.Acceptance.{Context, judge}
 use Rattle.schemars_builders.specs.Variants.{unit_variant}
 use Rattle.schemars_shapes.specs.Shape.{Field, Fields, Payload, Variant, no_payload, newtype_payload, tuple_payload, struct_payload}
 use Rattle.schemars_types.specs.declared.contract.Contract.{Contract}
-use Rattle.schemars_types.specs.Meaning.{is_text, Choice, internal_choice}
+use Rattle.schemars_types.specs.Meaning.{is_text, VariantMatch, internal_choice}
 use Rattle.schemars_documents.specs.PlainTable.{AreDistinct, AreNoted}
 use Rattle.schemars_documents.specs.Documents.{annotated}
 use Rattle.schemars_documents.specs.Template.{Ask, part, tagged, asks_of, asks_in, filled, filled_in}
@@ -51,7 +51,7 @@ module _ (c : Context) (on : c.dialect.reads_unevaluated ≡ true) (contract : C
     notes = x.notes;
   }
 
-  abbrev pub offer : Text → Variant → Choice
+  abbrev pub offer : Text → Variant → VariantMatch
   offer tag x = internal_choice contract M tag v (with_fields x)
 
   item_filled : (tag : Text) (closed : Bool) (name : Text) (p : Payload) (notes : Members) → IsInside p → AreNotes notes → (us : List Data)

@@ -20,12 +20,12 @@ use Rattle.schemars_builders.specs.Variants.{unit_variant}
 use Rattle.schemars_builders.specs.Properties.{internally_tagged_variant}
 use Rattle.schemars_shapes.specs.Shape.{Field, Fields, Flattened, Payload, Variant, no_payload, newtype_payload, tuple_payload, struct_payload}
 use Rattle.schemars_types.specs.declared.contract.Contract.{Contract}
-use Rattle.schemars_types.specs.Meaning.{holds, is_text, every_member, member_fits, tagged_fits, has_required, has_content, none, exactly_one, Choice, every_part, shut, offers, has_tagged, has_internal}
+use Rattle.schemars_types.specs.Meaning.{holds, is_text, every_member, member_fits, tagged_fits, has_required, has_content, none, exactly_one, VariantMatch, every_part, excludes_key, matches_of, has_tagged, has_internal}
 use Rattle.schemars_documents.specs.PlainTable.{IsNoVariant, AreDistinctVariants, AreDistinct, AreNoted}
 use Rattle.schemars_documents.specs.Documents.{type_alone}
 use Rattle.schemars_documents.specs.Template.{Ask, part, tagged, asks_of, asks_in, filled, filled_in}
 use Rattle.schemars_documents.specs.OfShape.{templates_of, struct_template, content_template, internal_item, internal_template}
-use Rattle.schemars_types.specs.Effective.{spread_variant, effective, flattened_enums, enum_at}
+use Rattle.schemars_types.specs.Effective.{expanded_variant, effective, flattened_enums, enum_at}
 use Rattle.schemars_meaning.proofs.MapDocument.{map_document}
 use Rattle.schemars_meaning.proofs.Filling.{Fit, without_end, parted}
 use Rattle.schemars_meaning.proofs.Notes.{annotated-schema, annotated_fits}
@@ -75,27 +75,27 @@ named_under tag name p says ms there every = go (get_member tag ms) refl there
     go None at there = absurd (true≢false (sym there))
     go (Some w) at there = text_is name (as_str w) (says w (found p ms tag w every at))
 
-module _ (contract : Contract) (M : ℕ → Data → Bool) (C : ℕ → Data → List Choice) (tag : Text) where
-  member_told : (ps : List (List Choice)) (xs : List Field) (closed : Bool) (name : Text) (ms : Members)
-      → is_some (get_member tag ms) && (every_part ps && (every_member (λ k w. tagged_fits M xs (shut closed ps k) tag name k w) ms
+module _ (contract : Contract) (M : ℕ → Data → Bool) (C : ℕ → Data → List VariantMatch) (tag : Text) where
+  member_told : (ps : List (List VariantMatch)) (xs : List Field) (closed : Bool) (name : Text) (ms : Members)
+      → is_some (get_member tag ms) && (every_part ps && (every_member (λ k w. tagged_fits M xs (excludes_key closed ps k) tag name k w) ms
       && has_required contract xs ms)) ≡ true
       → told_in tag ms ≡ Some name
   member_told ps xs closed name ms h =
       let parts = and_parts (is_some (get_member tag ms)) (every_part ps && (every_member
-      (λ k w. tagged_fits M xs (shut closed ps k) tag name k w) ms && has_required contract xs ms)) h in
-      let rest = and_parts (every_part ps) (every_member (λ k w. tagged_fits M xs (shut closed ps k) tag name k w) ms
+      (λ k w. tagged_fits M xs (excludes_key closed ps k) tag name k w) ms && has_required contract xs ms)) h in
+      let rest = and_parts (every_part ps) (every_member (λ k w. tagged_fits M xs (excludes_key closed ps k) tag name k w) ms
       && has_required contract xs ms) parts.1 in
-      let every = and_parts (every_member (λ k w. tagged_fits M xs (shut closed ps k) tag name k w) ms)
+      let every = and_parts (every_member (λ k w. tagged_fits M xs (excludes_key closed ps k) tag name k w) ms)
       (has_required contract xs ms) rest.1 in
-      named_under tag name (λ k w. tagged_fits M xs (shut closed ps k) tag name k w)
+      named_under tag name (λ k w. tagged_fits M xs (excludes_key closed ps k) tag name k w)
       (λ w fits. same (bytes_eq tag tag) w ((bytes_eq-Decides tag tag).1 refl) fits) ms parts.0 every.0
     where
-      same : (b : Bool) (w : Data) → b ≡ true → (if b then is_text name w else member_fits M xs (shut closed ps tag) tag w) ≡ true
+      same : (b : Bool) (w : Data) → b ≡ true → (if b then is_text name w else member_fits M xs (excludes_key closed ps tag) tag w) ≡ true
           → is_text name w ≡ true
       same true w e h = h
       same false w e h = absurd (true≢false (sym e))
 
-  pub tagged_told : (ps : List (List Choice)) (xs : List Field) (closed : Bool) (name : Text) (v : Data)
+  pub tagged_told : (ps : List (List VariantMatch)) (xs : List Field) (closed : Bool) (name : Text) (v : Data)
       → has_tagged contract M ps tag xs closed name v ≡ true → told tag v ≡ Some name
   unfolding told
   tagged_told ps xs closed name (object ms) h = member_told ps xs closed name ms h
@@ -120,10 +120,10 @@ module _ (contract : Contract) (M : ℕ → Data → Bool) (C : ℕ → Data →
   payload_told closed name no_payload v h = tagged_told [] [] closed name v h
   payload_told closed name (newtype_payload n) v h = content_told (M n) name v h
   payload_told closed name (tuple_payload ns) v h = absurd (true≢false (sym h))
-  payload_told closed name (struct_payload y) v h = tagged_told (offers C y.flatten v) y.list y.closed name v h
+  payload_told closed name (struct_payload y) v h = tagged_told (matches_of C y.flatten v) y.list y.closed name v h
 
 -- a test of variants that a value passes under its own name alone
-module _ (P : Variant → Bool) (claimed : Option Text) (claims : (x : Variant) → P x ≡ true → claimed ≡ Some x.name) where
+module _ (P : Variant → Bool) (claimed : Option Text) (is_key_of_match : (x : Variant) → P x ≡ true → claimed ≡ Some x.name) where
   other_false : (b : Bool) (k l : Text) → claimed ≡ Some k → bytes_eq l k ≡ false → (b ≡ true → claimed ≡ Some l) → b ≡ false
   other_false false k l claim apart h = refl
   other_false true k l claim apart h =
@@ -131,11 +131,11 @@ module _ (P : Variant → Bool) (claimed : Option Text) (claims : (x : Variant) 
 
   none_other : (k : Text) → claimed ≡ Some k → (xs : List Variant) → IsNoVariant k xs → none (map P xs) ≡ true
   none_other k claim [] h = refl
-  none_other k claim (x ∷ xs) h = rw (other_false (P x) k x.name claim h.0 (claims x), none_other k claim xs h.1) refl
+  none_other k claim (x ∷ xs) h = rw (other_false (P x) k x.name claim h.0 (is_key_of_match x), none_other k claim xs h.1) refl
 
   pub one_if_any : (xs : List Variant) → AreDistinctVariants xs → exactly_one (map P xs) ≡ list_any P xs
   one_if_any [] h = refl
-  one_if_any (x ∷ xs) h = go (P x) (claims x) (one_if_any xs h.1)
+  one_if_any (x ∷ xs) h = go (P x) (is_key_of_match x) (one_if_any xs h.1)
     where
       go : (b : Bool) → (b ≡ true → claimed ≡ Some x.name) → exactly_one (map P xs) ≡ list_any P xs
           → exactly_one (b ∷ map P xs) ≡ b || list_any P xs
@@ -157,16 +157,16 @@ module _ (part_fields : Flattened → List Field) (Told : Fields → Type 0) whe
 -- ---- the whole
 
 module _ (c : Context) (on : c.dialect.reads_unevaluated ≡ true) (contract : Contract) (A : Ask → Data → Type 0) (M : ℕ → Data → Bool)
-    (C : ℕ → Data → List Choice) (schemas : (j : ℕ) (t : Data) → A (part j) t → IsSchema t) (v : Data) (json : IsJson v)
+    (C : ℕ → Data → List VariantMatch) (schemas : (j : ℕ) (t : Data) → A (part j) t → IsSchema t) (v : Data) (json : IsJson v)
     (agree : (j : ℕ) (t w : Data) → A (part j) t → IsJson w → depth w < depth v → (judge c t).fits w ≡ verdict (M j w))
     (tells : (name : Text) (w : Data) → (judge c (unit_variant name)).fits w ≡ verdict (is_text name w))
     (part_fields : Flattened → List Field) (enums : Flattened → List ℕ) (Told : Fields → Type 0)
     (fills : (y : Fields) → Told y → (us : List Data) → Fit A (asks_of (struct_template contract y)) us
     → IsStruct c on contract (λ j. A (part j)) v (effective part_fields y)
-    (offers C (map enum_at (flattened_enums enums y.flatten)) v) y.closed
+    (matches_of C (map enum_at (flattened_enums enums y.flatten)) v) y.closed
     (filled (struct_template contract y) us)) where
   abbrev each : Variant → Variant
-  each x = spread_variant part_fields enums x
+  each x = expanded_variant part_fields enums x
 
   unit_fits : (tag name : Text) (closed : Bool) → (judge c (internally_tagged_variant tag name closed (type_alone (codes "null")))).fits v
       ≡ verdict (has_tagged contract M [] tag [] closed name v)

@@ -15,7 +15,7 @@ use Rattle.schemars_schema.specs.Acceptance.{Context, judge}
 use Rattle.schemars_flatten.specs.Opening.{opened}
 use Rattle.schemars_shapes.specs.Shape.{Field, needed}
 use Rattle.schemars_types.specs.declared.contract.Contract.TheVariants.{Deserialize}
-use Rattle.schemars_types.specs.Meaning.{every_member, member_fits, has_required, Choice, has_fields, has_member, member_choice}
+use Rattle.schemars_types.specs.Meaning.{every_member, member_fits, has_required, VariantMatch, has_fields, has_member, member_choice}
 use Rattle.schemars_documents.specs.Documents.{Keyword, annotated}
 use Rattle.schemars_meaning.proofs.MapDocument.{map_document}
 use Rattle.schemars_meaning.proofs.MapKeywords.{noted, noted_by-object, keywords, closed_there}
@@ -30,7 +30,7 @@ use Rattle.schemars_meaning.proofs.Fields.{field_found}
 
 module _ (c : Context) (on : c.dialect.reads_unevaluated ≡ true) where
   -- a map whose properties and required names say what is offered of v
-  pub record IsItem (closed : Bool) (t : Data) (o : Choice) (v : Data) : Type 0 where
+  pub record IsItem (closed : Bool) (t : Data) (o : VariantMatch) (v : Data) : Type 0 where
     pub es : List Keyword
     pub ns : List Text
     pub members : Members
@@ -40,7 +40,7 @@ module _ (c : Context) (on : c.dialect.reads_unevaluated ≡ true) where
     pub says : (ms : Members) → HasKeywords (struct_keywords es ns no_parts false) ms → (judge c (object ms)).fits v ≡ verdict o.fits
     pub keys : (k : Text) → is_some (get_member k (put_all es no_members)) ≡ o.has_key k
 
-  pub opened_item : (closed : Bool) (t : Data) (o : Choice) (v : Data) → IsItem closed t o v → IsItem false (opened t) o v
+  pub opened_item : (closed : Bool) (t : Data) (o : VariantMatch) (v : Data) → IsItem closed t o v → IsItem false (opened t) o v
   unfolding closed_there
   opened_item closed t o v i =
       let d : Part_form (Some (string (codes "object"))) i.es i.ns no_parts (opened (object i.members)) =
@@ -55,13 +55,13 @@ module _ (c : Context) (on : c.dialect.reads_unevaluated ≡ true) where
         keys = i.keys;
       }
 
-  abbrev pub AllItems : Bool → List Data → List Choice → Data → Type 0
+  abbrev pub AllItems : Bool → List Data → List VariantMatch → Data → Type 0
   AllItems closed [] [] v = Unit {0}
   AllItems closed [] (o ∷ os) v = ⊥
   AllItems closed (t ∷ ts) [] v = ⊥
   AllItems closed (t ∷ ts) (o ∷ os) v = IsItem closed t o v × AllItems closed ts os v
 
-  pub opened_items : (closed : Bool) (ts : List Data) (os : List Choice) (v : Data) → AllItems closed ts os v
+  pub opened_items : (closed : Bool) (ts : List Data) (os : List VariantMatch) (v : Data) → AllItems closed ts os v
       → AllItems false (map opened ts) os v
   opened_items closed [] [] v h = tt
   opened_items closed [] (o ∷ os) v h = absurd h
@@ -69,32 +69,32 @@ module _ (c : Context) (on : c.dialect.reads_unevaluated ≡ true) where
   opened_items closed (t ∷ ts) (o ∷ os) v h = (opened_item closed t o v h.0, opened_items closed ts os v h.1)
 
   -- some of them closed, and others not
-  abbrev pub AnyItems : List Data → List Choice → Data → Type 0
+  abbrev pub AnyItems : List Data → List VariantMatch → Data → Type 0
   AnyItems [] [] v = Unit {0}
   AnyItems [] (o ∷ os) v = ⊥
   AnyItems (t ∷ ts) [] v = ⊥
   AnyItems (t ∷ ts) (o ∷ os) v = ((closed : Bool) × IsItem closed t o v) × AnyItems ts os v
 
-  pub opened_any : (ts : List Data) (os : List Choice) (v : Data) → AnyItems ts os v → AllItems false (map opened ts) os v
+  pub opened_any : (ts : List Data) (os : List VariantMatch) (v : Data) → AnyItems ts os v → AllItems false (map opened ts) os v
   opened_any [] [] v h = tt
   opened_any [] (o ∷ os) v h = absurd h
   opened_any (t ∷ ts) [] v h = absurd h
   opened_any (t ∷ ts) (o ∷ os) v h = (opened_item h.0.0 t o v h.0.1, opened_any ts os v h.1)
 
-  pub any_items : (closed : Bool) (ts : List Data) (os : List Choice) (v : Data) → AllItems closed ts os v → AnyItems ts os v
+  pub any_items : (closed : Bool) (ts : List Data) (os : List VariantMatch) (v : Data) → AllItems closed ts os v → AnyItems ts os v
   any_items closed [] [] v h = tt
   any_items closed [] (o ∷ os) v h = absurd h
   any_items closed (t ∷ ts) [] v h = absurd h
   any_items closed (t ∷ ts) (o ∷ os) v h = ((closed, h.0), any_items closed ts os v h.1)
 
-  pub any_append : (ts us : List Data) (os qs : List Choice) (v : Data) → AnyItems ts os v → AnyItems us qs v
+  pub any_append : (ts us : List Data) (os qs : List VariantMatch) (v : Data) → AnyItems ts os v → AnyItems us qs v
       → AnyItems (ts ++ us) (os ++ qs) v
   any_append [] us [] qs v h g = g
   any_append [] us (o ∷ os) qs v h g = absurd h
   any_append (t ∷ ts) us [] qs v h g = absurd h
   any_append (t ∷ ts) us (o ∷ os) qs v h g = (h.0, any_append ts us os qs v h.1 g)
 
-  item_says : (t : Data) (o : Choice) (v : Data) → IsItem false t o v → IsSchema t × ((judge c t).fits v ≡ verdict o.fits)
+  item_says : (t : Data) (o : VariantMatch) (v : Data) → IsItem false t o v → IsSchema t × ((judge c t).fits v ≡ verdict o.fits)
       × ((k : Text) → o.fits ≡ true → (judge c t).judges v k ≡ o.has_key k)
   item_says t o v i =
       let has = form-keywords (struct_keywords i.es i.ns no_parts false) i.members i.form in (
@@ -105,7 +105,7 @@ module _ (c : Context) (on : c.dialect.reads_unevaluated ≡ true) where
             (names_judged c on Deserialize (λ j s. ⊥) (λ j w. true) (λ j s h. absurd h) i.es k ∙ i.keys k)),
       )
 
-  pub items_say : (ts : List Data) (os : List Choice) (v : Data) → AllItems false ts os v → AllSay c ts os v
+  pub items_say : (ts : List Data) (os : List VariantMatch) (v : Data) → AllItems false ts os v → AllSay c ts os v
   items_say [] [] v h = tt
   items_say [] (o ∷ os) v h = absurd h
   items_say (t ∷ ts) [] v h = absurd h

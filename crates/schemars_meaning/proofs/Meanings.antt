@@ -14,12 +14,12 @@ use Rattle.schemars_meaning.proofs.Keyed.{values_ready, values_say}
 use Rattle.schemars_shapes.specs.Shape as shape
 use Rattle.schemars_shapes.specs.Shape.{Shape, Field, Flattened, Fields}
 use Rattle.schemars_types.specs.declared.contract.Contract.{Contract}
-use Rattle.schemars_types.specs.Meaning.{Choice, has_shape}
+use Rattle.schemars_types.specs.Meaning.{VariantMatch, has_shape}
 use Rattle.schemars_documents.specs.Basis.{Basis}
 use Rattle.schemars_builders.specs.Variants.{unit_variant}
 use Rattle.schemars_meaning.proofs.ByShape.{IsDocument, member_document}
 use Rattle.schemars_documents.specs.PlainTable.{IsPlainShape, parts_in}
-use Rattle.schemars_types.specs.Effective.{effective, spread}
+use Rattle.schemars_types.specs.Effective.{effective, expanded_shape}
 use Rattle.schemars_documents.specs.Template.{Ask, part, asks_of, filled}
 use Rattle.schemars_documents.specs.OfShape.{struct_template}
 use Rattle.schemars_meaning.proofs.Filling.{Fit}
@@ -39,7 +39,7 @@ module _ (A : Ask → Data → Type 0) (has : Flattened → List Field) (basis :
     (structs : (y : Fields) → Under y.flatten → (us : List Data) → Fit A (asks_of (struct_template basis.contract y)) us
     → IsReady (filled (struct_template basis.contract y) us)) where
   pub shape_ready : (kind : Shape) (s : Data) (others : Flattened → List Field) (enums : Flattened → List ℕ)
-      → IsPlainShape (spread others enums kind) → Under (parts_in kind) → IsDocument A has basis kind s → IsReady s
+      → IsPlainShape (expanded_shape others enums kind) → Under (parts_in kind) → IsDocument A has basis kind s → IsReady s
   shape_ready shape.null s others enums p flat is =
       rw is (inr (record { alone = refl; type_form = refl; values = inl refl; not_form = inl refl }))
   shape_ready shape.bool s others enums p flat is =
@@ -115,7 +115,7 @@ IsSimple (shape.enum tagging xs) = ⊥
 IsSimple kind = Unit {0}
 
 module _ (patterns : Patterns) (f : Text → Judge) (basis : Basis) (A : Ask → Data → Type 0) (M : ℕ → Data → Bool)
-    (C : ℕ → Data → List Choice) (has : Flattened → List Field) (enums : Flattened → List ℕ)
+    (C : ℕ → Data → List VariantMatch) (has : Flattened → List Field) (enums : Flattened → List ℕ)
     (ready : (j : ℕ) (t : Data) → A (part j) t → IsReady t) where
   abbrev W : ℕ → Data → Type 0
   W j = A (part j)
@@ -132,9 +132,9 @@ module _ (patterns : Patterns) (f : Text → Judge) (basis : Basis) (A : Ask →
   abbrev schemas : (j : ℕ) (t : Data) → W j t → IsSchema t
   schemas j t is = ready-schema t (ready j t is)
 
-  pub simple_says : (kind : Shape) (s : Data) → IsSimple kind → IsPlainShape (spread has enums kind) → IsDocument A has basis kind s
+  pub simple_says : (kind : Shape) (s : Data) → IsSimple kind → IsPlainShape (expanded_shape has enums kind) → IsDocument A has basis kind s
       → (v : Data) → IsJson v → Agrees kind v
-      → (judge c s).fits v ≡ verdict (has_shape contract patterns (key_options basis.rows) C M (spread has enums kind) v)
+      → (judge c s).fits v ≡ verdict (has_shape contract patterns (key_options basis.rows) C M (expanded_shape has enums kind) v)
   simple_says shape.null s simple p is v json agree = rw is (null_says patterns f basis M v)
   simple_says shape.bool s simple p is v json agree = rw is (bool_says patterns f basis M v)
   simple_says (shape.int k) s simple p is v json agree = rw is (int_says patterns f basis M k v)

@@ -14,7 +14,7 @@ use Rattle.schemars_schema.proofs.Verdicts.{both-yes}
 use Rattle.schemars_schema.proofs.Objects.{schema-judge}
 use Rattle.schemars_text.proofs.Members.{get_member-later}
 use Rattle.schemars_flatten.specs.Flatten.{alone}
-use Rattle.schemars_types.specs.Meaning.{exactly_one, Choice, claimed_by}
+use Rattle.schemars_types.specs.Meaning.{exactly_one, VariantMatch, claimed_by}
 use Rattle.schemars_meaning.proofs.Verdicts.{one_verdict}
 use Rattle.schemars_meaning.proofs.MapForm.{Keywords, look_up, HasKeywords, object-says, says-fits, says-judges, no_type}
 
@@ -50,33 +50,33 @@ one_object ts = alone (codes "oneOf") (array (items_of ts))
 
 module _ (c : Context) where
   -- schemas, what each says of the value, and which members it judges where the value fits
-  abbrev pub AllSay : List Data → List Choice → Data → Type 0
+  abbrev pub AllSay : List Data → List VariantMatch → Data → Type 0
   AllSay [] [] v = Unit {0}
   AllSay [] (o ∷ os) v = ⊥
   AllSay (t ∷ ts) [] v = ⊥
   AllSay (t ∷ ts) (o ∷ os) v = IsSchema t × ((judge c t).fits v ≡ verdict o.fits)
       × ((k : Text) → o.fits ≡ true → (judge c t).judges v k ≡ o.has_key k) × AllSay ts os v
 
-  read_all : (ts : List Data) (os : List Choice) (v : Data) → AllSay ts os v → read_items c (items_of ts) ≡ Some (map (judge c) ts)
+  read_all : (ts : List Data) (os : List VariantMatch) (v : Data) → AllSay ts os v → read_items c (items_of ts) ≡ Some (map (judge c) ts)
   unfolding read_data
   read_all [] os v h = refl
   read_all (t ∷ ts) [] v h = absurd h
   read_all (t ∷ ts) (o ∷ os) v h = rw (schema-judge c t h.0, read_all ts os v h.3) refl
 
-  each_fits : (ts : List Data) (os : List Choice) (v : Data) → AllSay ts os v
-      → map (λ (s : Judge). s.fits v) (map (judge c) ts) ≡ map verdict (map (λ (o : Choice). o.fits) os)
+  each_fits : (ts : List Data) (os : List VariantMatch) (v : Data) → AllSay ts os v
+      → map (λ (s : Judge). s.fits v) (map (judge c) ts) ≡ map verdict (map (λ (o : VariantMatch). o.fits) os)
   each_fits [] [] v h = refl
   each_fits [] (o ∷ os) v h = absurd h
   each_fits (t ∷ ts) [] v h = absurd h
   each_fits (t ∷ ts) (o ∷ os) v h = λ i. h.1 i ∷ each_fits ts os v h.3 i
 
   -- one of them
-  pub one_fits : (ts : List Data) (os : List Choice) (v : Data) → AllSay ts os v
-      → each_says one_of (Some (read_data c (array (items_of ts)))) v ≡ verdict (exactly_one (map (λ (o : Choice). o.fits) os))
+  pub one_fits : (ts : List Data) (os : List VariantMatch) (v : Data) → AllSay ts os v
+      → each_says one_of (Some (read_data c (array (items_of ts)))) v ≡ verdict (exactly_one (map (λ (o : VariantMatch). o.fits) os))
   unfolding read_data
-  one_fits ts os v h = rw (read_all ts os v h) (ap one_of (each_fits ts os v h) ∙ one_verdict (map (λ (o : Choice). o.fits) os))
+  one_fits ts os v h = rw (read_all ts os v h) (ap one_of (each_fits ts os v h) ∙ one_verdict (map (λ (o : VariantMatch). o.fits) os))
 
-  judged_here : (t : Data) (o : Choice) (v : Data) (k : Text) → (judge c t).fits v ≡ verdict o.fits
+  judged_here : (t : Data) (o : VariantMatch) (v : Data) (k : Text) → (judge c t).fits v ≡ verdict o.fits
       → (o.fits ≡ true → (judge c t).judges v k ≡ o.has_key k) → judged_by (judge c t) v k ≡ o.fits && o.has_key k
   judged_here t o v k fit judges = ap (λ x. is_yes x && (judge c t).judges v k) fit ∙ go o.fits judges
     where
@@ -84,14 +84,14 @@ module _ (c : Context) where
       go true h = h refl
       go false h = refl
 
-  judged_some : (ts : List Data) (os : List Choice) (v : Data) (k : Text) → AllSay ts os v
+  judged_some : (ts : List Data) (os : List VariantMatch) (v : Data) (k : Text) → AllSay ts os v
       → judged_by_some (map (judge c) ts) v k ≡ claimed_by os k
   judged_some [] [] v k h = refl
   judged_some [] (o ∷ os) v k h = absurd h
   judged_some (t ∷ ts) [] v k h = absurd h
   judged_some (t ∷ ts) (o ∷ os) v k h = λ i. judged_here t o v k h.1 (h.2 k) i || judged_some ts os v k h.3 i
 
-  pub judged_one : (ts : List Data) (os : List Choice) (v : Data) (k : Text) → AllSay ts os v
+  pub judged_one : (ts : List Data) (os : List VariantMatch) (v : Data) (k : Text) → AllSay ts os v
       → judged_by_list (Some (read_data c (array (items_of ts)))) v k ≡ claimed_by os k
   unfolding read_data
   judged_one ts os v k h = rw (read_all ts os v h) (judged_some ts os v k h)
@@ -99,14 +99,14 @@ module _ (c : Context) where
   -- ---- as a schema of its own
 
   module _ (on : c.dialect.reads_unevaluated ≡ true) where
-    pub object_fits : (ts : List Data) (os : List Choice) (v : Data) → AllSay ts os v
-        → (judge c (one_object ts)).fits v ≡ verdict (exactly_one (map (λ (o : Choice). o.fits) os))
+    pub object_fits : (ts : List Data) (os : List VariantMatch) (v : Data) → AllSay ts os v
+        → (judge c (one_object ts)).fits v ≡ verdict (exactly_one (map (λ (o : VariantMatch). o.fits) os))
     object_fits ts os v h =
         let d = array (items_of ts) in
         ap (λ (j : Judge). j.fits v) (object-says c (lone d) (member (codes "oneOf") d no_members) (lone-has d))
         ∙ (says-fits c (lone d) on no_type v ∙ (both-yes _ ∙ one_fits ts os v h))
 
-    pub object_judges : (ts : List Data) (os : List Choice) (v : Data) (k : Text) → AllSay ts os v
+    pub object_judges : (ts : List Data) (os : List VariantMatch) (v : Data) (k : Text) → AllSay ts os v
         → (judge c (one_object ts)).judges v k ≡ claimed_by os k
     object_judges ts os v k h =
         let d = array (items_of ts) in

@@ -12,7 +12,7 @@ use Rattle.schemars_flatten.specs.Parts.{flattened_part, units_of, unit_objects,
 use Rattle.schemars_shapes.specs.Shape.{Field}
 use Rattle.schemars_types.specs.declared.contract.Contract.{Contract}
 use Rattle.schemars_documents.specs.Documents.{annotated, required_names}
-use Rattle.schemars_types.specs.Meaning.{Choice, every_part, claims}
+use Rattle.schemars_types.specs.Meaning.{VariantMatch, every_part, is_key_of_match}
 use Rattle.schemars_meaning.proofs.MapKeywords.{noted, noted_by-object, noted-beside, sorted-noted, closed_there, required_there, properties_there}
 use Rattle.schemars_meaning.proofs.MapForm.{look_up}
 use Rattle.schemars_meaning.proofs.Offers.{one_object}
@@ -52,7 +52,7 @@ optional_same xs one any =
 
 module _ (c : Context) (on : c.dialect.reads_unevaluated ≡ true) where
   -- a schema of maps lists no texts
-  item_no_units : (closed : Bool) (t : Data) (o : Choice) (v : Data) → IsItem c on closed t o v → units_of t ≡ None
+  item_no_units : (closed : Bool) (t : Data) (o : VariantMatch) (v : Data) → IsItem c on closed t o v → units_of t ≡ None
   item_no_units closed t o v i = ap units_of i.is ∙ go (get_member (codes "type") i.members) (i.form.at (codes "type") refl)
     where
       go : (z : Option Data) → z ≡ Some (string (codes "object"))
@@ -61,7 +61,7 @@ module _ (c : Context) (on : c.dialect.reads_unevaluated ≡ true) where
       go z is = ap (λ y. if is_text (codes "string") (option_and_then as_str y)
           then option_map unit_objects (option_and_then as_array (get (codes "enum") (object i.members))) else None) is
 
-  items_no_units : (ts : List Data) (os : List Choice) (v : Data) → AnyItems c on ts os v → first_units (items_of ts) ≡ None
+  items_no_units : (ts : List Data) (os : List VariantMatch) (v : Data) → AnyItems c on ts os v → first_units (items_of ts) ≡ None
   items_no_units [] [] v h = refl
   items_no_units [] (o ∷ os) v h = absurd h
   items_no_units (t ∷ ts) [] v h = absurd h
@@ -85,7 +85,7 @@ module _ (c : Context) (on : c.dialect.reads_unevaluated ≡ true) where
 
   module _ (contract : Contract) (W : ℕ → Data → Type 0) (v : Data) where
     -- an open struct, with the enums that it flattens itself
-    pub struct_part : (xs : List Field) (os : List (List Choice)) (s : Data) → IsStruct c on contract W v xs os false s
+    pub struct_part : (xs : List Field) (os : List (List VariantMatch)) (s : Data) → IsStruct c on contract W v xs os false s
         → IsPart c on contract W v xs os (flattened_part false s)
     unfolding closed_there
     struct_part xs os s a =
@@ -106,7 +106,7 @@ module _ (c : Context) (on : c.dialect.reads_unevaluated ≡ true) where
           is = ap (flattened_part false) a.is ∙ d.is;
           form = d.form;
           every = ap every_part (choices_kept a.parts) ∙ a.every;
-          claimed = λ k. ap (λ xs. claims xs k) (choices_kept a.parts) ∙ a.claimed k;
+          claimed = λ k. ap (λ xs. is_key_of_match xs k) (choices_kept a.parts) ∙ a.claimed k;
           choices = choices_opened c on a.parts v a.choices;
           bare = λ e. ap opened_parts (a.bare e);
         }
@@ -160,7 +160,7 @@ module _ (c : Context) (on : c.dialect.reads_unevaluated ≡ true) where
         }
 
     -- an enum whose variants are maps
-    pub enum_part : (notes : Members) (ts : List Data) (os : List Choice) → AreNotes notes → AnyItems c on ts os v
+    pub enum_part : (notes : Members) (ts : List Data) (os : List VariantMatch) → AreNotes notes → AnyItems c on ts os v
         → IsPart c on contract W v [] (os ∷ []) (flattened_part false (annotated notes (one_object ts)))
     unfolding closed_there all_there one_there properties_there required_there
     enum_part notes ts os plain items =

@@ -16,7 +16,7 @@ use Rattle.schemars_types.specs.Rows.{Row, entry_at}
 use Rattle.schemars_types.specs.Edges.{option_at}
 use Rattle.schemars_types.specs.declared.contract.Contract.{Contract}
 use Rattle.schemars_types.specs.declared.contract.Contract.TheVariants.{Deserialize, Serialize}
-use Rattle.schemars_types.specs.Meaning.{is_required, is_text, Choice, member_choice, offers, has_payload, external_choice, internal_choice, shape_choices, belongs_within, choices_within}
+use Rattle.schemars_types.specs.Meaning.{is_required, is_text, VariantMatch, member_choice, matches_of, has_payload, external_choice, internal_choice, shape_choices, belongs_within, choices_within}
 use Rattle.schemars_documents.specs.PlainTable.{parts_in, payload_parts, variant_parts, IsPartUnder, IsPartEntry, IsPartShape, ArePartsUnder, IsEntryUnder, IsPlainShape, may_miss, HasNoEnums, IsPlainPayload, ArePlainVariants, IsTagged, AreTagged, IsBare, HasBareUnits, VariantsHaveNoEnums}
 use Rattle.schemars_documents.specs.Documents.{annotated, required_names}
 use Rattle.schemars_flatten.specs.Parts.{flattened_part}
@@ -24,7 +24,7 @@ use Rattle.schemars_documents.specs.Basis.{Basis}
 use Rattle.schemars_documents.specs.Template.{Ask, members_of, noted, asks_of, filled}
 use Rattle.schemars_documents.specs.OfShape.{struct_template, external_template, internal_template, payload_template, template_of}
 use Rattle.schemars_documents.specs.Describes.{Fills, IsOwnDocument, IsAnswered, IsWritten, Describes, without_options, are_optional}
-use Rattle.schemars_types.specs.Effective.{effective, weakened, row_fields, flattened_in, shape_fields, flattened_enums, part_enums, enums_within, shape_enums, enum_at, spread_payload, spread_variant, spread_in}
+use Rattle.schemars_types.specs.Effective.{effective, required_only_if, row_fields, flattened_in, shape_fields, flattened_enums, part_enums, enums_within, shape_enums, enum_at, expanded_payload, expanded_variant, expanded_shape_in}
 use Rattle.schemars_meaning.proofs.Schemas.{written_schema}
 use Rattle.schemars_meaning.proofs.Filling.{Fit}
 use Rattle.schemars_meaning.proofs.Spread.{field_keywords, AreWritten}
@@ -41,40 +41,40 @@ use Rattle.schemars_meaning.proofs.SettledTables.{IsSettled}
 -- ---- fields that need not be there
 
 module _ (W : ℕ → Data → Type 0) (r : Required) where
-  weakened_written : (xs : List Field) (ts : List Data) → AreWritten W xs ts → AreWritten W (map (weakened r) xs) ts
+  weakened_written : (xs : List Field) (ts : List Data) → AreWritten W xs ts → AreWritten W (map (required_only_if r) xs) ts
   weakened_written [] ts h = h
   weakened_written (x ∷ xs) [] h = absurd h
   weakened_written (x ∷ xs) (t ∷ ts) h = (h.0, weakened_written xs ts h.1)
 
-weakened_keywords : (r : Required) (xs : List Field) (ts : List Data) → field_keywords (map (weakened r) xs) ts ≡ field_keywords xs ts
+weakened_keywords : (r : Required) (xs : List Field) (ts : List Data) → field_keywords (map (required_only_if r) xs) ts ≡ field_keywords xs ts
 weakened_keywords r [] ts = refl
 weakened_keywords r (x ∷ xs) [] = refl
 weakened_keywords r (x ∷ xs) (t ∷ ts) = ap (λ es. (x.name, annotated x.notes t) ∷ es) (weakened_keywords r xs ts)
 
 weakened_required : (contract : Contract) (r : Required) (x : Field)
-    → is_required contract (weakened r x).required ≡ is_required contract r && is_required contract x.required
+    → is_required contract (required_only_if r x).required ≡ is_required contract r && is_required contract x.required
 weakened_required Deserialize r x = refl
 weakened_required Serialize r x = refl
 
 weakened_names : (contract : Contract) (r : Required) (xs : List Field) → is_required contract r ≡ true
-    → required_names contract (map (weakened r) xs) ≡ required_names contract xs
+    → required_names contract (map (required_only_if r) xs) ≡ required_names contract xs
 weakened_names contract r [] is = refl
 weakened_names contract r (x ∷ xs) is =
     λ i. if (weakened_required contract r x ∙ ap (λ b. b && is_required contract x.required) is) i
     then x.name ∷ weakened_names contract r xs is i else weakened_names contract r xs is i
 
 no_names : (contract : Contract) (r : Required) (xs : List Field) → is_required contract r ≡ false
-    → required_names contract (map (weakened r) xs) ≡ []
+    → required_names contract (map (required_only_if r) xs) ≡ []
 no_names contract r [] is = refl
 no_names contract r (x ∷ xs) is =
-    ap (λ b. if b then x.name ∷ required_names contract (map (weakened r) xs) else required_names contract (map (weakened r) xs))
+    ap (λ b. if b then x.name ∷ required_names contract (map (required_only_if r) xs) else required_names contract (map (required_only_if r) xs))
     (weakened_required contract r x ∙ ap (λ b. b && is_required contract x.required) is)
     ∙ no_names contract r xs is
 
 module _ (c : Context) (on : c.dialect.reads_unevaluated ≡ true) (contract : Contract) (v : Data) where
   -- the same fields, of which the same have to be there
-  weakened_part : (W : ℕ → Data → Type 0) (r : Required) (xs : List Field) (os : List (List Choice)) (s : Data)
-      → is_required contract r ≡ true → IsPart c on contract W v xs os s → IsPart c on contract W v (map (weakened r) xs) os s
+  weakened_part : (W : ℕ → Data → Type 0) (r : Required) (xs : List Field) (os : List (List VariantMatch)) (s : Data)
+      → is_required contract r ≡ true → IsPart c on contract W v xs os s → IsPart c on contract W v (map (required_only_if r) xs) os s
   weakened_part W r xs os s is a = record {
     type = a.type;
     written = a.written;
@@ -82,7 +82,7 @@ module _ (c : Context) (on : c.dialect.reads_unevaluated ≡ true) (contract : C
     parts = a.parts;
     members = a.members;
     is = a.is;
-    form = subst (λ es. IsForm (part_keywords a.type es (required_names contract (map (weakened r) xs)) a.parts) a.members)
+    form = subst (λ es. IsForm (part_keywords a.type es (required_names contract (map (required_only_if r) xs)) a.parts) a.members)
         (sym (weakened_keywords r xs a.written))
         (subst (λ ns. IsForm (part_keywords a.type (field_keywords xs a.written) ns a.parts) a.members)
         (sym (weakened_names contract r xs is)) a.form);
@@ -98,7 +98,7 @@ module _ (c : Context) (on : c.dialect.reads_unevaluated ≡ true) (contract : C
   written_wider W V f (x ∷ xs) [] h = absurd h
   written_wider W V f (x ∷ xs) (t ∷ ts) h = (f x.ty t h.0, written_wider W V f xs ts h.1)
 
-  part_wider : (W V : ℕ → Data → Type 0) → ((j : ℕ) (t : Data) → W j t → V j t) → (xs : List Field) (os : List (List Choice)) (s : Data)
+  part_wider : (W V : ℕ → Data → Type 0) → ((j : ℕ) (t : Data) → W j t → V j t) → (xs : List Field) (os : List (List VariantMatch)) (s : Data)
       → IsPart c on contract W v xs os s → IsPart c on contract V v xs os s
   part_wider W V f xs os s a = record {
     type = a.type;
@@ -122,7 +122,7 @@ under_apart contract rows [] qs h = (tt, h)
 under_apart contract rows (p ∷ ps) qs h = let later = under_apart contract rows ps qs h.1 in ((h.0, later.0), later.1)
 
 module _ (c : Context) (on : c.dialect.reads_unevaluated ≡ true) (basis : Basis) (Refers : ℕ → Text → Type 0)
-    (settled : IsSettled basis) (v : Data) (N : ℕ → Data → List Choice) where
+    (settled : IsSettled basis) (v : Data) (N : ℕ → Data → List VariantMatch) where
   abbrev rows : List Row
   rows = basis.rows
 
@@ -141,8 +141,8 @@ module _ (c : Context) (on : c.dialect.reads_unevaluated ≡ true) (basis : Basi
   abbrev pub has : Flattened → List Field
   has = flattened_in rows
 
-  abbrev pub offered : Flattened → List (List Choice)
-  offered p = offers N (map enum_at (part_enums rows p)) v
+  abbrev pub offered : Flattened → List (List VariantMatch)
+  offered p = matches_of N (map enum_at (part_enums rows p)) v
 
   abbrev pub PartsAnswer : ℕ → Type 0
   PartsAnswer d = (p : Flattened) (t : Data) → IsPartUnder contract rows p → Answer d (members_of p.ty (is_required contract p.required)) t
@@ -153,19 +153,19 @@ module _ (c : Context) (on : c.dialect.reads_unevaluated ≡ true) (basis : Basi
   known_all d answers [] h = tt
   known_all d answers (p ∷ ps) h = (h.0, known_all d answers ps h.1)
 
-  pub offered_all : (ps : List Flattened) → all_offers offered ps ≡ offers N (map enum_at (flattened_enums (part_enums rows) ps)) v
+  pub offered_all : (ps : List Flattened) → all_offers offered ps ≡ matches_of N (map enum_at (flattened_enums (part_enums rows) ps)) v
   offered_all [] = refl
   offered_all (p ∷ ps) =
       ap (λ os. offered p ++ os) (offered_all ps)
       ∙ (sym (map-append (λ (q : Flattened). N q.ty v) (map enum_at (part_enums rows p))
       (map enum_at (flattened_enums (part_enums rows) ps)))
-      ∙ ap (λ qs. offers N qs v) (sym (map-append enum_at (part_enums rows p) (flattened_enums (part_enums rows) ps))))
+      ∙ ap (λ qs. matches_of N qs v) (sym (map-append enum_at (part_enums rows p) (flattened_enums (part_enums rows) ps))))
 
   -- the document of a struct
   pub struct_at : (d : ℕ) → PartsAnswer d → (e : Entry) (x : Fields) → e.shape ≡ shape.struct x → AreNotes e.notes
       → ArePartsUnder contract rows x.flatten → (s : Data) → IsOwnDocument (Answer d) basis (Some e) s
       → IsStruct c on contract (In d) v (effective has x)
-      (offers N (map enum_at (flattened_enums (part_enums rows) x.flatten)) v) x.closed s
+      (matches_of N (map enum_at (flattened_enums (part_enums rows) x.flatten)) v) x.closed s
   struct_at d answers e x is notes under s own =
       let g : Fills (Answer d) (noted e.notes (struct_template contract x)) s =
       subst (λ k. Fills (Answer d) (noted e.notes (template_of basis k)) s) is own in
@@ -173,32 +173,32 @@ module _ (c : Context) (on : c.dialect.reads_unevaluated ≡ true) (basis : Basi
       (known_all d answers x.flatten under)
       g.parts g.answered in
       subst (IsStruct c on contract (In d) v (effective has x)
-      (offers N (map enum_at (flattened_enums (part_enums rows) x.flatten)) v) x.closed)
+      (matches_of N (map enum_at (flattened_enums (part_enums rows) x.flatten)) v) x.closed)
       (sym g.is)
       (noted_struct c on contract (In d) v e.notes (effective has x) _ x.closed (filled (struct_template contract x) g.parts) notes
       (subst (λ os. IsStruct c on contract (In d) v (effective has x) os x.closed (filled (struct_template contract x) g.parts))
       (offered_all x.flatten) bare))
 
   -- where it is flattened
-  struct_answer : (W : ℕ → Data → Type 0) (xs : List Field) (os : List (List Choice)) (r : Required) (optional : Bool) (s : Data)
+  struct_answer : (W : ℕ → Data → Type 0) (xs : List Field) (os : List (List VariantMatch)) (r : Required) (optional : Bool) (s : Data)
       → (optional && not (is_required contract r) ≡ true → os ≡ []) → IsStruct c on contract W v xs os false s
-      → IsPart c on contract W v (if optional then map (weakened r) xs else xs) os
+      → IsPart c on contract W v (if optional then map (required_only_if r) xs else xs) os
       (flattened_part (optional && not (is_required contract r)) s)
   struct_answer W xs os r optional s none a = go optional (is_required contract r) refl none
     where
       go : (b k : Bool) → is_required contract r ≡ k → (b && not k ≡ true → os ≡ [])
-          → IsPart c on contract W v (if b then map (weakened r) xs else xs) os (flattened_part (b && not k) s)
+          → IsPart c on contract W v (if b then map (required_only_if r) xs else xs) os (flattened_part (b && not k) s)
       go false k is none = struct_part c on contract W v xs os s a
       go true true is none = weakened_part c on contract v W r xs os (flattened_part false s) is (struct_part c on contract W v xs os s a)
       go true false is none =
-          subst (λ qs. IsPart c on contract W v (map (weakened r) xs) qs (flattened_part true s)) (sym (none refl))
-          (optional_part c on contract W v xs s (subst (λ qs. IsStruct c on contract W v xs qs false s) (none refl) a) (map (weakened r) xs)
+          subst (λ qs. IsPart c on contract W v (map (required_only_if r) xs) qs (flattened_part true s)) (sym (none refl))
+          (optional_part c on contract W v xs s (subst (λ qs. IsStruct c on contract W v xs qs false s) (none refl) a) (map (required_only_if r) xs)
           (weakened_written W r xs) (weakened_keywords r xs) (no_names contract r xs is))
 
   -- ---- enums
 
-  module _ (M : ℕ → Data → Bool) (O : ℕ → Data → List Choice)
-      (choices_at : (n : ℕ) (e : Entry) → entry_at rows n ≡ Some e → N n v ≡ shape_choices contract M O (spread_in rows e.shape) v)
+  module _ (M : ℕ → Data → Bool) (O : ℕ → Data → List VariantMatch)
+      (choices_at : (n : ℕ) (e : Entry) → entry_at rows n ≡ Some e → N n v ≡ shape_choices contract M O (expanded_shape_in rows e.shape) v)
       (json : IsJson v)
       (agree : (d j : ℕ) (t w : Data) → In d j t → IsJson w → depth w < depth v → (judge c t).fits w ≡ verdict (M j w))
       (null_says : (w : Data) → (judge c null_schema).fits w ≡ verdict (is_null w))
@@ -207,10 +207,10 @@ module _ (c : Context) (on : c.dialect.reads_unevaluated ≡ true) (basis : Basi
     schemas d j t is = written_schema basis Refers d j t is
 
     abbrev spreads : Payload → Payload
-    spreads p = spread_payload has (part_enums rows) p
+    spreads p = expanded_payload has (part_enums rows) p
 
-    abbrev each_spread : Variant → Variant
-    each_spread x = spread_variant has (part_enums rows) x
+    abbrev each_expanded : Variant → Variant
+    each_expanded x = expanded_variant has (part_enums rows) x
 
     abbrev P : Payload → Data → Bool
     P p w = has_payload contract M O (spreads p) w
@@ -230,7 +230,7 @@ module _ (c : Context) (on : c.dialect.reads_unevaluated ≡ true) (basis : Basi
     known_one name no_payload notes bare plain told = bare
     known_one name _ notes bare plain told = (told, plain)
 
-    known_each : (xs : List Variant) → HasBareUnits xs → ArePlainVariants (map each_spread xs)
+    known_each : (xs : List Variant) → HasBareUnits xs → ArePlainVariants (map each_expanded xs)
         → ArePartsUnder contract rows (variant_parts xs) → AreKnown Told xs
     known_each [] bare plain flat = tt
     known_each (x ∷ xs) bare plain flat =
@@ -238,20 +238,20 @@ module _ (c : Context) (on : c.dialect.reads_unevaluated ≡ true) (basis : Basi
         (known_one x.name x.payload x.notes bare.0 plain.0 (plain.1, flats.0), known_each xs bare.1 plain.2 flats.1)
 
     external_offers : (xs : List Variant) → map (λ (x : Variant). member_choice x.name (P x.payload) v) xs
-        ≡ map (external_choice contract M O v) (map each_spread xs)
+        ≡ map (external_choice contract M O v) (map each_expanded xs)
     external_offers [] = refl
     external_offers (x ∷ xs) = ap (λ os. member_choice x.name (P x.payload) v ∷ os) (external_offers xs)
 
     pub external_at : (d : ℕ) → PayloadsTell d → (e : Entry) (x : Variant) (xs : List Variant) → e.shape ≡ shape.enum shape.by_name (x ∷ xs)
         → AreNotes e.notes
-        → HasBareUnits (x ∷ xs) → ArePlainVariants (map each_spread (x ∷ xs)) → ArePartsUnder contract rows (variant_parts (x ∷ xs))
+        → HasBareUnits (x ∷ xs) → ArePlainVariants (map each_expanded (x ∷ xs)) → ArePartsUnder contract rows (variant_parts (x ∷ xs))
         → (s : Data) → IsOwnDocument (Answer d) basis (Some e) s
-        → IsPart c on contract (In d) v [] (shape_choices contract M O (spread_in rows (shape.enum shape.by_name (x ∷ xs))) v ∷ [])
+        → IsPart c on contract (In d) v [] (shape_choices contract M O (expanded_shape_in rows (shape.enum shape.by_name (x ∷ xs))) v ∷ [])
         (flattened_part false s)
     external_at d tell e x xs is notes bare plain flat s own =
         let g : Fills (Answer d) (noted e.notes (external_template contract (x ∷ xs))) s =
         subst (λ k. Fills (Answer d) (noted e.notes (template_of basis k)) s) is own in
-        subst (λ t. IsPart c on contract (In d) v [] (shape_choices contract M O (spread_in rows (shape.enum shape.by_name (x ∷ xs))) v ∷ [])
+        subst (λ t. IsPart c on contract (In d) v [] (shape_choices contract M O (expanded_shape_in rows (shape.enum shape.by_name (x ∷ xs))) v ∷ [])
         (flattened_part false t))
         (sym g.is)
         (subst (λ os. IsPart c on contract (In d) v [] (os ∷ [])
@@ -271,7 +271,7 @@ module _ (c : Context) (on : c.dialect.reads_unevaluated ≡ true) (basis : Basi
         → IsStruct c on contract (In d) v (effective has y) [] y.closed (filled (struct_template contract y) us)
     struct_filled d answers y h us fit =
         subst (λ os. IsStruct c on contract (In d) v (effective has y) os y.closed (filled (struct_template contract y) us))
-        (offered_all y.flatten ∙ ap (λ ns. offers N (map enum_at ns) v) h.1)
+        (offered_all y.flatten ∙ ap (λ ns. matches_of N (map enum_at ns) v) h.1)
         (struct_fills (Answer d) c on contract v has offered (IsPartUnder contract rows) answers y
         (known_all d answers y.flatten h.0) us fit)
 
@@ -279,8 +279,8 @@ module _ (c : Context) (on : c.dialect.reads_unevaluated ≡ true) (basis : Basi
       abbrev Inside : List Variant → Type 0
       Inside = AreInside c on contract (Answer d) M (schemas d) v json (agree d) unit_says (effective has) Plain (struct_filled d answers)
 
-      inside_each : (tag : Text) (xs : List Variant) → ArePlainVariants (map each_spread xs)
-          → AreTagged tag (map each_spread xs) → VariantsHaveNoEnums rows xs → ArePartsUnder contract rows (variant_parts xs) → Inside xs
+      inside_each : (tag : Text) (xs : List Variant) → ArePlainVariants (map each_expanded xs)
+          → AreTagged tag (map each_expanded xs) → VariantsHaveNoEnums rows xs → ArePartsUnder contract rows (variant_parts xs) → Inside xs
       inside_each tag [] plain tags none flat = tt
       inside_each tag (x ∷ xs) plain tags none flat =
           let flats = under_apart contract rows (payload_parts x.payload) (variant_parts xs) flat in
@@ -295,23 +295,23 @@ module _ (c : Context) (on : c.dialect.reads_unevaluated ≡ true) (basis : Basi
           by name (tuple_payload ns) notes fine plain tagged none flat later = absurd tagged
           by name (struct_payload y) notes fine plain tagged none flat later = (((flat, none), plain.0, plain.1), fine, later)
 
-      abbrev inside_offer : Text → Variant → Choice
+      abbrev inside_offer : Text → Variant → VariantMatch
       inside_offer = offer c on contract (Answer d) M (schemas d) v json (agree d) unit_says (effective has) Plain (struct_filled d answers)
 
       inside_one : (tag name : Text) (p : Payload) (notes : Members) → inside_offer tag (record { name = name; payload = p; notes = notes })
-          ≡ internal_choice contract M tag v (each_spread (record { name = name; payload = p; notes = notes }))
+          ≡ internal_choice contract M tag v (each_expanded (record { name = name; payload = p; notes = notes }))
       inside_one tag name no_payload notes = refl
       inside_one tag name _ notes = refl
 
       inside_offers : (tag : Text) (xs : List Variant) → map (inside_offer tag) xs
-          ≡ map (internal_choice contract M tag v) (map each_spread xs)
+          ≡ map (internal_choice contract M tag v) (map each_expanded xs)
       inside_offers tag [] = refl
       inside_offers tag (x ∷ xs) = λ i. inside_one tag x.name x.payload x.notes i ∷ inside_offers tag xs i
 
       pub internal_at : (e : Entry) (tag : Text) (closed : Bool) (x : Variant) (xs : List Variant) → e.shape
           ≡ shape.enum (shape.by_tag tag closed) (x ∷ xs)
           → AreNotes e.notes → Inside (x ∷ xs) → (s : Data) → IsOwnDocument (Answer d) basis (Some e) s
-          → IsPart c on contract (In d) v [] (shape_choices contract M O (spread_in rows (shape.enum (shape.by_tag tag closed) (x ∷ xs))) v ∷ [])
+          → IsPart c on contract (In d) v [] (shape_choices contract M O (expanded_shape_in rows (shape.enum (shape.by_tag tag closed) (x ∷ xs))) v ∷ [])
           (flattened_part false s)
       internal_at e tag closed x xs is notes inside s own =
           let g : Fills (Answer d) (noted e.notes (internal_template contract tag closed (x ∷ xs))) s =
@@ -320,7 +320,7 @@ module _ (c : Context) (on : c.dialect.reads_unevaluated ≡ true) (basis : Basi
           (struct_filled d answers)
           tag closed x xs inside g.parts g.answered in
           subst (λ t. IsPart c on contract (In d) v []
-          (shape_choices contract M O (spread_in rows (shape.enum (shape.by_tag tag closed) (x ∷ xs))) v ∷ [])
+          (shape_choices contract M O (expanded_shape_in rows (shape.enum (shape.by_tag tag closed) (x ∷ xs))) v ∷ [])
           (flattened_part false t)) (sym (g.is ∙ ap (annotated e.notes) all.1))
           (subst (λ os. IsPart c on contract (In d) v [] (os ∷ []) (flattened_part false (annotated e.notes (one_object all.0))))
           (inside_offers tag (x ∷ xs))
@@ -330,33 +330,33 @@ module _ (c : Context) (on : c.dialect.reads_unevaluated ≡ true) (basis : Basi
 
     module _ (tell : (d : ℕ) → PayloadsTell d) where
       abbrev Goal : ℕ → Flattened → List Field → List ℕ → Bool → Data → Type 0
-      Goal d p xs ns b s = IsPart c on contract (In d) v (if is_some (option_at rows p.ty) then map (weakened p.required) xs else xs)
-          (offers N (map enum_at ns) v) (flattened_part b s)
+      Goal d p xs ns b s = IsPart c on contract (In d) v (if is_some (option_at rows p.ty) then map (required_only_if p.required) xs else xs)
+          (matches_of N (map enum_at ns) v) (flattened_part b s)
 
-      no_fields : (r : Required) (a : Bool) → (if a then map (weakened r) [] else []) ≡ []
+      no_fields : (r : Required) (a : Bool) → (if a then map (required_only_if r) [] else []) ≡ []
       no_fields r true = refl
       no_fields r false = refl
 
       -- an enum has no fields, and is the one enum
       enum_goal : (d : ℕ) (p : Flattened) (n : ℕ) (e : Entry) → entry_at rows n ≡ Some e → (k : Shape) → e.shape ≡ k → (s : Data)
           → may_miss rows contract p ≡ false
-          → IsPart c on contract (In d) v [] (shape_choices contract M O (spread_in rows k) v ∷ []) (flattened_part false s)
+          → IsPart c on contract (In d) v [] (shape_choices contract M O (expanded_shape_in rows k) v ∷ []) (flattened_part false s)
           → Goal d p [] (n ∷ []) (may_miss rows contract p) s
       enum_goal d p n e at k same s must h =
           subst (λ m. Goal d p [] (n ∷ []) m s) (sym must)
           (subst (λ xs. IsPart c on contract (In d) v xs (N n v ∷ []) (flattened_part false s))
           (sym (no_fields p.required (is_some (option_at rows p.ty))))
           (subst (λ os. IsPart c on contract (In d) v [] (os ∷ []) (flattened_part false s))
-          (sym (choices_at n e at ∙ ap (λ q. shape_choices contract M O (spread_in rows q) v) same)) h))
+          (sym (choices_at n e at ∙ ap (λ q. shape_choices contract M O (expanded_shape_in rows q) v) same)) h))
 
       shape_goal : (d : ℕ) → PartsAnswer d → (p : Flattened) (n : ℕ) (e : Entry) → entry_at rows n ≡ Some e → (k : Shape) → e.shape ≡ k
-          → AreNotes e.notes → IsPlainShape (spread_in rows k) → ArePartsUnder contract rows (parts_in k)
+          → AreNotes e.notes → IsPlainShape (expanded_shape_in rows k) → ArePartsUnder contract rows (parts_in k)
           → IsPartShape rows (may_miss rows contract p) k → (s : Data) → IsOwnDocument (Answer d) basis (Some e) s
           → Goal d p (shape_fields has k) (shape_enums (part_enums rows) n k) (may_miss rows contract p) s
       shape_goal d answers p n e at (shape.struct x) same notes fine under is s own =
-          let os : List (List Choice) = offers N (map enum_at (flattened_enums (part_enums rows) x.flatten)) v in
+          let os : List (List VariantMatch) = matches_of N (map enum_at (flattened_enums (part_enums rows) x.flatten)) v in
           struct_answer (In d) (effective has x) os p.required (is_some (option_at rows p.ty)) s
-          (λ misses. ap (λ ns. offers N (map enum_at ns) v) (is.1 misses))
+          (λ misses. ap (λ ns. matches_of N (map enum_at ns) v) (is.1 misses))
           (subst (λ b. IsStruct c on contract (In d) v (effective has x) os b s) is.0 (struct_at d answers e x same notes under s own))
       shape_goal d answers p n e at (shape.enum shape.by_name []) same notes fine under is s own = absurd is.1
       shape_goal d answers p n e at (shape.enum shape.by_name (x ∷ xs)) same notes fine under is s own =
@@ -393,11 +393,11 @@ module _ (c : Context) (on : c.dialect.reads_unevaluated ≡ true) (basis : Basi
           (settled.plain (without_options rows p.ty)) under h.0 h.1)))
         where
           lifted : (b : Bool) → IsPart c on contract (In d) v
-              (if b then map (weakened p.required) (row_fields rows (without_options rows p.ty)) else row_fields rows
+              (if b then map (required_only_if p.required) (row_fields rows (without_options rows p.ty)) else row_fields rows
               (without_options rows p.ty))
               (offered p) (flattened_part (are_optional rows p.ty (is_required contract p.required)) h.0)
               → IsPart c on contract (In d) v
-              (if b then map (weakened p.required) (row_fields rows (without_options rows p.ty)) else row_fields rows
+              (if b then map (required_only_if p.required) (row_fields rows (without_options rows p.ty)) else row_fields rows
               (without_options rows p.ty))
               (offered p) (flattened_part (are_optional rows p.ty (is_required contract p.required)) h.0)
           lifted b x = x
@@ -408,6 +408,6 @@ module _ (c : Context) (on : c.dialect.reads_unevaluated ≡ true) (basis : Basi
 pub choices_counted : (rows : List Row) (contract : Contract) (patterns : Patterns) (m n : ℕ) (e : Entry) (v : Data) → entry_at rows n
     ≡ Some e
     → choices_within rows contract patterns (suc m) n v
-    ≡ shape_choices contract (belongs_within rows contract patterns m) (choices_within rows contract patterns m) (spread_in rows e.shape) v
+    ≡ shape_choices contract (belongs_within rows contract patterns m) (choices_within rows contract patterns m) (expanded_shape_in rows e.shape) v
 unfolding choices_within
 choices_counted rows contract patterns m n e v at = rw (at, choices_within) refl

@@ -8,7 +8,7 @@ use Rattle.schemars_builders.proofs.Nulls.{IsReady}
 use Rattle.schemars_shapes.specs.Shape as shape
 use Rattle.schemars_shapes.specs.Shape.{Fields, Shape, Entry}
 use Rattle.schemars_types.specs.Rows.{entry_at}
-use Rattle.schemars_types.specs.Effective.{flattened_in, part_enums, spread_in}
+use Rattle.schemars_types.specs.Effective.{flattened_in, part_enums, expanded_shape_in}
 use Rattle.schemars_documents.specs.PlainTable.{IsPlainShape, ArePartsUnder, IsEntryUnder, parts_in}
 use Rattle.schemars_documents.specs.Basis.{Basis}
 use Rattle.schemars_documents.specs.Template.{Ask, asks_of, filled}
@@ -44,7 +44,7 @@ module _ (patterns : Patterns) (f : Text → Judge) (basis : Basis) (Refers : �
       (tell_inside patterns f basis Refers settled ranks some zero
       (λ d j t w is js less. absurd (omega arith)) null (omega arith)) us fit)
 
-  pub bare_ready : (d : ℕ) → ((j : ℕ) (t : Data) → In d j t → IsReady t) → (kind : Shape) (s : Data) → IsPlainShape (spread_in rows kind)
+  pub bare_ready : (d : ℕ) → ((j : ℕ) (t : Data) → In d j t → IsReady t) → (kind : Shape) (s : Data) → IsPlainShape (expanded_shape_in rows kind)
       → ArePartsUnder contract rows (parts_in kind) → Fills (Answer d) (template_of basis kind) s → IsReady s
   bare_ready d ready (shape.struct x) s fine under h = subst IsReady (sym h.is) (structs d x under h.parts h.answered)
   bare_ready d ready kind s fine under h =

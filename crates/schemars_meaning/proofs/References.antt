@@ -20,7 +20,7 @@ use Rattle.schemars_types.specs.Rows.{Row}
 use Rattle.schemars_types.specs.declared.contract.Contract.{Contract}
 use Rattle.schemars_types.specs.declared.contract.Contract.TheVariants.{Deserialize, Serialize}
 use Rattle.schemars_types.specs.Meaning.{least_of, greatest_of, is_required}
-use Rattle.schemars_types.specs.Effective.{flattened_fields, effective, flattened_in, part_enums, spread_payload, spread_variant, spread_in}
+use Rattle.schemars_types.specs.Effective.{flattened_fields, effective, flattened_in, part_enums, expanded_payload, expanded_variant, expanded_shape_in}
 use Rattle.schemars_types.specs.KeyOptions.{KeyOptions, keys, or_any_text, all_options, key_options, distinct_options, once}
 use Rattle.schemars_documents.specs.Documents.{int_keywords, is_signed, required_names, bytes_document}
 use Rattle.schemars_documents.specs.PlainTable.{AreDistinct, AreNoted, IsPlainShape, IsPlainEntry, IsPlainPayload, AreNotedVariants, ArePlainVariants, AreTagged, IsTagged, payload_parts, variant_parts, parts_in, IsNotedShape, ArePlainParts, IsNotedPayload, IsNotedThroughout}
@@ -83,15 +83,15 @@ noted-first [] ys h = tt
 noted-first (x ∷ xs) ys h = (h.0, noted-first xs ys h.1)
 
 module _ (part : Flattened → List Field) (enums : Flattened → List ℕ) where
-  plain-payload_noted : (p : Payload) → IsPlainPayload (spread_payload part enums p) → IsNotedPayload p
+  plain-payload_noted : (p : Payload) → IsPlainPayload (expanded_payload part enums p) → IsNotedPayload p
   plain-payload_noted (struct_payload x) h = noted-first x.list (flattened_fields part x.flatten) h.1
   plain-payload_noted _ h = tt
 
-  plain-variants_noted : (xs : List Variant) → ArePlainVariants (map (spread_variant part enums) xs) → AreNotedVariants xs
+  plain-variants_noted : (xs : List Variant) → ArePlainVariants (map (expanded_variant part enums) xs) → AreNotedVariants xs
   plain-variants_noted [] h = tt
   plain-variants_noted (x ∷ xs) h = (h.0, plain-payload_noted x.payload h.1, plain-variants_noted xs h.2)
 
-pub plain-shape_noted : (rows : List Row) (kind : Shape) → IsPlainShape (spread_in rows kind) → IsNotedShape kind
+pub plain-shape_noted : (rows : List Row) (kind : Shape) → IsPlainShape (expanded_shape_in rows kind) → IsNotedShape kind
 plain-shape_noted rows (shape.struct x) h = noted-first x.list (flattened_fields (flattened_in rows) x.flatten) h.1
 plain-shape_noted rows (shape.enum shape.by_name xs) h = plain-variants_noted (flattened_in rows) (part_enums rows) xs h.1
 plain-shape_noted rows (shape.enum shape.by_nothing xs) h = plain-variants_noted (flattened_in rows) (part_enums rows) xs h
@@ -104,7 +104,7 @@ plain-shape_noted rows _ h = tt
 
 -- where Q holds, the entry is plain, and the answers of flattened rows are maps with their fields
 module _ (Q : Type 0) (Answers : Ask → Data → Type 0) (basis : Basis)
-    (spread : Q → AnswersFields (flattened_in basis.rows) basis.rows basis.contract Answers) where
+    (expanded_shape : Q → AnswersFields (flattened_in basis.rows) basis.rows basis.contract Answers) where
   abbrev Schema : Template → Type 0
   Schema = AsSchema Q Answers
 
@@ -163,9 +163,9 @@ module _ (Q : Type 0) (Answers : Ask → Data → Type 0) (basis : Basis)
       let more = with_keywords t (asked (members_of p.ty (is_required basis.contract p.required))) in
       let longer = names ++ names_in (fields_at p) in
       let holds : Q → IsMapAt Answers more longer =
-      λ q. part_holds Answers basis.rows basis.contract (spread q) p t names (g q).0 (g q).1.0 in
+      λ q. part_holds Answers basis.rows basis.contract (expanded_shape q) p t names (g q).0 (g q).1.0 in
       let apart : Q → AreApart (longer ++ names_in (flattened_fields fields_at ps)) =
-      λ q. subst AreApart (sym (more_names Answers basis.rows basis.contract (spread q) p ps names)) (g q).2 in
+      λ q. subst AreApart (sym (more_names Answers basis.rows basis.contract (expanded_shape q) p ps names)) (g q).2 in
       flattened_as_schema ps more longer (
         h,
         tt,
@@ -192,10 +192,10 @@ module _ (Q : Type 0) (Answers : Ask → Data → Type 0) (basis : Basis)
   -- ---- enums
 
   abbrev IsPlainContent : Payload → Type 0
-  IsPlainContent p = IsPlainPayload (spread_payload fields_at enums_at p) × PlainParts (payload_parts p)
+  IsPlainContent p = IsPlainPayload (expanded_payload fields_at enums_at p) × PlainParts (payload_parts p)
 
   abbrev ArePlainContents : List Variant → Type 0
-  ArePlainContents xs = ArePlainVariants (map (spread_variant fields_at enums_at) xs) × PlainParts (variant_parts xs)
+  ArePlainContents xs = ArePlainVariants (map (expanded_variant fields_at enums_at) xs) × PlainParts (variant_parts xs)
 
   parts-first : (ps rs : List Flattened) → PlainParts (ps ++ rs) → PlainParts ps
   parts-first [] rs h = tt
@@ -282,7 +282,7 @@ module _ (Q : Type 0) (Answers : Ask → Data → Type 0) (basis : Basis)
 
   -- beside the tag
   tagged_as_schema : (tag name : Text) (closed : Bool) (p : Payload) → IsNotedPayload p
-      → (Q → IsPlainContent p × IsTagged tag (spread_payload fields_at enums_at p))
+      → (Q → IsPlainContent p × IsTagged tag (expanded_payload fields_at enums_at p))
       → Schema (tagged tag name closed (content_template basis.contract p))
   unfolding found_in
   tagged_as_schema tag name closed no_payload h g =
@@ -295,12 +295,12 @@ module _ (Q : Type 0) (Answers : Ask → Data → Type 0) (basis : Basis)
         let all = effective fields_at x in
         map_keeps Answers (tagged tag name closed (struct_template basis.contract x)) (names_in all ++ tag ∷ [])
         (tag_holds Answers tag name closed (struct_template basis.contract x) (names_in all)
-        (struct_holds Answers basis.rows basis.contract (spread q) x h (g q).0.1))
+        (struct_holds Answers basis.rows basis.contract (expanded_shape q) x h (g q).0.1))
         (tag_apart tag all (g q).1 (g q).0.0.0),
   )
 
   abbrev AreTaggedContents : Text → List Variant → Type 0
-  AreTaggedContents tag xs = ArePlainContents xs × AreTagged tag (map (spread_variant fields_at enums_at) xs)
+  AreTaggedContents tag xs = ArePlainContents xs × AreTagged tag (map (expanded_variant fields_at enums_at) xs)
 
   internals_as_items : (tag : Text) (closed : Bool) (xs : List Variant) → AreNotedVariants xs → (Q → AreTaggedContents tag xs)
       → EachSchema (templates_of (map (internal_item basis.contract tag closed) xs))
@@ -400,7 +400,7 @@ module _ (Q : Type 0) (Answers : Ask → Data → Type 0) (basis : Basis)
   -- ---- the shape of an entry
 
   shape_as_schema : (kind : Shape) → IsNotedShape kind
-      → (Q → IsPlainShape (spread_in basis.rows kind) × PlainParts (parts_in kind)) → Schema (template_of basis kind)
+      → (Q → IsPlainShape (expanded_shape_in basis.rows kind) × PlainParts (parts_in kind)) → Schema (template_of basis kind)
   unfolding found_in
   shape_as_schema (shape.int kind) p g = int_silent (format_of kind) (least_of kind) (greatest_of kind)
   shape_as_schema (shape.non_zero kind) p g = go (is_signed kind)
@@ -461,11 +461,11 @@ pub parts_among : (basis : Basis) (e : Entry) → IsPlainEntry basis.rows (Some 
     → AnswersFields (flattened_in basis.rows) basis.rows basis.contract Answers → (ts : List Data)
     → AreAnswered Answers (asks_of (entry_template basis e)) ts
     → Among (references_of ts) (references (filled (entry_template basis e) ts))
-parts_among basis e plain Answers spread ts answers x i =
+parts_among basis e plain Answers expanded_shape ts answers x i =
     let t = entry_template basis e in
     let ended : AreAnswered Answers (asks_of t ++ []) ts =
     subst (λ xs. AreAnswered Answers xs ts) (sym (append-nil (asks_of t))) answers in
-    let is = entry_as_schema (Unit {0}) Answers basis (λ q. spread) e (plain.0, plain-shape_noted basis.rows e.shape plain.1)
+    let is = entry_as_schema (Unit {0}) Answers basis (λ q. expanded_shape) e (plain.0, plain-shape_noted basis.rows e.shape plain.1)
     (λ q. plain) in
     subst (λ xs. Contains xs x) (ap (λ us. references (filled t ts) ++ references_of us) (answered_left Answers t [] ts ended)
     ∙ append-nil (references (filled t ts))) (kept_schema (Unit {0}) Answers tt t [] ts ended is x i)

@@ -14,9 +14,9 @@ use Rattle.schemars_builders.proofs.Nulls.{ready-schema, IsReady}
 use Rattle.schemars_shapes.specs.Shape as shape
 use Rattle.schemars_shapes.specs.Shape.{Field, Fields, Flattened, Payload, no_payload, newtype_payload, tuple_payload, struct_payload, Shape, Variant}
 use Rattle.schemars_types.specs.Rows.{Row}
-use Rattle.schemars_types.specs.Effective.{effective, flattened_in, flattened_enums, part_enums, enum_at, spread_payload, spread_variant, spread_in}
+use Rattle.schemars_types.specs.Effective.{effective, flattened_in, flattened_enums, part_enums, enum_at, expanded_payload, expanded_variant, expanded_shape_in}
 use Rattle.schemars_types.specs.declared.contract.Contract.{Contract}
-use Rattle.schemars_types.specs.Meaning.{Choice, is_required, offers, has_payload, belongs_within, choices_within, has_shape}
+use Rattle.schemars_types.specs.Meaning.{VariantMatch, is_required, matches_of, has_payload, belongs_within, choices_within, has_shape}
 use Rattle.schemars_types.specs.KeyOptions.{key_options}
 use Rattle.schemars_flatten.proofs.Schemas.{flattened-schema}
 use Rattle.schemars_documents.specs.PlainTable.{IsPlainPayload, IsPartUnder, ArePartsUnder, payload_parts, ArePlainVariants, IsTagged, AreTagged, IsPlainShape, parts_in, variant_parts}
@@ -50,7 +50,7 @@ HasRoom ranks w m ps = (ps ≡ []) ⊎ (depth w * ranks < m)
 -- a plain payload, into which parts are flattened
 abbrev pub Told : Contract → List Row → Payload → Type 0
 Told contract rows p =
-    IsPlainPayload (spread_payload (flattened_in rows) (part_enums rows) p) × ArePartsUnder contract rows (payload_parts p)
+    IsPlainPayload (expanded_payload (flattened_in rows) (part_enums rows) p) × ArePartsUnder contract rows (payload_parts p)
 
 room_apart : (ranks : ℕ) (v : Data) (m : ℕ) (ps qs : List Flattened) → HasRoom ranks v m (ps ++ qs)
     → HasRoom ranks v m ps × HasRoom ranks v m qs
@@ -87,17 +87,17 @@ module _ (patterns : Patterns) (f : Text → Judge) (basis : Basis) (Refers : �
   abbrev B : ℕ → ℕ → Data → Bool
   B m = belongs_within rows contract patterns m
 
-  abbrev C : ℕ → ℕ → Data → List Choice
+  abbrev C : ℕ → ℕ → Data → List VariantMatch
   C m = choices_within rows contract patterns m
 
   abbrev schemas : (d j : ℕ) (t : Data) → In d j t → IsSchema t
   schemas d j t is = written_schema basis Refers d j t is
 
   abbrev spreads : Payload → Payload
-  spreads p = spread_payload (flattened_in rows) (part_enums rows) p
+  spreads p = expanded_payload (flattened_in rows) (part_enums rows) p
 
   abbrev each : Variant → Variant
-  each x = spread_variant (flattened_in rows) (part_enums rows) x
+  each x = expanded_variant (flattened_in rows) (part_enums rows) x
 
   abbrev IsTold : Payload → Type 0
   IsTold p = Told contract rows p
@@ -119,7 +119,7 @@ module _ (patterns : Patterns) (f : Text → Judge) (basis : Basis) (Refers : �
     -- the document of a map with the fields of y, and with its enums
     abbrev pub IsStructOf : ℕ → Data → ℕ → Fields → Data → Type 0
     IsStructOf d w m y s = IsStruct c refl contract (In d) w (effective (flattened_in rows) y)
-        (offers (C m) (map enum_at (flattened_enums (part_enums rows) y.flatten)) w) y.closed s
+        (matches_of (C m) (map enum_at (flattened_enums (part_enums rows) y.flatten)) w) y.closed s
 
     abbrev Stands : ℕ → Data → ℕ → Fields → Type 0
     Stands d w m y = (us : List Data) → Fit (Answer d) (asks_of (struct_template contract y)) us
@@ -279,10 +279,10 @@ module _ (patterns : Patterns) (f : Text → Judge) (basis : Basis) (Refers : �
 
       -- ---- by shape
 
-      pub shape_says : (kind : Shape) → Room (parts_in kind) → IsPlainShape (spread_in rows kind)
+      pub shape_says : (kind : Shape) → Room (parts_in kind) → IsPlainShape (expanded_shape_in rows kind)
           → ArePartsUnder contract rows (parts_in kind)
           → (s : Data) → Fills (Answer d) (template_of basis kind) s → Agrees kind
-          → (judge c s).fits v ≡ verdict (has_shape contract patterns (key_options rows) (C m) (B m) (spread_in rows kind) v)
+          → (judge c s).fits v ≡ verdict (has_shape contract patterns (key_options rows) (C m) (B m) (expanded_shape_in rows kind) v)
       shape_says (shape.struct x) room fine under s h agree =
           rw h.is (struct_says v json within m enough d x room (fine, under) tell h.parts h.answered)
       shape_says (shape.enum shape.by_name xs) room fine under s h agree =

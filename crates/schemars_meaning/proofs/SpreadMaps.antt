@@ -284,7 +284,7 @@ module _ (Answers : Ask → Data → Type 0) where
 
   -- ---- flattened rows
 
-  module _ (rows : List Row) (contract : Contract) (spread : AnswersFields (flattened_in rows) rows contract Answers) where
+  module _ (rows : List Row) (contract : Contract) (expanded_shape : AnswersFields (flattened_in rows) rows contract Answers) where
     abbrev at : Flattened → Ask
     at p = members_of p.ty (is_required contract p.required)
 
@@ -350,7 +350,7 @@ module _ (Answers : Ask → Data → Type 0) where
             → HoldsMap (with_keywords t (asked (at p))) (names ++ names_in fields) ts
         go [] same answer = absurd answer
         go (d ∷ us) same answer =
-            whole d us same (spread p d plain (subst (λ b. Answers (members_of p.ty b) d) (must_be_present rows contract p plain) answer.0))
+            whole d us same (expanded_shape p d plain (subst (λ b. Answers (members_of p.ty b) d) (must_be_present rows contract p plain) answer.0))
 
     abbrev pub spread_names : List Flattened → List Text
     spread_names ps = names_in (flattened_fields (flattened_in rows) ps)

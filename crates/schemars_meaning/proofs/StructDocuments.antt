@@ -17,7 +17,7 @@ use Rattle.schemars_flatten.specs.Opening.{opened, has_type}
 use Rattle.schemars_flatten.specs.Parts.{flattened_part, first_units, behind_first, first_as_objects, list_changed_at, units_as_objects}
 use Rattle.schemars_shapes.specs.Shape.{Field}
 use Rattle.schemars_types.specs.declared.contract.Contract.{Contract}
-use Rattle.schemars_types.specs.Meaning.{every_member, member_fits, has_required, Choice, every_part, claims, shut, has_fields}
+use Rattle.schemars_types.specs.Meaning.{every_member, member_fits, has_required, VariantMatch, every_part, is_key_of_match, excludes_key, has_fields}
 use Rattle.schemars_documents.specs.PlainTable.{AreDistinct, AreNoted}
 use Rattle.schemars_documents.specs.Documents.{Keyword, annotated, required_names}
 use Rattle.schemars_meaning.proofs.MapKeywords.{noted, noted_by-object, noted-beside, sorted-noted, closed_there}
@@ -38,11 +38,11 @@ pub every_alike : (p q : Text → Data → Bool) → ((k : Text) (w : Data) → 
 every_alike p q h no_members = refl
 every_alike p q h (member k w ms) = λ i. h k w i && every_alike p q h ms i
 
-fields_alike : (contract : Contract) (M : ℕ → Data → Bool) (ps qs : List (List Choice)) (xs : List Field) (closed : Bool)
-    → every_part ps ≡ every_part qs → ((k : Text) → claims ps k ≡ claims qs k) → (v : Data)
+fields_alike : (contract : Contract) (M : ℕ → Data → Bool) (ps qs : List (List VariantMatch)) (xs : List Field) (closed : Bool)
+    → every_part ps ≡ every_part qs → ((k : Text) → is_key_of_match ps k ≡ is_key_of_match qs k) → (v : Data)
     → has_fields contract M ps xs closed v ≡ has_fields contract M qs xs closed v
 fields_alike contract M ps qs xs closed every claim (object ms) =
-    λ i. every i && (every_alike (λ k w. member_fits M xs (shut closed ps k) k w) (λ k w. member_fits M xs (shut closed qs k) k w)
+    λ i. every i && (every_alike (λ k w. member_fits M xs (excludes_key closed ps k) k w) (λ k w. member_fits M xs (excludes_key closed qs k) k w)
     (λ k w. ap (λ b. member_fits M xs (not b && closed) k w) (claim k)) ms i && has_required contract xs ms)
 fields_alike contract M ps qs xs closed every claim null = refl
 fields_alike contract M ps qs xs closed every claim _ = refl
@@ -53,20 +53,20 @@ both_empty (x ∷ xs) ys e = cc
 
 module _ (c : Context) (on : c.dialect.reads_unevaluated ≡ true) (contract : Contract) (W : ℕ → Data → Type 0) (v : Data) where
   -- s is the document of a map with these fields and enums, of which the enums offer this of v
-  pub record IsStruct (list : List Field) (offers : List (List Choice)) (closed : Bool) (s : Data) : Type 0 where
+  pub record IsStruct (list : List Field) (matches_of : List (List VariantMatch)) (closed : Bool) (s : Data) : Type 0 where
     pub written : List Data
     pub are_written : AreWritten W list written
     pub parts : Parts
     pub members : Members
     pub is : s ≡ object members
     pub form : IsForm (struct_keywords (field_keywords list written) (required_names contract list) parts closed) members
-    pub every : every_part (choices_in parts) ≡ every_part offers
-    pub claimed : (k : Text) → claims (choices_in parts) k ≡ claims offers k
+    pub every : every_part (choices_in parts) ≡ every_part matches_of
+    pub claimed : (k : Text) → is_key_of_match (choices_in parts) k ≡ is_key_of_match matches_of k
     pub choices : ChoicesAre c on parts v
-    pub bare : offers ≡ [] → parts ≡ no_parts
+    pub bare : matches_of ≡ [] → parts ≡ no_parts
 
   -- the same where it is a part
-  pub record IsPart (list : List Field) (offers : List (List Choice)) (s : Data) : Type 0 where
+  pub record IsPart (list : List Field) (matches_of : List (List VariantMatch)) (s : Data) : Type 0 where
     pub type : Option Data
     pub written : List Data
     pub are_written : AreWritten W list written
@@ -74,13 +74,13 @@ module _ (c : Context) (on : c.dialect.reads_unevaluated ≡ true) (contract : C
     pub members : Members
     pub is : s ≡ object members
     pub form : IsForm (part_keywords type (field_keywords list written) (required_names contract list) parts) members
-    pub every : every_part (choices_in parts) ≡ every_part offers
-    pub claimed : (k : Text) → claims (choices_in parts) k ≡ claims offers k
+    pub every : every_part (choices_in parts) ≡ every_part matches_of
+    pub claimed : (k : Text) → is_key_of_match (choices_in parts) k ≡ is_key_of_match matches_of k
     pub choices : ChoicesAre c on parts v
-    pub bare : offers ≡ [] → parts ≡ no_parts
+    pub bare : matches_of ≡ [] → parts ≡ no_parts
 
   -- a part put into a struct
-  pub flattened_struct : (xs ys : List Field) (os qs : List (List Choice)) (closed : Bool) (s u : Data) → IsStruct xs os closed s
+  pub flattened_struct : (xs ys : List Field) (os qs : List (List VariantMatch)) (closed : Bool) (s u : Data) → IsStruct xs os closed s
       → IsPart ys qs u → IsStruct (xs ++ ys) (os ++ qs) closed (flattened s u)
   flattened_struct xs ys os qs closed s u a b =
       let form = united_form (field_keywords xs a.written) (required_names contract xs) a.parts closed a.members a.form b.type
@@ -103,7 +103,7 @@ module _ (c : Context) (on : c.dialect.reads_unevaluated ≡ true) (contract : C
       }
 
   -- with notes
-  pub noted_struct : (notes : Members) (xs : List Field) (os : List (List Choice)) (closed : Bool) (s : Data) → AreNotes notes
+  pub noted_struct : (notes : Members) (xs : List Field) (os : List (List VariantMatch)) (closed : Bool) (s : Data) → AreNotes notes
       → IsStruct xs os closed s → IsStruct xs os closed (annotated notes s)
   noted_struct notes xs os closed s plain a = record {
     written = a.written;
@@ -124,7 +124,7 @@ module _ (c : Context) (on : c.dialect.reads_unevaluated ≡ true) (contract : C
   -- ---- it means what the struct means
 
   module _ (M : ℕ → Data → Bool) (schemas : (j : ℕ) (t : Data) → W j t → IsSchema t) where
-    pub means : (xs : List Field) (os : List (List Choice)) (closed : Bool) (s : Data) → AreDistinct xs → AreNoted xs
+    pub means : (xs : List Field) (os : List (List VariantMatch)) (closed : Bool) (s : Data) → AreDistinct xs → AreNoted xs
         → IsStruct xs os closed s → IsJson v
         → ((j : ℕ) (t w : Data) → W j t → IsJson w → depth w < depth v → (judge c t).fits w ≡ verdict (M j w))
         → (judge c s).fits v ≡ verdict (has_fields contract M os xs closed v)

@@ -12,7 +12,7 @@ use Rattle.schemars_schema.specs.Acceptance.{Context, Judge, judge, read_data, r
 use Rattle.schemars_schema.proofs.Verdicts.{both-yes, both-verdict, each_agree}
 use Rattle.schemars_schema.proofs.Objects.{says}
 use Rattle.schemars_builders.proofs.NullKeywords.{texts_in-text_items}
-use Rattle.schemars_types.specs.Meaning.{exactly_one, Choice, every_part, claimed_by, claims, shut}
+use Rattle.schemars_types.specs.Meaning.{exactly_one, VariantMatch, every_part, claimed_by, is_key_of_match, excludes_key}
 use Rattle.schemars_documents.specs.Documents.{Keyword}
 use Rattle.schemars_meaning.proofs.MapKeywords.{properties_there, required_there, closed_there}
 use Rattle.schemars_meaning.proofs.Named.{judges_in, all_named-schemas, AreSchemas-put_all, AreEntries, each_yes}
@@ -24,21 +24,21 @@ use Rattle.schemars_meaning.proofs.Offers.{AllSay, one_object, one_fits, judged_
 -- the schemas of an enum, and what they offer
 pub record Part : Type 0 where
   pub items : List Data
-  pub choices : List Choice
+  pub choices : List VariantMatch
 
 -- parts under `allOf`, and one under `oneOf`, or none
 pub record Parts : Type 0 where
   pub all : List Part
   pub one : Option Part
 
-abbrev pub one_in : Option Part → List (List Choice)
+abbrev pub one_in : Option Part → List (List VariantMatch)
 one_in None = []
 one_in (Some p) = p.choices ∷ []
 
-abbrev pub all_in : List Part → List (List Choice)
+abbrev pub all_in : List Part → List (List VariantMatch)
 all_in ps = map (λ p. p.choices) ps
 
-abbrev pub choices_in : Parts → List (List Choice)
+abbrev pub choices_in : Parts → List (List VariantMatch)
 choices_in ps = all_in ps.all ++ one_in ps.one
 
 abbrev pub objects : List Part → List Data
@@ -94,16 +94,16 @@ both-no : (b : Bool) → both No (verdict b) ≡ No
 both-no true = refl
 both-no false = refl
 
-pub every_part-append : (ps qs : List (List Choice)) → every_part (ps ++ qs) ≡ every_part ps && every_part qs
+pub every_part-append : (ps qs : List (List VariantMatch)) → every_part (ps ++ qs) ≡ every_part ps && every_part qs
 every_part-append [] qs = refl
 every_part-append (os ∷ ps) qs =
-    ap (λ b. exactly_one (map (λ (o : Choice). o.fits) os) && b) (every_part-append ps qs)
-    ∙ sym (and_assoc (exactly_one (map (λ (o : Choice). o.fits) os)) (every_part ps) (every_part qs))
+    ap (λ b. exactly_one (map (λ (o : VariantMatch). o.fits) os) && b) (every_part-append ps qs)
+    ∙ sym (and_assoc (exactly_one (map (λ (o : VariantMatch). o.fits) os)) (every_part ps) (every_part qs))
 
-pub claims-append : (ps qs : List (List Choice)) (k : Text) → claims (ps ++ qs) k ≡ claims ps k || claims qs k
+pub claims-append : (ps qs : List (List VariantMatch)) (k : Text) → is_key_of_match (ps ++ qs) k ≡ is_key_of_match ps k || is_key_of_match qs k
 claims-append [] qs k = refl
 claims-append (os ∷ ps) qs k =
-    ap (λ b. claimed_by os k || b) (claims-append ps qs k) ∙ sym (or_assoc (claimed_by os k) (claims ps k) (claims qs k))
+    ap (λ b. claimed_by os k || b) (claims-append ps qs k) ∙ sym (or_assoc (claimed_by os k) (is_key_of_match ps k) (is_key_of_match qs k))
 
 -- ---- what each keyword says
 
@@ -139,23 +139,23 @@ module _ (c : Context) (on : c.dialect.reads_unevaluated ≡ true) where
 
   -- where each of them fits, their members are judged
   objects_judge : (ps : List Part) (v : Data) (k : Text) → PartsSay ps v → every_part (all_in ps) ≡ true
-      → judged_by_some (map (judge c) (objects ps)) v k ≡ claims (all_in ps) k
+      → judged_by_some (map (judge c) (objects ps)) v k ≡ is_key_of_match (all_in ps) k
   objects_judge [] v k h fit = refl
   objects_judge (p ∷ ps) v k h fit =
-      go (exactly_one (map (λ (o : Choice). o.fits) p.choices)) (object_fits c on p.items p.choices v h.0) fit
+      go (exactly_one (map (λ (o : VariantMatch). o.fits) p.choices)) (object_fits c on p.items p.choices v h.0) fit
       (objects_judge ps v k h.1)
     where
       go : (b : Bool) → (judge c (one_object p.items)).fits v ≡ verdict b → b && every_part (all_in ps) ≡ true
-          → (every_part (all_in ps) ≡ true → judged_by_some (map (judge c) (objects ps)) v k ≡ claims (all_in ps) k)
+          → (every_part (all_in ps) ≡ true → judged_by_some (map (judge c) (objects ps)) v k ≡ is_key_of_match (all_in ps) k)
           → (is_yes ((judge c (one_object p.items)).fits v) && (judge c (one_object p.items)).judges v k)
-          || judged_by_some (map (judge c) (objects ps)) v k ≡ claimed_by p.choices k || claims (all_in ps) k
+          || judged_by_some (map (judge c) (objects ps)) v k ≡ claimed_by p.choices k || is_key_of_match (all_in ps) k
       go false is all later = absurd (true≢false (sym all))
       go true is all later =
           ap (λ x. (is_yes x && (judge c (one_object p.items)).judges v k) || judged_by_some (map (judge c) (objects ps)) v k) is
           ∙ (λ i. object_judges c on p.items p.choices v k h.0 i || later all i)
 
   all_judge : (ps : List Part) (v : Data) (k : Text) → PartsSay ps v → every_part (all_in ps) ≡ true
-      → judged_by_list (option_map (read_data c) (all_there ps)) v k ≡ claims (all_in ps) k
+      → judged_by_list (option_map (read_data c) (all_there ps)) v k ≡ is_key_of_match (all_in ps) k
   unfolding all_there read_data
   all_judge [] v k h fit = refl
   all_judge (p ∷ ps) v k h fit = rw (objects_read ps) (objects_judge (p ∷ ps) v k h fit)
@@ -168,7 +168,7 @@ module _ (c : Context) (on : c.dialect.reads_unevaluated ≡ true) where
   one_fit (Some p) v h = one_fits c p.items p.choices v h ∙ ap verdict (sym (and-true _))
 
   one_judge : (o : Option Part) (v : Data) (k : Text) → OneSays o v
-      → judged_by_list (option_map (read_data c) (one_there o)) v k ≡ claims (one_in o) k
+      → judged_by_list (option_map (read_data c) (one_there o)) v k ≡ is_key_of_match (one_in o) k
   unfolding one_there
   one_judge None v k h = refl
   one_judge (Some p) v k h = judged_one c p.items p.choices v k h ∙ sym (or-false _)
@@ -184,7 +184,7 @@ module _ (c : Context) (on : c.dialect.reads_unevaluated ≡ true) where
 
   -- one that has none is refused where its key is
   abbrev pub rest_says : (Text → Bool) → List (Text × Judge) → Text → Data → Verdict
-  rest_says shut ss k w = if is_some (schema_named k ss) || not (shut k) then Yes else No
+  rest_says excludes_key ss k w = if is_some (schema_named k ss) || not (excludes_key k) then Yes else No
 
   named_part : (es : List Keyword) → AreEntries es → (ms : Members)
       → properties_say (option_map (read_data c) (properties_there es)) (object ms) ≡ each_member (named_says (judges_of es)) ms
@@ -261,16 +261,16 @@ module _ (c : Context) (on : c.dialect.reads_unevaluated ≡ true) where
 
     abbrev Right : Parts → Members → Verdict
     Right ps ms = both (verdict (every_part (choices_in ps)))
-        (each_member (rest_says (shut closed (choices_in ps)) (judges_of es)) ms)
+        (each_member (rest_says (excludes_key closed (choices_in ps)) (judges_of es)) ms)
 
     none_left : (ms : Members) → Left (record { all = []; one = None }) ms ≡ Right (record { all = []; one = None }) ms
     unfolding all_there one_there closed_there
     none_left ms = both-yes _ ∙ go closed
       where
         go : (b : Bool) → additional_properties_say (is_covered c.patterns (option_map (read_data c) (properties_there es)) None)
-            (option_map (read_data c) (closed_there b)) (object ms) ≡ each_member (rest_says (shut b []) (judges_of es)) ms
-        go false = open_rest es are ms (shut false []) (λ k. refl)
-        go true = closed_rest es are ms (shut true []) (λ k. refl)
+            (option_map (read_data c) (closed_there b)) (object ms) ≡ each_member (rest_says (excludes_key b []) (judges_of es)) ms
+        go false = open_rest es are ms (excludes_key false []) (λ k. refl)
+        go true = closed_rest es are ms (excludes_key true []) (λ k. refl)
 
     -- beside choices
     module _ (ps : Parts) (ms : Members) (additional : additional_there ps closed ≡ None) (h : ChoicesSay ps (object ms)) where
@@ -278,7 +278,7 @@ module _ (c : Context) (on : c.dialect.reads_unevaluated ≡ true) where
       rest_at o = unevaluated_properties_say true (beside c (x ps) (object ms)) (option_map (read_data c) o) (object ms)
 
       abbrev rest_by : Bool → Verdict
-      rest_by b = each_member (rest_says (shut b (choices_in ps)) (judges_of es)) ms
+      rest_by b = each_member (rest_says (excludes_key b (choices_in ps)) (judges_of es)) ms
 
       test_at : (b : Bool) → (u : Bool) × (rest_at (closed_there b) ≡ verdict u)
       unfolding closed_there read_data
@@ -286,17 +286,17 @@ module _ (c : Context) (on : c.dialect.reads_unevaluated ≡ true) where
       test_at true = each_test (λ k w. beside c (x ps) (object ms) k) ms
 
       test_by : (b : Bool) → (u : Bool) × (rest_by b ≡ verdict u)
-      test_by b = each_test (λ k w. is_some (schema_named k (judges_of es)) || not (shut b (choices_in ps) k)) ms
+      test_by b = each_test (λ k w. is_some (schema_named k (judges_of es)) || not (excludes_key b (choices_in ps) k)) ms
 
       claimed : every_part (all_in ps.all) && every_part (one_in ps.one) ≡ true → (k : Text)
           → judged_by_list (option_map (read_data c) (all_there ps.all)) (object ms) k
           || (judged_by_list (option_map (read_data c) (one_there ps.one)) (object ms) k || false)
-          ≡ not (not (claims (choices_in ps) k) && true)
+          ≡ not (not (is_key_of_match (choices_in ps) k) && true)
       claimed fit k =
           (λ i. all_judge ps.all (object ms) k h.0 (first (every_part (all_in ps.all)) (every_part (one_in ps.one)) fit) i
           || (or-false _ ∙ one_judge ps.one (object ms) k h.1) i)
           ∙ (sym (claims-append (all_in ps.all) (one_in ps.one) k)
-          ∙ (sym (not-not (claims (choices_in ps) k)) ∙ ap not (sym (and-true (not (claims (choices_in ps) k))))))
+          ∙ (sym (not-not (is_key_of_match (choices_in ps) k)) ∙ ap not (sym (and-true (not (is_key_of_match (choices_in ps) k))))))
         where
           first : (a b : Bool) → a && b ≡ true → a ≡ true
           first true b e = refl
@@ -304,8 +304,8 @@ module _ (c : Context) (on : c.dialect.reads_unevaluated ≡ true) where
 
       fit_at : every_part (all_in ps.all) && every_part (one_in ps.one) ≡ true → (b : Bool) → rest_at (closed_there b) ≡ rest_by b
       unfolding closed_there
-      fit_at fit false = open_rest es are ms (shut false (choices_in ps)) (λ k. and-false (not (claims (choices_in ps) k)))
-      fit_at fit true = unevaluated_rest es are ms (x ps) refl additional (shut true (choices_in ps)) (claimed fit)
+      fit_at fit false = open_rest es are ms (excludes_key false (choices_in ps)) (λ k. and-false (not (is_key_of_match (choices_in ps) k)))
+      fit_at fit true = unevaluated_rest es are ms (x ps) refl additional (excludes_key true (choices_in ps)) (claimed fit)
 
       both_rest : (b : Bool) → every_part (all_in ps.all) && every_part (one_in ps.one) ≡ b
           → both (verdict b) (rest_at (closed_there closed)) ≡ both (verdict b) (rest_by closed)
@@ -345,6 +345,6 @@ module _ (c : Context) (on : c.dialect.reads_unevaluated ≡ true) where
     pub object_says : (ps : Parts) (ms : Members) → ChoicesSay ps (object ms)
         → (says c (look_up (x ps))).fits (object ms)
         ≡ both (verdict (have_all ns ms)) (both (each_member (named_says (judges_of es)) ms)
-        (both (verdict (every_part (choices_in ps))) (each_member (rest_says (shut closed (choices_in ps)) (judges_of es)) ms)))
+        (both (verdict (every_part (choices_in ps))) (each_member (rest_says (excludes_key closed (choices_in ps)) (judges_of es)) ms)))
     object_says ps ms h = says-fits c (x ps) on object_type (object ms)
         ∙ (λ i. both (required_part ns ms i) (both (named_part es are ms i) (left ps ms h i)))

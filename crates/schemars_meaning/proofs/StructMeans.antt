@@ -13,7 +13,7 @@ use Rattle.schemars_schema.proofs.Verdicts.{both-yes, both-verdict, both-swap, b
 use Rattle.schemars_schema.proofs.Silent.{silent}
 use Rattle.schemars_shapes.specs.Shape.{Field}
 use Rattle.schemars_types.specs.declared.contract.Contract.{Contract}
-use Rattle.schemars_types.specs.Meaning.{field_named, member_fits, every_member, has_required, every_part, shut, has_fields}
+use Rattle.schemars_types.specs.Meaning.{field_named, member_fits, every_member, has_required, every_part, excludes_key, has_fields}
 use Rattle.schemars_documents.specs.Documents.{Keyword, annotated}
 use Rattle.schemars_meaning.proofs.Notes.{annotated_fits}
 use Rattle.schemars_meaning.proofs.MapKeywords.{closed_there}
@@ -46,23 +46,23 @@ module _ (c : Context) (on : c.dialect.reads_unevaluated ≡ true) (contract : C
   Tested None o w = o ≡ None
   Tested (Some x) o w = (p : Judge) × (o ≡ Some p) × (p.fits w ≡ verdict (M x.ty w))
 
-  one_member : (shut : Bool) (x : Option Field) (o : Option Judge) (w : Data) → Tested x o w
-      → both (where_some o (λ s. s.fits w)) (if is_some o || not shut then Yes else No)
-      ≡ verdict (option_map_or (λ x. M x.ty w) x (not shut))
+  one_member : (excludes_key : Bool) (x : Option Field) (o : Option Judge) (w : Data) → Tested x o w
+      → both (where_some o (λ s. s.fits w)) (if is_some o || not excludes_key then Yes else No)
+      ≡ verdict (option_map_or (λ x. M x.ty w) x (not excludes_key))
   one_member true None o w h = rw h
   one_member false None o w h = rw h
-  one_member shut (Some x) o w h = rw h.1 (both-yes _ ∙ h.2)
+  one_member excludes_key (Some x) o w h = rw h.1 (both-yes _ ∙ h.2)
 
-  members : (shut : Text → Bool) (xs : List Field) (ss : List (Text × Judge)) (ms : Members) → AreJsonMembers ms
+  members : (excludes_key : Text → Bool) (xs : List Field) (ss : List (Text × Judge)) (ms : Members) → AreJsonMembers ms
       → ((k : Text) (w : Data) → IsJson w → depth w ≤ members_depth ms → Tested (field_named xs k) (schema_named k ss) w)
-      → both (each_member (named_says c on ss) ms) (each_member (rest_says c on shut ss) ms)
-      ≡ verdict (every_member (λ k w. member_fits M xs (shut k) k w) ms)
-  members shut xs ss no_members are tested = refl
-  members shut xs ss (member k w ms) are tested =
-      both-middle (named_says c on ss k w) (each_member (named_says c on ss) ms) (rest_says c on shut ss k w)
-      (each_member (rest_says c on shut ss) ms)
-      ∙ ((λ i. both (one_member (shut k) (field_named xs k) (schema_named k ss) w (tested k w are.1 (omega arith)) i)
-      (members shut xs ss ms are.3 (λ l u is less. tested l u is (omega arith)) i))
+      → both (each_member (named_says c on ss) ms) (each_member (rest_says c on excludes_key ss) ms)
+      ≡ verdict (every_member (λ k w. member_fits M xs (excludes_key k) k w) ms)
+  members excludes_key xs ss no_members are tested = refl
+  members excludes_key xs ss (member k w ms) are tested =
+      both-middle (named_says c on ss k w) (each_member (named_says c on ss) ms) (rest_says c on excludes_key ss k w)
+      (each_member (rest_says c on excludes_key ss) ms)
+      ∙ ((λ i. both (one_member (excludes_key k) (field_named xs k) (schema_named k ss) w (tested k w are.1 (omega arith)) i)
+      (members excludes_key xs ss ms are.3 (λ l u is less. tested l u is (omega arith)) i))
       ∙ both-verdict _ _)
 
   module _ (v : Data) (agree : (j : ℕ) (t w : Data) → W j t → IsJson w → depth w < depth v → (judge c t).fits w ≡ verdict (M j w)) where
@@ -117,10 +117,10 @@ module _ (c : Context) (on : c.dialect.reads_unevaluated ≡ true) (contract : C
       ap (λ (j : Judge). j.fits (object ms)) (object-says c (struct_keywords es ns ps closed) s has)
       ∙ (object_says c on es ns closed are ps ms say
       ∙ (ap (λ b. both (verdict b) (both (each_member (named_says c on (judges_of c on es)) ms)
-      (both (verdict (every_part (choices_in ps))) (each_member (rest_says c on (shut closed (choices_in ps)) (judges_of c on es)) ms))))
+      (both (verdict (every_part (choices_in ps))) (each_member (rest_says c on (excludes_key closed (choices_in ps)) (judges_of c on es)) ms))))
       (required ms)
       ∙ grouped (has_required contract xs ms) (every_part (choices_in ps)) _ _ _
-      (members (shut closed (choices_in ps)) xs (judges_of c on es) ms json
+      (members (excludes_key closed (choices_in ps)) xs (judges_of c on es) ms json
       (λ k w is less. subst (λ o. Tested (field_named xs k) o w) (sym (schema_named-judges_in c (put_all es no_members) k))
       (tested_at (object ms) agree (field_named xs k) (get_member k (put_all es no_members)) w is (omega arith) (finds k))))))
 

@@ -12,7 +12,7 @@ use Rattle.schemars_builders.specs.NullLaw.{IsChoice, HasTypeForm, IsPlain}
 use Rattle.schemars_builders.proofs.Nulls.{IsReady}
 use Rattle.schemars_shapes.specs.Shape.{Field}
 use Rattle.schemars_types.specs.declared.contract.Contract.{Contract}
-use Rattle.schemars_types.specs.Meaning.{Choice}
+use Rattle.schemars_types.specs.Meaning.{VariantMatch}
 use Rattle.schemars_documents.specs.Documents.{Keyword, required_names}
 use Rattle.schemars_meaning.proofs.Spread.{field_keywords}
 use Rattle.schemars_meaning.proofs.StructForm.{Parts, struct_keywords}
@@ -37,7 +37,7 @@ module _ (es : List Keyword) (ns : List Text) (ps : Parts) (closed : Bool) (ms :
   struct_choice : has_parts ps ≡ true → (dialect : Dialect) → IsChoice dialect ms
   struct_choice parts dialect = record {
     combined = combined ∙ parts;
-    offers = λ stays. absurd (true≢false (sym stays
+    matches_of = λ stays. absurd (true≢false (sym stays
         ∙ (ap (λ o. has_one_member (object ms) && offers_null o) (form.at (codes "anyOf") refl) ∙ and-false (has_one_member (object ms)))));
   }
 
@@ -57,8 +57,8 @@ module _ (es : List Keyword) (ns : List Text) (ps : Parts) (closed : Bool) (ms :
       go false parts = inr (struct_plain parts)
 
 pub map_with_parts_ready : (c : Context) (on : c.dialect.reads_unevaluated ≡ true) (contract : Contract) (W : ℕ → Data → Type 0) (v : Data)
-    (list : List Field) (offers : List (List Choice)) (closed : Bool) (s : Data) → IsStruct c on contract W v list offers closed s
+    (list : List Field) (matches_of : List (List VariantMatch)) (closed : Bool) (s : Data) → IsStruct c on contract W v list matches_of closed s
     → IsReady s
-map_with_parts_ready c on contract W v list offers closed s a =
+map_with_parts_ready c on contract W v list matches_of closed s a =
     subst IsReady (sym a.is)
     (form_ready (field_keywords list a.written) (required_names contract list) a.parts closed a.members a.form)

@@ -19,7 +19,7 @@ use Rattle.schemars_builders.specs.Properties.{with_property, tagged, has_null_t
 use Rattle.schemars_shapes.specs.Shape.{Field, needed}
 use Rattle.schemars_types.specs.declared.contract.Contract.{Contract}
 use Rattle.schemars_types.specs.declared.contract.Contract.TheVariants.{Deserialize, Serialize}
-use Rattle.schemars_types.specs.Meaning.{is_text, every_member, member_fits, tagged_fits, has_required, is_required, field_named, Choice, every_part, shut, has_fields, has_tagged}
+use Rattle.schemars_types.specs.Meaning.{is_text, every_member, member_fits, tagged_fits, has_required, is_required, field_named, VariantMatch, every_part, excludes_key, has_fields, has_tagged}
 use Rattle.schemars_documents.specs.PlainTable.{IsNoName, AreDistinct, AreNoted}
 use Rattle.schemars_documents.specs.Documents.{Keyword, annotated, required_names, type_alone}
 use Rattle.schemars_meaning.proofs.MapDocument.{map_document}
@@ -191,11 +191,11 @@ module _ (W : ℕ → Data → Type 0) (M : ℕ → Data → Bool) (name : Text)
   and-turn false a true d = refl
   and-turn false a false d = refl
 
-  pub value_with_tag : (contract : Contract) (ps : List (List Choice)) (tag : Text) (xs : List Field) (closed : Bool) (v : Data)
+  pub value_with_tag : (contract : Contract) (ps : List (List VariantMatch)) (tag : Text) (xs : List Field) (closed : Bool) (v : Data)
       → has_fields contract tests ps (with_tag tag xs) closed v ≡ has_tagged contract M ps tag xs closed name v
   value_with_tag contract ps tag xs closed (object ms) =
-      (λ i. every_part ps && (each_with_tag tag xs (shut closed ps) ms i && required_with_tag contract tag xs ms i))
-      ∙ and-turn (every_part ps) (every_member (λ k w. tagged_fits M xs (shut closed ps k) tag name k w) ms) (is_some (get_member tag ms))
+      (λ i. every_part ps && (each_with_tag tag xs (excludes_key closed ps) ms i && required_with_tag contract tag xs ms i))
+      ∙ and-turn (every_part ps) (every_member (λ k w. tagged_fits M xs (excludes_key closed ps k) tag name k w) ms) (is_some (get_member tag ms))
       (has_required contract xs ms)
   value_with_tag contract ps tag xs closed null = refl
   value_with_tag contract ps tag xs closed _ = refl
@@ -291,7 +291,7 @@ module _ (c : Context) (on : c.dialect.reads_unevaluated ≡ true) (contract : C
   names_with_tag tag xs ms =
       ap (λ b. is_some (get_member tag ms) && b) (required_same contract xs ms) ∙ sym (required_with_tag contract tag xs ms)
 
-  module _ (tag name : Text) (deny : Bool) (xs : List Field) (os : List (List Choice)) (closed : Bool) (s : Data)
+  module _ (tag name : Text) (deny : Bool) (xs : List Field) (os : List (List VariantMatch)) (closed : Bool) (s : Data)
       (apart : AreDistinct xs) (notes : AreNoted xs) (a : IsStruct c on contract W v xs os closed s) where
     abbrev es : List Keyword
     es = field_keywords xs a.written
@@ -317,8 +317,8 @@ module _ (c : Context) (on : c.dialect.reads_unevaluated ≡ true) (contract : C
             ≡ has_tagged contract M os tag xs closed name v
         tagged_alike (object ms) =
             λ i. is_some (get_member tag ms) && (a.every i && (every_alike
-            (λ k w. tagged_fits M xs (shut closed (choices_in a.parts) k) tag name k w)
-            (λ k w. tagged_fits M xs (shut closed os k) tag name k w)
+            (λ k w. tagged_fits M xs (excludes_key closed (choices_in a.parts) k) tag name k w)
+            (λ k w. tagged_fits M xs (excludes_key closed os k) tag name k w)
             (λ k w. ap (λ b. tagged_fits M xs (not b && closed) tag name k w) (a.claimed k)) ms i && has_required contract xs ms))
         tagged_alike null = refl
         tagged_alike _ = refl

@@ -21,7 +21,7 @@ use Rattle.schemars_flatten.specs.Opening.{opened}
 use Rattle.schemars_flatten.specs.Parts.{unit_object, unit_objects, with_items, with_units, first_as_objects, list_changed_at, units_as_objects, flattened_part}
 use Rattle.schemars_shapes.specs.Shape.{Variant}
 use Rattle.schemars_types.specs.declared.contract.Contract.{Contract}
-use Rattle.schemars_types.specs.Meaning.{exactly_one, none, Choice, claimed_by, member_choice}
+use Rattle.schemars_types.specs.Meaning.{exactly_one, none, VariantMatch, claimed_by, member_choice}
 use Rattle.schemars_documents.specs.Documents.{annotated}
 use Rattle.schemars_meaning.proofs.MapKeywords.{noted, noted_by-object, noted-beside, sorted-noted, closed_there, properties_there, required_there}
 use Rattle.schemars_meaning.proofs.MapForm.{Keywords, look_up}
@@ -56,18 +56,18 @@ one-middle (a ∷ xs) b bs = by a b (none-middle xs b bs) (one-middle xs b bs)
     by false true n o = o
     by false false n o = o
 
-abbrev fit : Choice → Bool
+abbrev fit : VariantMatch → Bool
 fit o = o.fits
 
-map-over : (os : List Choice) (o : Choice) (qs : List Choice) → map fit (os ++ o ∷ qs) ≡ map fit os ++ o.fits ∷ map fit qs
+map-over : (os : List VariantMatch) (o : VariantMatch) (qs : List VariantMatch) → map fit (os ++ o ∷ qs) ≡ map fit os ++ o.fits ∷ map fit qs
 map-over [] o qs = refl
 map-over (p ∷ os) o qs = ap (λ bs. p.fits ∷ bs) (map-over os o qs)
 
-map-both : (os qs : List Choice) → map fit (os ++ qs) ≡ map fit os ++ map fit qs
+map-both : (os qs : List VariantMatch) → map fit (os ++ qs) ≡ map fit os ++ map fit qs
 map-both [] qs = refl
 map-both (p ∷ os) qs = ap (λ bs. p.fits ∷ bs) (map-both os qs)
 
-claimed-middle : (os : List Choice) (o : Choice) (qs : List Choice) (k : Text)
+claimed-middle : (os : List VariantMatch) (o : VariantMatch) (qs : List VariantMatch) (k : Text)
     → claimed_by (os ++ o ∷ qs) k ≡ claimed_by (o ∷ (os ++ qs)) k
 claimed-middle [] o qs k = refl
 claimed-middle (p ∷ os) o qs k =
@@ -81,22 +81,22 @@ claimed-middle (p ∷ os) o qs k =
     go false false z = refl
 
 -- the same offers, whatever their order
-pub record AreSame (os qs : List Choice) : Type 0 where
+pub record AreSame (os qs : List VariantMatch) : Type 0 where
   pub one : exactly_one (map fit os) ≡ exactly_one (map fit qs)
   pub nobody : none (map fit os) ≡ none (map fit qs)
   pub claimed : (k : Text) → claimed_by os k ≡ claimed_by qs k
 
-same-none : (os : List Choice) → AreSame os os
+same-none : (os : List VariantMatch) → AreSame os os
 same-none os = record { one = refl; nobody = refl; claimed = λ k. refl }
 
-same-first : (o : Choice) (os qs : List Choice) → AreSame os qs → AreSame (o ∷ os) (o ∷ qs)
+same-first : (o : VariantMatch) (os qs : List VariantMatch) → AreSame os qs → AreSame (o ∷ os) (o ∷ qs)
 same-first o os qs s = record {
   one = (λ i. if o.fits then s.nobody i else s.one i);
   nobody = ap (λ b. not o.fits && b) s.nobody;
   claimed = λ k. ap (λ b. (o.fits && o.has_key k) || b) (s.claimed k);
 }
 
-same-moved : (os : List Choice) (o : Choice) (qs rs : List Choice) → AreSame (os ++ qs) rs → AreSame (os ++ o ∷ qs) (o ∷ rs)
+same-moved : (os : List VariantMatch) (o : VariantMatch) (qs rs : List VariantMatch) → AreSame (os ++ qs) rs → AreSame (os ++ o ∷ qs) (o ∷ rs)
 same-moved os o qs rs s = record {
   one = ap exactly_one (map-over os o qs) ∙ (one-middle (map fit os) o.fits (map fit qs)
       ∙ (ap (λ bs. exactly_one (o.fits ∷ bs)) (sym (map-both os qs)) ∙ (λ i. if o.fits then s.nobody i else s.one i)));
@@ -114,7 +114,7 @@ abbrev pub moved : (Variant → Bool) → List Variant → List Variant
 moved bare [] = []
 moved bare (x ∷ xs) = if bare x then x ∷ moved bare xs else moved bare xs
 
-pub same-parted : (bare : Variant → Bool) (f : Variant → Choice) (xs : List Variant)
+pub same-parted : (bare : Variant → Bool) (f : Variant → VariantMatch) (xs : List Variant)
     → AreSame (map f (kept bare xs) ++ map f (moved bare xs)) (map f xs)
 same-parted bare f [] = same-none []
 same-parted bare f (x ∷ xs) = go (bare x) (same-parted bare f xs)
@@ -297,7 +297,7 @@ module _ (notes : Members) (plain : AreNotes notes) where
 -- ---- as parts
 
 module _ (c : Context) (on : c.dialect.reads_unevaluated ≡ true) (contract : Contract) (W : ℕ → Data → Type 0) (v : Data) where
-  pub reordered : (os qs : List Choice) (s : Data) → AreSame os qs → IsPart c on contract W v [] (os ∷ []) s
+  pub reordered : (os qs : List VariantMatch) (s : Data) → AreSame os qs → IsPart c on contract W v [] (os ∷ []) s
       → IsPart c on contract W v [] (qs ∷ []) s
   reordered os qs s same a = record {
     type = a.type;
@@ -313,7 +313,7 @@ module _ (c : Context) (on : c.dialect.reads_unevaluated ≡ true) (contract : C
     bare = λ e. cc;
   }
 
-  choices_part : (ts : List Data) (os : List Choice) (ms : Members) → IsForm (list_at ts) ms → AnyItems c on ts os v
+  choices_part : (ts : List Data) (os : List VariantMatch) (ms : Members) → IsForm (list_at ts) ms → AnyItems c on ts os v
       → IsPart c on contract W v [] (os ∷ []) (opened (object ms))
   unfolding closed_there all_there one_there properties_there required_there
   choices_part ts os ms form items =
@@ -334,7 +334,7 @@ module _ (c : Context) (on : c.dialect.reads_unevaluated ≡ true) (contract : C
       }
 
   module _ (json : IsJson v) (null_says : (w : Data) → (judge c null_schema).fits w ≡ verdict (is_null w)) where
-    abbrev pub unit_offer : Text → Choice
+    abbrev pub unit_offer : Text → VariantMatch
     unit_offer k = member_choice k is_null v
 
     unit_items : (ks : List Text) → AnyItems c on (map unit_object ks) (map unit_offer ks) v
@@ -342,7 +342,7 @@ module _ (c : Context) (on : c.dialect.reads_unevaluated ≡ true) (contract : C
     unit_items (k ∷ ks) =
         ((false, member_item c on k is_null no_members false null_schema tt tt v json (λ w js less. null_says w)), unit_items ks)
 
-    pub mixed_part : (notes : Members) → AreNotes notes → (k : Text) (ks : List Text) (ts : List Data) (os : List Choice)
+    pub mixed_part : (notes : Members) → AreNotes notes → (k : Text) (ks : List Text) (ts : List Data) (os : List VariantMatch)
         → AnyItems c on ts os v
         → IsPart c on contract W v [] ((os ++ map unit_offer (k ∷ ks)) ∷ [])
         (flattened_part false (annotated notes (one_object (units_schema (k ∷ ks) ∷ ts))))

@@ -17,7 +17,7 @@ use Rattle.schemars_schema.proofs.SortedMembers.{IsSorted, sorted-put, sorted-wi
 use Rattle.schemars_flatten.specs.Flatten.{with_keywords, moved, moved_beside, united_all, contains_key, has_subschema, appended}
 use Rattle.schemars_flatten.proofs.Lookups.{united_option, united_none}
 use Rattle.schemars_documents.specs.Documents.{Keyword}
-use Rattle.schemars_types.specs.Meaning.{Choice, every_part, claims}
+use Rattle.schemars_types.specs.Meaning.{VariantMatch, every_part, is_key_of_match}
 use Rattle.schemars_meaning.proofs.MapKeywords.{sorted-with_keywords, closed_there, properties-united, required-united}
 use Rattle.schemars_meaning.proofs.MapForm.{Keywords, look_up, HasKeywords}
 use Rattle.schemars_meaning.proofs.Offers.{one_object}
@@ -52,10 +52,10 @@ all_in-append [] qs = refl
 all_in-append (p ∷ ps) qs = ap (λ xs. p.choices ∷ xs) (all_in-append ps qs)
 
 -- in another order
-module _ (f : List (List Choice) → Bool) (e : Bool) (op : Bool → Bool → Bool)
+module _ (f : List (List VariantMatch) → Bool) (e : Bool) (op : Bool → Bool → Bool)
     (unit_left : (b : Bool) → op e b ≡ b) (unit_right : (b : Bool) → op b e ≡ b)
     (assoc : (a b d : Bool) → op (op a b) d ≡ op a (op b d)) (swap : (a b : Bool) → op a b ≡ op b a)
-    (f_nil : f [] ≡ e) (f_append : (xs ys : List (List Choice)) → f (xs ++ ys) ≡ op (f xs) (f ys)) where
+    (f_nil : f [] ≡ e) (f_append : (xs ys : List (List VariantMatch)) → f (xs ++ ys) ≡ op (f xs) (f ys)) where
   reorder : (a b d g : Bool) → op (op (op a b) d) g ≡ op (op a d) (op b g)
   reorder a b d g =
       ap (λ x. op x g) (assoc a b d ∙ (ap (op a) (swap b d) ∙ sym (assoc a d b)))
@@ -86,9 +86,9 @@ module _ (f : List (List Choice) → Bool) (e : Bool) (op : Bool → Bool → Bo
 pub join_every : (ps qs : Parts) → every_part (choices_in (join ps qs)) ≡ every_part (choices_in ps) && every_part (choices_in qs)
 join_every ps qs = join_same every_part true (λ a b. a && b) (λ b. refl) and-true and_assoc and_comm refl every_part-append ps qs
 
-pub join_claims : (ps qs : Parts) (k : Text) → claims (choices_in (join ps qs)) k ≡ claims (choices_in ps) k || claims (choices_in qs) k
+pub join_claims : (ps qs : Parts) (k : Text) → is_key_of_match (choices_in (join ps qs)) k ≡ is_key_of_match (choices_in ps) k || is_key_of_match (choices_in qs) k
 join_claims ps qs k =
-    join_same (λ xs. claims xs k) false (λ a b. a || b) (λ b. refl) or-false or_assoc or_comm refl
+    join_same (λ xs. is_key_of_match xs k) false (λ a b. a || b) (λ b. refl) or-false or_assoc or_comm refl
     (λ xs ys. claims-append xs ys k) ps qs
 
 -- ---- the keyword for the rest

@@ -8,13 +8,13 @@ use Rattle.schemars_shapes.specs.declared.shape.Flattened as src
 use Rattle.schemars_shapes.specs.Shape as shape
 use Rattle.schemars_types.specs.Rows.{Row, entry_at}
 use Rattle.schemars_types.specs.Edges.{option_at}
-use Rattle.schemars_types.specs.Effective.{without_options, fields_within, effective, flattened_fields, part_fields, weakened, shape_fields}
+use Rattle.schemars_types.specs.Effective.{without_options, fields_within, effective, flattened_fields, part_fields, required_only_if, shape_fields}
 use Rattle.schemars_plain.specs.Decided.{Said, as_said, struct_of}
 
 -- ---- what is said of fields
 
 -- whether a field has to be there does not count
-weakened_said : (r : Required) (fs : List Field) → map as_said (map (weakened r) fs) ≡ map as_said fs
+weakened_said : (r : Required) (fs : List Field) → map as_said (map (required_only_if r) fs) ≡ map as_said fs
 weakened_said r [] = refl
 weakened_said r (f ∷ fs) = ap (λ rest. as_said f ∷ rest) (weakened_said r fs)
 
@@ -23,7 +23,7 @@ part_said : (rows : List Row) (own : ℕ → List Field) (p : Flattened)
 part_said rows own p = go (is_some (option_at rows p.ty))
   where
     go : (b : Bool)
-        → map as_said (if b then map (weakened p.required) (own (without_options rows p.ty)) else own (without_options rows p.ty))
+        → map as_said (if b then map (required_only_if p.required) (own (without_options rows p.ty)) else own (without_options rows p.ty))
         ≡ map as_said (own (without_options rows p.ty))
     go true = weakened_said p.required (own (without_options rows p.ty))
     go false = refl

@@ -10,10 +10,10 @@ use Rattle.schemars_text.proofs.Members.{bytes_eq_comm}
 use Rattle.schemars_shapes.specs.Shape as shape
 use Rattle.schemars_shapes.specs.Shape.{Shape, Field, Fields, Flattened, Payload, Variant, Entry, no_payload, newtype_payload, tuple_payload, struct_payload}
 use Rattle.schemars_types.specs.Rows.{Row, entry_at}
-use Rattle.schemars_types.specs.Effective.{effective, flattened_in, spread_in}
+use Rattle.schemars_types.specs.Effective.{effective, flattened_in, expanded_shape_in}
 use Rattle.schemars_documents.specs.PlainTable.{IsNoName, AreDistinct, AreNoted, IsNoVariant, AreDistinctVariants, IsPlainPayload, ArePlainVariants, IsTagged, AreTagged, payload_parts, variant_parts, IsOpenStruct, IsPlainPart, ArePlainParts, IsPlainShape, IsPlainEntry, IsPlainTable}
 use Rattle.std.proofs.lemmas.Option.{slice_get_cases}
-use Rattle.schemars_plain.specs.Decided.{as_said, names_said, all_noted, all_differ, are_annotations, is_plain_list, is_named, struct_of, is_plain_payload, is_plain_variant, are_plain_variants, names_of_variants, is_tagged, are_tagged, spread_variant_in, is_open, is_plain_part, are_plain_parts, payloads_have_plain_parts}
+use Rattle.schemars_plain.specs.Decided.{as_said, names_said, all_noted, all_differ, are_annotations, is_plain_list, is_named, struct_of, is_plain_payload, is_plain_variant, are_plain_variants, names_of_variants, is_tagged, are_tagged, expanded_variant_in, is_open, is_plain_part, are_plain_parts, payloads_have_plain_parts}
 use Rattle.schemars_plain.proofs.Literals.{always, itself, notes_decided}
 
 pub never : Decides false ⊥
@@ -81,46 +81,46 @@ all_tagged_decided tag (x ∷ xs) = Decides-and (is_tagged tag x.payload) (are_t
     (all_tagged_decided tag xs)
 
 -- the flattened fields change no variant's name
-spread_names : (rows : List Row) (xs : List Variant) → names_of_variants (map (spread_variant_in rows) xs) ≡ names_of_variants xs
+spread_names : (rows : List Row) (xs : List Variant) → names_of_variants (map (expanded_variant_in rows) xs) ≡ names_of_variants xs
 spread_names rows [] = refl
 spread_names rows (x ∷ xs) = ap (λ ks. x.name ∷ ks) (spread_names rows xs)
 
 spread_names_decided : (rows : List Row) (xs : List Variant)
-    → Decides (all_differ (names_of_variants xs)) (AreDistinctVariants (map (spread_variant_in rows) xs))
+    → Decides (all_differ (names_of_variants xs)) (AreDistinctVariants (map (expanded_variant_in rows) xs))
 spread_names_decided rows xs =
-    rw (sym (ap all_differ (spread_names rows xs))) (names_decided (map (spread_variant_in rows) xs))
+    rw (sym (ap all_differ (spread_names rows xs))) (names_decided (map (expanded_variant_in rows) xs))
 
 -- ---- shapes
 
 pub struct_decided : (rows : List Row) (x : Fields)
-    → Decides (is_plain_list (effective (flattened_in rows) x)) (IsPlainShape (spread_in rows (shape.struct x)))
+    → Decides (is_plain_list (effective (flattened_in rows) x)) (IsPlainShape (expanded_shape_in rows (shape.struct x)))
 struct_decided rows x = list_decided (effective (flattened_in rows) x)
 
 pub external_decided : (rows : List Row) (xs : List Variant)
-    → Decides (all_differ (names_of_variants xs) && are_plain_variants (map (spread_variant_in rows) xs))
-    (IsPlainShape (spread_in rows (shape.enum shape.by_name xs)))
-external_decided rows xs = Decides-and (all_differ (names_of_variants xs)) (are_plain_variants (map (spread_variant_in rows) xs))
-    (spread_names_decided rows xs) (variants_decided (map (spread_variant_in rows) xs))
+    → Decides (all_differ (names_of_variants xs) && are_plain_variants (map (expanded_variant_in rows) xs))
+    (IsPlainShape (expanded_shape_in rows (shape.enum shape.by_name xs)))
+external_decided rows xs = Decides-and (all_differ (names_of_variants xs)) (are_plain_variants (map (expanded_variant_in rows) xs))
+    (spread_names_decided rows xs) (variants_decided (map (expanded_variant_in rows) xs))
 
 pub untagged_decided : (rows : List Row) (xs : List Variant)
-    → Decides (are_plain_variants (map (spread_variant_in rows) xs)) (IsPlainShape (spread_in rows (shape.enum shape.by_nothing xs)))
-untagged_decided rows xs = variants_decided (map (spread_variant_in rows) xs)
+    → Decides (are_plain_variants (map (expanded_variant_in rows) xs)) (IsPlainShape (expanded_shape_in rows (shape.enum shape.by_nothing xs)))
+untagged_decided rows xs = variants_decided (map (expanded_variant_in rows) xs)
 
 pub internal_decided : (rows : List Row) (tag : Text) (closed : Bool) (xs : List Variant)
-    → Decides (all_differ (names_of_variants xs) && (are_plain_variants (map (spread_variant_in rows) xs)
-    && are_tagged tag (map (spread_variant_in rows) xs))) (IsPlainShape (spread_in rows (shape.enum (shape.by_tag tag closed) xs)))
+    → Decides (all_differ (names_of_variants xs) && (are_plain_variants (map (expanded_variant_in rows) xs)
+    && are_tagged tag (map (expanded_variant_in rows) xs))) (IsPlainShape (expanded_shape_in rows (shape.enum (shape.by_tag tag closed) xs)))
 internal_decided rows tag closed xs =
-    let ys = map (spread_variant_in rows) xs in
+    let ys = map (expanded_variant_in rows) xs in
     let inside = Decides-and (are_plain_variants ys) (are_tagged tag ys) (variants_decided ys) (all_tagged_decided tag ys) in
     let all = Decides-and (all_differ (names_of_variants xs)) (are_plain_variants ys && are_tagged tag ys)
     (spread_names_decided rows xs) inside in
     (λ t. let p = all.0 t in (p.0, p.1.0, p.1.1), λ p. all.1 (p.0, (p.1, p.2)))
 
 pub adjacent_decided : (rows : List Row) (tag content : Text) (closed : Bool) (xs : List Variant)
-    → Decides (not (bytes_eq tag content) && (all_differ (names_of_variants xs) && are_plain_variants (map (spread_variant_in rows) xs)))
-    (IsPlainShape (spread_in rows (shape.enum (shape.by_tag_and_content tag content closed) xs)))
+    → Decides (not (bytes_eq tag content) && (all_differ (names_of_variants xs) && are_plain_variants (map (expanded_variant_in rows) xs)))
+    (IsPlainShape (expanded_shape_in rows (shape.enum (shape.by_tag_and_content tag content closed) xs)))
 adjacent_decided rows tag content closed xs =
-    let named = all_differ (names_of_variants xs) && are_plain_variants (map (spread_variant_in rows) xs) in
+    let named = all_differ (names_of_variants xs) && are_plain_variants (map (expanded_variant_in rows) xs) in
     let all = Decides-and (not (bytes_eq tag content)) named (differ_decided (bytes_eq tag content)) (external_decided rows xs) in
     (λ t. let p = all.0 t in (p.0, p.1.0, p.1.1), λ p. all.1 (p.0, (p.1, p.2)))
 

@@ -13,10 +13,10 @@ use Rattle.schemars_shapes.specs.Shape as shape
 use Rattle.schemars_shapes.specs.Shape.{Shape, Field, Fields, Flattened, Payload, Variant, Entry, no_payload, newtype_payload, tuple_payload, struct_payload, payload_names, tag_beside}
 use Rattle.schemars_shapes.specs.Units.{is_none}
 use Rattle.schemars_types.specs.Rows.{Row, entry_at}
-use Rattle.schemars_types.specs.Effective.{effective, flattened_in, flattened_enums, part_enums, spread_in, spread_fields, enum_at, without_options}
+use Rattle.schemars_types.specs.Effective.{effective, flattened_in, flattened_enums, part_enums, expanded_shape_in, expanded_fields, enum_at, without_options}
 use Rattle.schemars_types.specs.declared.contract.Contract.{Contract}
 use Rattle.schemars_documents.specs.PlainTable.{IsNoName, AreNoNames, AreOthers, AreApartFrom, AreApart, HasNamesApart, enum_names, enum_names_at, all_payload_names, PayloadHasNamesApart, VariantsHaveNamesApart, ShapeHasNamesApart, IsBare, HasBareUnits, HasVariant, HasNoEnums, VariantsHaveNoEnums, IsPartShape, IsPartEntry, may_miss, IsPartUnder, ArePartsUnder, payload_parts, variant_parts, IsEntryUnder, IsPlainUnder, tag_names}
-use Rattle.schemars_plain.specs.Decided.{as_said, names_said, names_of_variants, spread_variant_in}
+use Rattle.schemars_plain.specs.Decided.{as_said, names_said, names_of_variants, expanded_variant_in}
 use Rattle.schemars_plain.specs.Under.{none_in, apart_from, are_apart, field_names, payload_field_names, variant_field_names, names_in, names_at, fields_apart, payload_apart, variants_apart, shape_apart, is_bare, has_bare_units, has_no_enums, variants_have_no_enums, is_part_enum, is_part_shape, is_part_entry, is_part_under, are_parts_under, payloads_have_parts_under}
 use Rattle.schemars_plain.proofs.Literals.{always, itself}
 use Rattle.schemars_plain.proofs.Tables.{never, differ_decided, named_decided}
@@ -53,28 +53,28 @@ said_names [] = refl
 said_names (f ∷ fs) = ap (λ ks. f.name ∷ ks) (said_names fs)
 
 variants_said : (rows : List Row) (xs : List Variant)
-    → names_of_variants xs ≡ map (λ x. x.name) (map (spread_variant_in rows) xs)
+    → names_of_variants xs ≡ map (λ x. x.name) (map (expanded_variant_in rows) xs)
 variants_said rows [] = refl
 variants_said rows (x ∷ xs) = ap (λ ks. x.name ∷ ks) (variants_said rows xs)
 
-payload_said : (rows : List Row) (x : Variant) → payload_field_names rows x.payload ≡ payload_names (spread_variant_in rows x).payload
+payload_said : (rows : List Row) (x : Variant) → payload_field_names rows x.payload ≡ payload_names (expanded_variant_in rows x).payload
 payload_said rows x = go x.payload
   where
     go : (p : Payload) → payload_field_names rows p
-        ≡ payload_names (spread_variant_in rows (record { name = x.name; payload = p; notes = x.notes })).payload
+        ≡ payload_names (expanded_variant_in rows (record { name = x.name; payload = p; notes = x.notes })).payload
     go no_payload = refl
     go (newtype_payload n) = refl
     go (tuple_payload ns) = refl
     go (struct_payload y) = said_names (effective (flattened_in rows) y)
 
 inside_said : (rows : List Row) (xs : List Variant)
-    → variant_field_names rows xs ≡ all_payload_names (map (spread_variant_in rows) xs)
+    → variant_field_names rows xs ≡ all_payload_names (map (expanded_variant_in rows) xs)
 inside_said rows [] = refl
 inside_said rows (x ∷ xs) =
     ap (λ ks. ks ++ variant_field_names rows xs) (payload_said rows x)
-    ∙ ap (λ ks. payload_names (spread_variant_in rows x).payload ++ ks) (inside_said rows xs)
+    ∙ ap (λ ks. payload_names (expanded_variant_in rows x).payload ++ ks) (inside_said rows xs)
 
-shape_names : (rows : List Row) (s : Shape) → names_in rows s ≡ enum_names (spread_in rows s)
+shape_names : (rows : List Row) (s : Shape) → names_in rows s ≡ enum_names (expanded_shape_in rows s)
 shape_names rows (shape.enum shape.by_name xs) = variants_said rows xs
 shape_names rows (shape.enum (shape.by_tag tag closed) xs) = ap (λ ks. tag ∷ ks) (inside_said rows xs)
 shape_names rows _ = refl
@@ -83,7 +83,7 @@ enum_said : (rows : List Row) (n : ℕ) → names_at rows n ≡ enum_names_at ro
 enum_said rows n = go (entry_at rows n)
   where
     go : (o : Option Entry) → option_map_or (λ e. names_in rows e.shape) o []
-        ≡ elim o [ None ↦ [] | Some e ↦ enum_names (spread_in rows e.shape) ]
+        ≡ elim o [ None ↦ [] | Some e ↦ enum_names (expanded_shape_in rows e.shape) ]
     go None = refl
     go (Some e) = shape_names rows e.shape
 
@@ -96,31 +96,31 @@ enums_said rows (n ∷ ns) =
 -- ---- the maps of a shape
 
 fields_decided : (rows : List Row) (tag : Option Text) (x : Fields) → Decides (fields_apart rows tag x)
-    (HasNamesApart (enum_names_at rows) (tag_names tag) (spread_fields (flattened_in rows) (part_enums rows) x))
+    (HasNamesApart (enum_names_at rows) (tag_names tag) (expanded_fields (flattened_in rows) (part_enums rows) x))
 fields_decided rows tag x =
     let ns = flattened_enums (part_enums rows) x.flatten in
     subst (λ lists. Decides (fields_apart rows tag x) (AreApart (effective (flattened_in rows) x) (tag_names tag ++ lists)))
     (enums_said rows ns) (apart_decided (effective (flattened_in rows) x) (tag_names tag ++ map (names_at rows) ns))
 
 payload_decided : (rows : List Row) (tag : Option Text) (x : Variant) → Decides (payload_apart rows tag x.payload)
-    (PayloadHasNamesApart (enum_names_at rows) (tag_names tag) (spread_variant_in rows x).payload)
+    (PayloadHasNamesApart (enum_names_at rows) (tag_names tag) (expanded_variant_in rows x).payload)
 payload_decided rows tag x = go x.payload
   where
     go : (p : Payload) → Decides (payload_apart rows tag p) (PayloadHasNamesApart (enum_names_at rows) (tag_names tag)
-        (spread_variant_in rows (record { name = x.name; payload = p; notes = x.notes })).payload)
+        (expanded_variant_in rows (record { name = x.name; payload = p; notes = x.notes })).payload)
     go no_payload = always
     go (newtype_payload n) = always
     go (tuple_payload ns) = always
     go (struct_payload y) = fields_decided rows tag y
 
 variants_decided : (rows : List Row) (tag : Option Text) (xs : List Variant) → Decides (variants_apart rows tag xs)
-    (VariantsHaveNamesApart (enum_names_at rows) (tag_names tag) (map (spread_variant_in rows) xs))
+    (VariantsHaveNamesApart (enum_names_at rows) (tag_names tag) (map (expanded_variant_in rows) xs))
 variants_decided rows tag [] = always
 variants_decided rows tag (x ∷ xs) = Decides-and (payload_apart rows tag x.payload) (variants_apart rows tag xs)
     (payload_decided rows tag x) (variants_decided rows tag xs)
 
 pub names_decided : (rows : List Row) (s : Shape)
-    → Decides (shape_apart rows s) (ShapeHasNamesApart (enum_names_at rows) (spread_in rows s))
+    → Decides (shape_apart rows s) (ShapeHasNamesApart (enum_names_at rows) (expanded_shape_in rows s))
 names_decided rows (shape.struct x) = fields_decided rows None x
 names_decided rows (shape.enum tagging xs) = variants_decided rows (tag_beside tagging) xs
 names_decided rows _ = always

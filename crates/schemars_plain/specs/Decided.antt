@@ -10,7 +10,7 @@ use Rattle.schemars_schema.specs.Acceptance.{type_names}
 use Rattle.schemars_schema.specs.Annotations.{is_annotation}
 use Rattle.schemars_shapes.specs.Shape.{Shape, Field, Fields, Flattened, Payload, Variant, Entry, struct, no_payload, newtype_payload, tuple_payload, struct_payload}
 use Rattle.schemars_types.specs.Rows.{Row, entry_at}
-use Rattle.schemars_types.specs.Effective.{flattened_in, part_enums, spread_variant, spread_payload}
+use Rattle.schemars_types.specs.Effective.{flattened_in, part_enums, expanded_variant, expanded_payload}
 use Rattle.schemars_documents.specs.PlainTable.{payload_parts}
 use Rattle.schemars_schema.specs.Literal.{is_null_type, is_plain_member}
 
@@ -87,11 +87,11 @@ are_tagged tag [] = true
 are_tagged tag (x ∷ xs) = is_tagged tag x.payload && are_tagged tag xs
 
 -- variants and payloads with the flattened fields among their own
-abbrev pub spread_variant_in : List Row → Variant → Variant
-spread_variant_in rows = spread_variant (flattened_in rows) (part_enums rows)
+abbrev pub expanded_variant_in : List Row → Variant → Variant
+expanded_variant_in rows = expanded_variant (flattened_in rows) (part_enums rows)
 
-abbrev pub spread_payload_in : List Row → Payload → Payload
-spread_payload_in rows = spread_payload (flattened_in rows) (part_enums rows)
+abbrev pub expanded_payload_in : List Row → Payload → Payload
+expanded_payload_in rows = expanded_payload (flattened_in rows) (part_enums rows)
 
 -- ---- flattened rows
 

@@ -2,9 +2,9 @@
 ghost use Rattle.std.specs.Prelude.{◌≡◌, ◌↔◌, ◌&&◌, IsTrue, IfOk, map, not, bytes_eq};
 ghost use Rattle.schemars_shapes.specs.Shape.{shape_of, variant_of, internal_view, adjacent_view};
 ghost use Rattle.schemars_types.specs.Rows.{entry_at};
-ghost use Rattle.schemars_types.specs.Effective.{spread_in};
+ghost use Rattle.schemars_types.specs.Effective.{expanded_shape_in};
 ghost use Rattle.schemars_documents.specs.PlainTable.{IsPlainShape, IsPlainEntry, IsPlainTable};
-ghost use Rattle.schemars_plain.specs.Decided.{all_differ, names_of_variants, are_plain_variants, are_tagged, spread_variant_in};
+ghost use Rattle.schemars_plain.specs.Decided.{all_differ, names_of_variants, are_plain_variants, are_tagged, expanded_variant_in};
 
 use crate::fields::are_plain;
 use crate::literal::is_plain_literal;
@@ -61,7 +61,7 @@ pub fn is_plain_row(alloc: Global, types: &Types, n: TypeNo) -> Result<bool, All
 /// Only where memory runs out.
 pub fn is_plain_shape(alloc: Global, types: &Types, shape: &Shape) -> Result<bool, AllocError>
     ensures { IfOk result (λ b. IsTrue b
-        ↔ IsPlainShape (spread_in types.now (shape_of shape.now))) }
+        ↔ IsPlainShape (expanded_shape_in types.now (shape_of shape.now))) }
 {
     match shape {
         Shape::Struct(fields) => are_plain(alloc, types, fields),
@@ -87,7 +87,7 @@ fn are_named_and_plain(
     variants: &[Variant],
 ) -> Result<bool, AllocError>
     ensures { IfOk result (λ b. b ≡ (all_differ (names_of_variants (map variant_of variants.now))
-        && are_plain_variants (map (spread_variant_in types.now) (map variant_of variants.now)))) }
+        && are_plain_variants (map (expanded_variant_in types.now) (map variant_of variants.now)))) }
 {
     if !names_differ(alloc, variants)? {
         return Ok(false);
@@ -97,9 +97,9 @@ fn are_named_and_plain(
 
 fn is_plain_internal(alloc: Global, types: &Types, value: &Internal) -> Result<bool, AllocError>
     ensures { IfOk result (λ b. b ≡ (all_differ (names_of_variants (internal_view value.now).2)
-        && (are_plain_variants (map (spread_variant_in types.now) (internal_view value.now).2)
+        && (are_plain_variants (map (expanded_variant_in types.now) (internal_view value.now).2)
         && are_tagged (internal_view value.now).0
-        (map (spread_variant_in types.now) (internal_view value.now).2)))) }
+        (map (expanded_variant_in types.now) (internal_view value.now).2)))) }
 {
     if !names_differ_inside(alloc, &value.variants)? {
         return Ok(false);
@@ -114,7 +114,7 @@ fn is_plain_adjacent(alloc: Global, types: &Types, value: &Adjacent) -> Result<b
     ensures { IfOk result (λ b. b
         ≡ (not (bytes_eq (adjacent_view value.now).0 (adjacent_view value.now).1)
         && (all_differ (names_of_variants (adjacent_view value.now).3)
-        && are_plain_variants (map (spread_variant_in types.now) (adjacent_view value.now).3)))) }
+        && are_plain_variants (map (expanded_variant_in types.now) (adjacent_view value.now).3)))) }
 {
     if value.tag == value.content {
         return Ok(false);

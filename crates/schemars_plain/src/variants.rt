@@ -2,7 +2,7 @@
 ghost use Rattle.std.specs.Prelude.{◌≡◌, ◌&&◌, map, IfOk};
 ghost use Rattle.serde_json.specs.View.{members_view};
 ghost use Rattle.schemars_shapes.specs.Shape.{payload_of, variant_of, internal_payload_of, internal_variant_of};
-ghost use Rattle.schemars_plain.specs.Decided.{is_plain_payload, is_plain_variant, are_plain_variants, names_of_variants, all_differ, is_tagged, are_tagged, spread_variant_in, spread_payload_in};
+ghost use Rattle.schemars_plain.specs.Decided.{is_plain_payload, is_plain_variant, are_plain_variants, names_of_variants, all_differ, is_tagged, are_tagged, expanded_variant_in, expanded_payload_in};
 
 use crate::fields::{are_plain, has_name};
 use crate::names::all_differ;
@@ -18,7 +18,7 @@ pub fn are_plain_variants(
     variants: &[Variant],
 ) -> Result<bool, AllocError>
     ensures { IfOk result (λ b. b
-        ≡ are_plain_variants (map (spread_variant_in types.now) (map variant_of variants.now))) }
+        ≡ are_plain_variants (map (expanded_variant_in types.now) (map variant_of variants.now))) }
 {
     for variant in variants {
         if !is_plain_variant(alloc, types, variant)? {
@@ -30,7 +30,7 @@ pub fn are_plain_variants(
 
 fn is_plain_variant(alloc: Global, types: &Types, variant: &Variant) -> Result<bool, AllocError>
     ensures { IfOk result (λ b. b
-        ≡ is_plain_variant (spread_variant_in types.now (variant_of variant.now))) }
+        ≡ is_plain_variant (expanded_variant_in types.now (variant_of variant.now))) }
 {
     if !are_annotations(&variant.notes) {
         return Ok(false);
@@ -40,7 +40,7 @@ fn is_plain_variant(alloc: Global, types: &Types, variant: &Variant) -> Result<b
 
 fn is_plain_payload(alloc: Global, types: &Types, payload: &Payload) -> Result<bool, AllocError>
     ensures { IfOk result (λ b. b
-        ≡ is_plain_payload (spread_payload_in types.now (payload_of payload.now))) }
+        ≡ is_plain_payload (expanded_payload_in types.now (payload_of payload.now))) }
 {
     match payload {
         Payload::Struct(fields) => are_plain(alloc, types, fields),
@@ -75,7 +75,7 @@ pub fn are_plain_inside(
     variants: &[InternalVariant],
 ) -> Result<bool, AllocError>
     ensures { IfOk result (λ b. b ≡ are_plain_variants
-        (map (spread_variant_in types.now) (map internal_variant_of variants.now))) }
+        (map (expanded_variant_in types.now) (map internal_variant_of variants.now))) }
 {
     for variant in variants {
         if !is_plain_inside(alloc, types, variant)? {
@@ -91,7 +91,7 @@ fn is_plain_inside(
     variant: &InternalVariant,
 ) -> Result<bool, AllocError>
     ensures { IfOk result (λ b. b
-        ≡ is_plain_variant (spread_variant_in types.now (internal_variant_of variant.now))) }
+        ≡ is_plain_variant (expanded_variant_in types.now (internal_variant_of variant.now))) }
 {
     if !are_annotations(&variant.notes) {
         return Ok(false);
@@ -105,7 +105,7 @@ fn is_plain_content(
     payload: &InternalPayload,
 ) -> Result<bool, AllocError>
     ensures { IfOk result (λ b. b
-        ≡ is_plain_payload (spread_payload_in types.now (internal_payload_of payload.now))) }
+        ≡ is_plain_payload (expanded_payload_in types.now (internal_payload_of payload.now))) }
 {
     match payload {
         InternalPayload::Struct(fields) => are_plain(alloc, types, fields),
@@ -133,7 +133,7 @@ pub fn are_tagged(
     variants: &[InternalVariant],
 ) -> Result<bool, AllocError>
     ensures { IfOk result (λ b. b ≡ are_tagged tag.now
-        (map (spread_variant_in types.now) (map internal_variant_of variants.now))) }
+        (map (expanded_variant_in types.now) (map internal_variant_of variants.now))) }
 {
     for variant in variants {
         if !is_tagged(alloc, types, tag, &variant.payload)? {
@@ -150,7 +150,7 @@ fn is_tagged(
     payload: &InternalPayload,
 ) -> Result<bool, AllocError>
     ensures { IfOk result (λ b. b
-        ≡ is_tagged tag.now (spread_payload_in types.now (internal_payload_of payload.now))) }
+        ≡ is_tagged tag.now (expanded_payload_in types.now (internal_payload_of payload.now))) }
 {
     match payload {
         InternalPayload::Unit => Ok(true),

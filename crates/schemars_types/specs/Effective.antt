@@ -27,8 +27,8 @@ abbrev pub effective : (Flattened → List Field) → Fields → List Field
 effective part x = x.list ++ flattened_fields part x.flatten
 
 -- a field that has to be there only where its row has to
-abbrev pub weakened : Required → Field → Field
-weakened r f = record {
+abbrev pub required_only_if : Required → Field → Field
+required_only_if r f = record {
   name = f.name;
   ty = f.ty;
   required = record { deserialize = r.deserialize && f.required.deserialize; serialize = r.serialize && f.required.serialize };
@@ -38,7 +38,7 @@ weakened r f = record {
 -- the fields of a flattened Option may all be missing, unless it has to be there
 abbrev pub part_fields : List Row → (ℕ → List Field) → Flattened → List Field
 part_fields rows own p =
-    if is_some (option_at rows p.ty) then map (weakened p.required) (own (without_options rows p.ty)) else own (without_options rows p.ty)
+    if is_some (option_at rows p.ty) then map (required_only_if p.required) (own (without_options rows p.ty)) else own (without_options rows p.ty)
 
 -- a shape that is not a struct has no fields to flatten
 abbrev pub shape_fields : (Flattened → List Field) → Shape → List Field
@@ -91,24 +91,24 @@ always = record { deserialize = true; serialize = true }
 abbrev pub enum_at : ℕ → Flattened
 enum_at n = record { ty = n; required = always }
 
-abbrev pub spread_fields : (Flattened → List Field) → (Flattened → List ℕ) → Fields → Fields
-spread_fields part enums x =
+abbrev pub expanded_fields : (Flattened → List Field) → (Flattened → List ℕ) → Fields → Fields
+expanded_fields part enums x =
     record { list = effective part x; flatten = map enum_at (flattened_enums enums x.flatten); closed = x.closed }
 
-abbrev pub spread_payload : (Flattened → List Field) → (Flattened → List ℕ) → Payload → Payload
-spread_payload part enums no_payload = no_payload
-spread_payload part enums (newtype_payload n) = newtype_payload n
-spread_payload part enums (tuple_payload ns) = tuple_payload ns
-spread_payload part enums (struct_payload x) = struct_payload (spread_fields part enums x)
+abbrev pub expanded_payload : (Flattened → List Field) → (Flattened → List ℕ) → Payload → Payload
+expanded_payload part enums no_payload = no_payload
+expanded_payload part enums (newtype_payload n) = newtype_payload n
+expanded_payload part enums (tuple_payload ns) = tuple_payload ns
+expanded_payload part enums (struct_payload x) = struct_payload (expanded_fields part enums x)
 
-abbrev pub spread_variant : (Flattened → List Field) → (Flattened → List ℕ) → Variant → Variant
-spread_variant part enums x = record { name = x.name; payload = spread_payload part enums x.payload; notes = x.notes }
+abbrev pub expanded_variant : (Flattened → List Field) → (Flattened → List ℕ) → Variant → Variant
+expanded_variant part enums x = record { name = x.name; payload = expanded_payload part enums x.payload; notes = x.notes }
 
-abbrev pub spread : (Flattened → List Field) → (Flattened → List ℕ) → Shape → Shape
-spread part enums (struct x) = struct (spread_fields part enums x)
-spread part enums (enum tagging xs) = enum tagging (map (spread_variant part enums) xs)
-spread part enums s = s
+abbrev pub expanded_shape : (Flattened → List Field) → (Flattened → List ℕ) → Shape → Shape
+expanded_shape part enums (struct x) = struct (expanded_fields part enums x)
+expanded_shape part enums (enum tagging xs) = enum tagging (map (expanded_variant part enums) xs)
+expanded_shape part enums s = s
 
 -- in a table
-abbrev pub spread_in : List Row → Shape → Shape
-spread_in rows s = spread (flattened_in rows) (part_enums rows) s
+abbrev pub expanded_shape_in : List Row → Shape → Shape
+expanded_shape_in rows s = expanded_shape (flattened_in rows) (part_enums rows) s

@@ -14,7 +14,7 @@ use Rattle.schemars_schema.specs.Literal.{has_literal}
 use Rattle.schemars_shapes.specs.Shape.{Required, Field, Flattened, Tagging, Shape, null, bool, int, non_zero, number, text, char, formatted, any, bytes, schema_itself, option, seq, set, array as array_shape, up_to, tuple, struct, newtype, result, bound, range, either, map_from, enum, by_name, by_nothing, by_tag, by_tag_and_content, literal, needed, Payload, Variant, no_payload, newtype_payload, tuple_payload, struct_payload}
 use Rattle.schemars_types.specs.KeyOptions.{KeyOptions, is_key_allowed, key_options}
 use Rattle.schemars_types.specs.Rows.{Row, entry_at}
-use Rattle.schemars_types.specs.Effective.{spread_in}
+use Rattle.schemars_types.specs.Effective.{expanded_shape_in}
 use Rattle.schemars_shapes.specs.declared.shape.IntKind.{IntKind}
 use Rattle.schemars_shapes.specs.declared.shape.IntKind.TheVariants.{U8}
 use Rattle.schemars_shapes.specs.IntKind.{facts_of}
@@ -94,54 +94,54 @@ exactly_one (b ∷ bs) = if b then none bs else exactly_one bs
 -- ---- enums among the members of a map
 
 -- what a variant offers of a map: whether the variant fits it, and which keys belong to the variant
-pub record Choice : Type 0 where
+pub record VariantMatch : Type 0 where
   pub fits : Bool
   pub has_key : Text → Bool
 
 -- of each enum exactly one variant fits
-abbrev pub every_part : List (List Choice) → Bool
+abbrev pub every_part : List (List VariantMatch) → Bool
 every_part [] = true
 every_part (choices ∷ parts) = exactly_one (map (λ choice. choice.fits) choices) && every_part parts
 
 -- the key belongs to a variant that fits
-abbrev pub claimed_by : List Choice → Text → Bool
+abbrev pub claimed_by : List VariantMatch → Text → Bool
 claimed_by choices k = list_any (λ choice. choice.fits && choice.has_key k) choices
 
-abbrev pub claims : List (List Choice) → Text → Bool
-claims [] k = false
-claims (choices ∷ parts) k = claimed_by choices k || claims parts k
+abbrev pub is_key_of_match : List (List VariantMatch) → Text → Bool
+is_key_of_match [] k = false
+is_key_of_match (choices ∷ parts) k = claimed_by choices k || is_key_of_match parts k
 
 -- a key is refused that is neither a field's nor a variant's
-abbrev pub shut : Bool → List (List Choice) → Text → Bool
-shut closed parts k = not (claims parts k) && closed
+abbrev pub excludes_key : Bool → List (List VariantMatch) → Text → Bool
+excludes_key closed parts k = not (is_key_of_match parts k) && closed
 
 -- what the enums flattened into a map offer of it, where `choices n` is what the variants of row n do
-abbrev pub offers : (ℕ → Data → List Choice) → List Flattened → Data → List (List Choice)
-offers choices flatten v = map (λ p. choices p.ty v) flatten
+abbrev pub matches_of : (ℕ → Data → List VariantMatch) → List Flattened → Data → List (List VariantMatch)
+matches_of choices flatten v = map (λ p. choices p.ty v) flatten
 
 -- ---- maps with fields
 
 -- a map with these fields, and with these enums among its members
-abbrev pub has_fields : Contract → (ℕ → Data → Bool) → List (List Choice) → List Field → Bool → Data → Bool
+abbrev pub has_fields : Contract → (ℕ → Data → Bool) → List (List VariantMatch) → List Field → Bool → Data → Bool
 has_fields contract part parts list closed v = holds (as_object v) (λ ms. every_part parts
-    && (every_member (λ k w. member_fits part list (shut closed parts k) k w) ms && has_required contract list ms))
+    && (every_member (λ k w. member_fits part list (excludes_key closed parts k) k w) ms && has_required contract list ms))
 
 abbrev pub is_text : Text → Data → Bool
 is_text t v = holds (as_str v) (bytes_eq t)
 
 -- what a variant has beside its name; null where it has nothing
-abbrev pub has_payload : Contract → (ℕ → Data → Bool) → (ℕ → Data → List Choice) → Payload → Data → Bool
+abbrev pub has_payload : Contract → (ℕ → Data → Bool) → (ℕ → Data → List VariantMatch) → Payload → Data → Bool
 has_payload contract part choices no_payload v = is_null v
 has_payload contract part choices (newtype_payload n) v = part n v
 has_payload contract part choices (tuple_payload ns) v = holds (as_array v) (each_of part ns)
-has_payload contract part choices (struct_payload x) v = has_fields contract part (offers choices x.flatten v) x.list x.closed v
+has_payload contract part choices (struct_payload x) v = has_fields contract part (matches_of choices x.flatten v) x.list x.closed v
 
 -- a map with this key alone, whose value passes
 abbrev pub is_map_of : Text → (Data → Bool) → Data → Bool
 is_map_of k p v = holds (as_object v) (λ ms. is_some (get_member k ms) && every_member (λ l w. bytes_eq k l && p w) ms)
 
 -- a unit is its name, and another variant a map with its name as key
-abbrev pub has_external : Contract → (ℕ → Data → Bool) → (ℕ → Data → List Choice) → Data → Variant → Bool
+abbrev pub has_external : Contract → (ℕ → Data → Bool) → (ℕ → Data → List VariantMatch) → Data → Variant → Bool
 has_external contract part choices v x = elim x.payload [
   | no_payload ↦ is_text x.name v
   | newtype_payload n ↦ is_map_of x.name (part n) v
@@ -154,9 +154,9 @@ abbrev pub tagged_fits : (ℕ → Data → Bool) → List Field → Bool → Tex
 tagged_fits part list closed tag name k v = if bytes_eq tag k then is_text name v else member_fits part list closed k v
 
 -- a map with this name under the tag, and with these fields and enums beside it
-abbrev pub has_tagged : Contract → (ℕ → Data → Bool) → List (List Choice) → Text → List Field → Bool → Text → Data → Bool
+abbrev pub has_tagged : Contract → (ℕ → Data → Bool) → List (List VariantMatch) → Text → List Field → Bool → Text → Data → Bool
 has_tagged contract part parts tag list closed name v = holds (as_object v) (λ ms. is_some (get_member tag ms) && (every_part parts
-    && (every_member (λ k w. tagged_fits part list (shut closed parts k) tag name k w) ms && has_required contract list ms)))
+    && (every_member (λ k w. tagged_fits part list (excludes_key closed parts k) tag name k w) ms && has_required contract list ms)))
 
 -- the fields of a variant that is tagged inside its map; a unit has none
 abbrev pub tagged_fields : Payload → List Field
@@ -168,12 +168,12 @@ abbrev pub has_content : (Data → Bool) → Text → Text → Data → Bool
 has_content p tag name v =
     holds (as_object v) (λ ms. holds (get_member tag ms) (is_text name) && p (object (without tag ms)))
 
-abbrev pub has_internal : Contract → (ℕ → Data → Bool) → (ℕ → Data → List Choice) → Text → Bool → Data → Variant → Bool
+abbrev pub has_internal : Contract → (ℕ → Data → Bool) → (ℕ → Data → List VariantMatch) → Text → Bool → Data → Variant → Bool
 has_internal contract part choices tag closed v x = elim x.payload [
   | no_payload ↦ has_tagged contract part [] tag [] closed x.name v
   | newtype_payload n ↦ has_content (part n) tag x.name v
   | tuple_payload ns ↦ false
-  | struct_payload y ↦ has_tagged contract part (offers choices y.flatten v) tag y.list y.closed x.name v
+  | struct_payload y ↦ has_tagged contract part (matches_of choices y.flatten v) tag y.list y.closed x.name v
 ]
 
 -- under the tag is this name, and under the other key a value that passes; all else is free if the enum is open
@@ -189,7 +189,7 @@ has_beside tag name content p closed v = holds (as_object v) (λ ms. is_some (ge
     && (is_some (get_member content ms) && every_member (adjacent_fits tag name content p closed) ms))
 
 -- a unit is its name under the tag, and another variant has its payload under the other key
-abbrev pub has_adjacent : Contract → (ℕ → Data → Bool) → (ℕ → Data → List Choice) → Text → Text → Bool → Data → Variant → Bool
+abbrev pub has_adjacent : Contract → (ℕ → Data → Bool) → (ℕ → Data → List VariantMatch) → Text → Text → Bool → Data → Variant → Bool
 has_adjacent contract part choices tag content closed v x = elim x.payload [
   | no_payload ↦ has_tagged contract part [] tag [] closed x.name v
   | newtype_payload n ↦ has_beside tag x.name content (part n) closed v
@@ -198,7 +198,7 @@ has_adjacent contract part choices tag content closed v x = elim x.payload [
 ]
 
 -- a variant, by how its name is written; without a name it is its payload
-abbrev pub has_variant : Contract → (ℕ → Data → Bool) → (ℕ → Data → List Choice) → Tagging → Data → Variant → Bool
+abbrev pub has_variant : Contract → (ℕ → Data → Bool) → (ℕ → Data → List VariantMatch) → Tagging → Data → Variant → Bool
 has_variant contract part choices by_name = has_external contract part choices
 has_variant contract part choices by_nothing = λ v x. has_payload contract part choices x.payload v
 has_variant contract part choices (by_tag tag closed) = has_internal contract part choices tag closed
@@ -211,10 +211,10 @@ abbrev pub has_member : Text → (Data → Bool) → Data → Bool
 has_member k p v = holds (as_object v) (λ ms. is_some (get_member k ms) && every_member (λ l w. not (bytes_eq k l) || p w) ms)
 
 -- the name is there, with a value that passes
-abbrev pub member_choice : Text → (Data → Bool) → Data → Choice
+abbrev pub member_choice : Text → (Data → Bool) → Data → VariantMatch
 member_choice name p v = record { fits = has_member name p v; has_key = bytes_eq name }
 
-abbrev pub external_choice : Contract → (ℕ → Data → Bool) → (ℕ → Data → List Choice) → Data → Variant → Choice
+abbrev pub external_choice : Contract → (ℕ → Data → Bool) → (ℕ → Data → List VariantMatch) → Data → Variant → VariantMatch
 external_choice contract part choices v x = member_choice x.name (has_payload contract part choices x.payload) v
 
 abbrev pub is_tagged_map : Contract → (ℕ → Data → Bool) → Text → Data → Variant → Bool
@@ -226,13 +226,13 @@ is_tagged_map contract part tag v x = elim x.payload [
 ]
 
 -- the name is under the tag, and the variant's fields are there; there may be other keys beside them
-abbrev pub internal_choice : Contract → (ℕ → Data → Bool) → Text → Data → Variant → Choice
+abbrev pub internal_choice : Contract → (ℕ → Data → Bool) → Text → Data → Variant → VariantMatch
 internal_choice contract part tag v x = record {
   fits = is_tagged_map contract part tag v x;
   has_key = λ k. bytes_eq tag k || is_some (field_named (tagged_fields x.payload) k);
 }
 
-abbrev pub shape_choices : Contract → (ℕ → Data → Bool) → (ℕ → Data → List Choice) → Shape → Data → List Choice
+abbrev pub shape_choices : Contract → (ℕ → Data → Bool) → (ℕ → Data → List VariantMatch) → Shape → Data → List VariantMatch
 shape_choices contract part choices (enum by_name xs) v = map (external_choice contract part choices v) xs
 shape_choices contract part choices (enum (by_tag tag closed) xs) v = map (internal_choice contract part tag v) xs
 shape_choices contract part choices _ v = []
@@ -245,7 +245,7 @@ has_keys patterns options p v = holds (as_object v) (every_member (λ k w. is_ke
 
 -- the values of a shape into which enums alone are flattened, where `part` says which values the rows inside it have, `choices` what
 -- the variants of an enum offer of a map, and `keys` which keys
-abbrev pub has_shape : Contract → Patterns → (ℕ → KeyOptions) → (ℕ → Data → List Choice) → (ℕ → Data → Bool) → Shape → Data → Bool
+abbrev pub has_shape : Contract → Patterns → (ℕ → KeyOptions) → (ℕ → Data → List VariantMatch) → (ℕ → Data → Bool) → Shape → Data → Bool
 has_shape contract patterns keys choices part null v = is_null v
 has_shape contract patterns keys choices part bool v = is_some (as_bool v)
 has_shape contract patterns keys choices part (int kind) v = holds (whole_number v) (is_of_kind kind)
@@ -265,7 +265,7 @@ has_shape contract patterns keys choices part (array_shape n len) v =
 has_shape contract patterns keys choices part (up_to n cap) v =
     holds (as_array v) (λ vs. nat_le (items_len vs) cap && every_item (part n) vs)
 has_shape contract patterns keys choices part (tuple ns) v = holds (as_array v) (each_of part ns)
-has_shape contract patterns keys choices part (struct x) v = has_fields contract part (offers choices x.flatten v) x.list x.closed v
+has_shape contract patterns keys choices part (struct x) v = has_fields contract part (matches_of choices x.flatten v) x.list x.closed v
 has_shape contract patterns keys choices part (newtype n) v = part n v
 has_shape contract patterns keys choices part (result t e) v = exactly_one
     (has_fields contract part [] (needed (codes "Ok") t ∷ []) false v ∷ has_fields contract part [] (needed (codes "Err") e ∷ []) false v
@@ -290,17 +290,17 @@ unfoldable mutual
       elim (entry_at rows n) [
         | None ↦ false
         | Some entry ↦ has_shape contract patterns (key_options rows) (choices_within rows contract patterns steps)
-            (belongs_within rows contract patterns steps) (spread_in rows entry.shape) v
+            (belongs_within rows contract patterns steps) (expanded_shape_in rows entry.shape) v
       ]
 
   -- what the variants of row n, an enum, offer of the value
-  pub choices_within : List Row → Contract → Patterns → ℕ → ℕ → Data → List Choice
+  pub choices_within : List Row → Contract → Patterns → ℕ → ℕ → Data → List VariantMatch
   choices_within rows contract patterns zero n v = []
   choices_within rows contract patterns (suc steps) n v =
       elim (entry_at rows n) [
         | None ↦ []
         | Some entry ↦ shape_choices contract (belongs_within rows contract patterns steps) (choices_within rows contract patterns steps)
-            (spread_in rows entry.shape) v
+            (expanded_shape_in rows entry.shape) v
       ]
 
 -- the meaning of row n: at each depth of the value every row is asked once at most

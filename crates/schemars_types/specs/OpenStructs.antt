@@ -9,7 +9,7 @@ use Rattle.schemars_types.specs.KeyOptions.{key_options}
 use Rattle.schemars_types.specs.Rows.{Row, entry_at}
 use Rattle.schemars_types.specs.Effective.{effective, shape_fields}
 use Rattle.schemars_types.specs.declared.contract.Contract.{Contract}
-use Rattle.schemars_types.specs.Meaning.{Choice, has_shape}
+use Rattle.schemars_types.specs.Meaning.{VariantMatch, has_shape}
 
 -- ---- shapes with the flattened fields among their own, into which nothing is flattened
 
@@ -41,7 +41,7 @@ struct_fields_within rows (suc steps) n =
 abbrev pub joined_in : List Row → Shape → Shape
 joined_in rows s = joined_shape (λ p. struct_fields_within rows (length rows) p.ty) s
 
-abbrev pub no_choices : ℕ → Data → List Choice
+abbrev pub no_choices : ℕ → Data → List VariantMatch
 no_choices n v = []
 
 -- row n has the value; a row is asked at most `steps` deep

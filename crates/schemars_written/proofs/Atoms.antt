@@ -22,7 +22,7 @@ use Rattle.schemars_types.specs.Rows.{Row, entry_at}
 use Rattle.schemars_types.specs.Edges.{rank, SameValueEdge}
 use Rattle.schemars_types.specs.Faults.{IsChecked}
 use Rattle.schemars_types.specs.KeyOptions.{key_options}
-use Rattle.schemars_types.specs.Effective.{spread_in}
+use Rattle.schemars_types.specs.Effective.{expanded_shape_in}
 use Rattle.schemars_types.specs.Meaning.{belongs_within, choices_within, has_shape, is_of_kind}
 use Rattle.schemars_types.specs.declared.contract.Contract.TheVariants.{Serialize}
 use Rattle.schemars_written.proofs.Characters.{one-character}
@@ -54,7 +54,7 @@ HasIt rows patterns steps d o =
     elim o [
       | None ↦ false
       | Some e ↦ has_shape Serialize patterns (key_options rows) (choices_within rows Serialize patterns steps)
-          (belongs_within rows Serialize patterns steps) (spread_in rows e.shape) d
+          (belongs_within rows Serialize patterns steps) (expanded_shape_in rows e.shape) d
     ] ≡ true
 
 one_step : (rows : List Row) (patterns : Patterns) (steps n : ℕ) (d : Data) → HasIt rows patterns steps d (entry_at rows n)
@@ -66,13 +66,13 @@ one_step rows patterns steps n d h = h
 pub step : (rows : List Row) (patterns : Patterns) (n : ℕ) (sh : Shape) (d : Data) → HasShape rows n sh
     → ((steps : ℕ) → depth d * length rows + rank rows n < suc steps
     → has_shape Serialize patterns (key_options rows) (choices_within rows Serialize patterns steps)
-    (belongs_within rows Serialize patterns steps) (spread_in rows sh) d ≡ true)
+    (belongs_within rows Serialize patterns steps) (expanded_shape_in rows sh) d ≡ true)
     → Fits rows patterns n d
 step rows patterns n sh d is each zero low = absurd (omega arith)
 step rows patterns n sh d is each (suc steps) low =
     one_step rows patterns steps n d (subst (HasIt rows patterns steps d) (sym is.1) (subst (λ (x : Shape).
     has_shape Serialize patterns (key_options rows) (choices_within rows Serialize patterns steps)
-    (belongs_within rows Serialize patterns steps) (spread_in rows x) d ≡ true) (sym is.2) (each steps low)))
+    (belongs_within rows Serialize patterns steps) (expanded_shape_in rows x) d ≡ true) (sym is.2) (each steps low)))
 
 at_row : (rows : List Row) (n m : ℕ) (sh : Shape) (f : Shape → List ℕ) → HasShape rows n sh → Contains (f sh) m
     → Contains (option_map_or (λ e. f e.shape) (entry_at rows n) []) m

@@ -24,8 +24,8 @@ use Rattle.schemars_shapes.specs.Shape.{Variant, no_payload, newtype_payload}
 use Rattle.schemars_types.specs.Rows.{Row}
 use Rattle.schemars_types.specs.Faults.{IsChecked}
 use Rattle.schemars_types.specs.KeyOptions.{key_options}
-use Rattle.schemars_types.specs.Effective.{spread_variant, flattened_in, part_enums}
-use Rattle.schemars_types.specs.Meaning.{Choice, belongs_within, choices_within, has_external, is_text, is_map_of, every_member}
+use Rattle.schemars_types.specs.Effective.{expanded_variant, flattened_in, part_enums}
+use Rattle.schemars_types.specs.Meaning.{VariantMatch, belongs_within, choices_within, has_external, is_text, is_map_of, every_member}
 use Rattle.schemars_types.specs.declared.contract.Contract.TheVariants.{Serialize}
 use Rattle.schemars_written.specs.Gives.{IsPlain, Gives, GivesMembers, Tagged, Struct, IsObject, FirstMember, NoMembers, Done}
 use Rattle.schemars_written.specs.Fits.{Fits, Means, HasShape, HasUnit, HasNewtype}
@@ -42,20 +42,20 @@ left_true true b h = refl
 left_true false b h = absurd (cc)
 
 -- one of the variants is the unit
-unit_listed : (rows : List Row) (part : ℕ → Data → Bool) (choices : ℕ → Data → List Choice) (name : Text) (xs : List Variant) → HasUnit name xs
-    → list_any (has_external Serialize part choices (string name)) (map (spread_variant (flattened_in rows) (part_enums rows)) xs) ≡ true
+unit_listed : (rows : List Row) (part : ℕ → Data → Bool) (choices : ℕ → Data → List VariantMatch) (name : Text) (xs : List Variant) → HasUnit name xs
+    → list_any (has_external Serialize part choices (string name)) (map (expanded_variant (flattened_in rows) (part_enums rows)) xs) ≡ true
 unit_listed rows part choices name [] has = absurd has
 unit_listed rows part choices name (x ∷ xs) (inl here) =
-    left_true (has_external Serialize part choices (string name) (spread_variant (flattened_in rows) (part_enums rows) x))
-    (list_any (has_external Serialize part choices (string name)) (map (spread_variant (flattened_in rows) (part_enums rows)) xs))
+    left_true (has_external Serialize part choices (string name) (expanded_variant (flattened_in rows) (part_enums rows) x))
+    (list_any (has_external Serialize part choices (string name)) (map (expanded_variant (flattened_in rows) (part_enums rows)) xs))
     (this x here.0 here.1)
   where
     this : (y : Variant) → y.name ≡ name → y.payload ≡ no_payload
-        → has_external Serialize part choices (string name) (spread_variant (flattened_in rows) (part_enums rows) y) ≡ true
+        → has_external Serialize part choices (string name) (expanded_variant (flattened_in rows) (part_enums rows) y) ≡ true
     this y same bare = rw bare ((bytes_eq-Decides y.name name).1 same)
 unit_listed rows part choices name (x ∷ xs) (inr later) =
-    right_true (has_external Serialize part choices (string name) (spread_variant (flattened_in rows) (part_enums rows) x))
-    (list_any (has_external Serialize part choices (string name)) (map (spread_variant (flattened_in rows) (part_enums rows)) xs))
+    right_true (has_external Serialize part choices (string name) (expanded_variant (flattened_in rows) (part_enums rows) x))
+    (list_any (has_external Serialize part choices (string name)) (map (expanded_variant (flattened_in rows) (part_enums rows)) xs))
     (unit_listed rows part choices name xs later)
 
 -- a unit sends its name, as it is spelled
@@ -73,21 +73,21 @@ unit_agrees rows n xs is name case has =
 
 -- ---- variants with one value
 
-newtype_listed : (rows : List Row) (part : ℕ → Data → Bool) (choices : ℕ → Data → List Choice) (name : Text) (m : ℕ) (v : Data) (xs : List Variant)
+newtype_listed : (rows : List Row) (part : ℕ → Data → Bool) (choices : ℕ → Data → List VariantMatch) (name : Text) (m : ℕ) (v : Data) (xs : List Variant)
     → HasNewtype name m xs → is_map_of name (part m) v ≡ true
-    → list_any (has_external Serialize part choices v) (map (spread_variant (flattened_in rows) (part_enums rows)) xs) ≡ true
+    → list_any (has_external Serialize part choices v) (map (expanded_variant (flattened_in rows) (part_enums rows)) xs) ≡ true
 newtype_listed rows part choices name m v [] has is = absurd has
 newtype_listed rows part choices name m v (x ∷ xs) (inl here) is =
-    left_true (has_external Serialize part choices v (spread_variant (flattened_in rows) (part_enums rows) x))
-    (list_any (has_external Serialize part choices v) (map (spread_variant (flattened_in rows) (part_enums rows)) xs))
+    left_true (has_external Serialize part choices v (expanded_variant (flattened_in rows) (part_enums rows) x))
+    (list_any (has_external Serialize part choices v) (map (expanded_variant (flattened_in rows) (part_enums rows)) xs))
     (this x here.0 here.1)
   where
     this : (y : Variant) → y.name ≡ name → y.payload ≡ newtype_payload m
-        → has_external Serialize part choices v (spread_variant (flattened_in rows) (part_enums rows) y) ≡ true
+        → has_external Serialize part choices v (expanded_variant (flattened_in rows) (part_enums rows) y) ≡ true
     this y same one = rw one (subst (λ (t : Text). is_map_of t (part m) v ≡ true) (sym same) is)
 newtype_listed rows part choices name m v (x ∷ xs) (inr later) is =
-    right_true (has_external Serialize part choices v (spread_variant (flattened_in rows) (part_enums rows) x))
-    (list_any (has_external Serialize part choices v) (map (spread_variant (flattened_in rows) (part_enums rows)) xs))
+    right_true (has_external Serialize part choices v (expanded_variant (flattened_in rows) (part_enums rows) x))
+    (list_any (has_external Serialize part choices v) (map (expanded_variant (flattened_in rows) (part_enums rows)) xs))
     (newtype_listed rows part choices name m v xs later is)
 
 variant_key_gives : (name : Text) (case : Case) → GivesKey (λ old new. Logs old new (event.variant_key name case)) (spelled case kind.Variant name)

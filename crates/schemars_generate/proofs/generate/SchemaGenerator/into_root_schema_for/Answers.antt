@@ -1,6 +1,6 @@
 use Rattle.std.proofs.Common.{inl, inr, refl, sym, subst}
 use Rattle.std.proofs.lemmas.Result.{IfOk-weaker, IfErr-weaker}
-use Rattle.schemars_build.specs.Work.{Work}
+use Rattle.schemars_build.specs.Registry.{Registry}
 use Rattle.schemars_headline.proofs.Calls.{err_told}
 use Rattle.schemars_headline.proofs.Larger.{more_types_own}
 use Rattle.schemars_types.specs.Faults.{IsChecked}
@@ -47,7 +47,7 @@ returns-clause-refused g c =
     let n = c.in_ok-n.n in
     let us = c.last_root.new.settings.transforms in
     IfErr-weaker c.last_root.result _ _ (λ e h.
-    let P : Work → Type 0 = λ w. IsRootRefusal Q inside.settings.transforms us (state_of inside.settings rows w) n e in (
+    let P : Registry → Type 0 = λ w. IsRootRefusal Q inside.settings.transforms us (state_of inside.settings rows w) n e in (
       us,
       inr (record {
         rows = rows;
@@ -70,7 +70,7 @@ returns-clause-root g c =
     let joined = subst (λ y. IsJoined t.says y.rows rows n) c.self.view_is c.in_ok-n.ensures.joined in
     let checked = subst (λ y. IsChecked y.rows) c.self.view_is c.self.invariant.1 in
     IfOk-weaker c.last_root.result _ _ (λ d h.
-    let P : Work → Type 0 = λ w. IsTransformed Q inside.settings.transforms us (IsUntransformed (state_of inside.settings rows w) n) d in (
+    let P : Registry → Type 0 = λ w. IsTransformed Q inside.settings.transforms us (IsUntransformed (state_of inside.settings rows w) n) d in (
       rows,
       n,
       us,

@@ -1,0 +1,108 @@
+use Rattle.std.proofs.Common.{◌≡◌, ◌<◌, ◌≤◌, false, Some, refl, ap, sym, ◌∙◌, subst, arith, rules, string_bytes, reverse}
+use Rattle.std.specs.Prelude.{◌||◌}
+use Rattle.serde_json.specs.Data.{boolean}
+use Rattle.serde_json.specs.Find.{get_member}
+use Rattle.schemars_documents.specs.Documents.{reference}
+use Rattle.schemars_types.specs.Edges.{is_inline_at}
+use Rattle.schemars_documents.specs.Template.{part}
+use Rattle.schemars_build.specs.Registry.{reference_to}
+use Rattle.schemars_build.specs.Plans.{plan_of}
+use Rattle.schemars_build.specs.Making.{asked, IsBegun}
+use Rattle.schemars_build.specs.declared.build.Purpose.TheVariants as purpose
+use Rattle.std.proofs.lemmas.Str.{IsUtf8-string_bytes}
+use Rattle.std.proofs.lemmas.Result.{IfOk-weaker}
+use Rattle.schemars_build.proofs.Making.{filled_made, closes_own, closes_members, closes_content, closes_referred, closes_definition}
+use Rattle.schemars_build.proofs.Steps.{finished_with}
+use Rattle.serde_json.proofs.Views.{get_member-put}
+use Rattle.schemars_build.specs.Missing.{missing}
+use Rattle.schemars_build.specs.Measure.{document_rank, measure_of_part}
+use Rattle.schemars_build.proofs.Descending.{content_to_part}
+use Rattle.schemars_build.proofs.Ending.{closing_replies, closing_less, left_fewer, finished_fewer, replied_fewer}
+use Rattle.schemars_build.proofs.build.finish_document.Goals as goal
+
+pub returns-in-Own-clause-replies : goal.returns-in-Own-clause-replies
+returns-in-Own-clause-replies g c = λ outside old want h.
+    let plan = plan_of c.args.plan.now in
+    let now = c.args.registry.now in
+    let new = c.leave.new.self in
+    let d = c.args.document in
+    let s = c.in_ok-schema.schema in
+    let filled = filled_made plan outside old want now d h c.requires.all_answered s c.requires.checked c.in_ok-schema.ensures in
+    closing_replies plan outside old want now new d (reverse c.args.making.now.items) s h (left_fewer plan now new _ c.leave.ensures)
+    (closes_own plan outside old want now d h s filled c.in-Own.entered new c.in-Own.is c.leave.ensures)
+
+pub returns-in-Definition-clause-replies : goal.returns-in-Definition-clause-replies
+returns-in-Definition-clause-replies g c = λ outside old want h.
+    let plan = plan_of c.args.plan.now in
+    let now = c.args.registry.now in
+    let mid = c.leave-in-Definition.new.self in
+    let new = c.finish.new.self in
+    let d = c.args.document in
+    let k = string_bytes c.in-Definition.name in
+    let s = c.in_ok-schema.schema in
+    let t = c.in_ok-reference-in-Definition.reference in
+    let filled = filled_made plan outside old want now d h c.requires.all_answered s c.requires.checked c.in_ok-schema.ensures in
+    let finished : new ≡ finished_with mid k s = c.in_ok-finish-in-Definition.ensures.ok ∙ ap (λ x. finished_with mid x s) c.as_str-in-Definition.ensures.value in
+    let replied = closes_definition plan outside old want now d h s filled c.in-Definition.name c.in-Definition.entered mid new t
+    c.in-Definition.is (IsUtf8-string_bytes c.in-Definition.name) c.leave-in-Definition.ensures finished
+    (c.in_ok-reference-in-Definition.ensures ∙ ap (λ x. reference (reference_to plan.path x)) c.as_str.ensures.value) in
+    let b : IsBegun plan outside h.mid h.start d.row d.in_definition (purpose.Definition c.in-Definition.name c.in-Definition.entered) =
+    subst (λ q. IsBegun plan outside h.mid h.start d.row d.in_definition q) c.in-Definition.is h.begun in
+    let first : get_member k h.start.definitions ≡ Some (boolean false) =
+    ap (λ w. get_member k w.definitions) b.4 ∙ get_member-put k (boolean false) h.mid.definitions in
+    let there : get_member k now.definitions ≡ Some (boolean false) = h.step.stays k (boolean false) first in
+    let here : get_member k mid.definitions ≡ Some (boolean false) =
+    ap (λ w. get_member k w.definitions) c.leave-in-Definition.ensures ∙ there in
+    let x = left_fewer plan now mid _ c.leave-in-Definition.ensures in
+    let y = finished_fewer plan mid k s (boolean false) here in
+    let z = ap (missing plan.rows plan.contract) finished in
+    closing_replies plan outside old want now new d (reverse c.args.making.now.items) t h (omega (arith, x, y, z)) replied
+
+pub returns-in-Members-clause-replies : goal.returns-in-Members-clause-replies
+returns-in-Members-clause-replies g c = λ outside old want h.
+    let plan = plan_of c.args.plan.now in
+    let now = c.args.registry.now in
+    let d = c.args.document in
+    let s = c.in_ok-schema.schema in
+    let t = c.as_flattened.new.schema in
+    let filled = filled_made plan outside old want now d h c.requires.all_answered s c.requires.checked c.in_ok-schema.ensures in
+    closing_replies plan outside old want now now d (reverse c.args.making.now.items) t h (omega arith)
+    (closes_members plan outside old want now d h s filled c.in-Members.is_optional t c.in-Members.is
+    c.in_ok-as_flattened-in-Members.ensures)
+
+pub returns-then-not-must_be_in_place-clause-replies : goal.returns-then-not-must_be_in_place-clause-replies
+returns-then-not-must_be_in_place-clause-replies g c =
+    let plan = plan_of c.args.plan.now in
+    let now = c.args.registry.now in
+    let new = c.place_part.new.registry in
+    let d = c.args.document in
+    let s = c.in_ok-schema.schema in
+    let ds = reverse c.args.making.now.items in
+    let es = reverse c.place_part.new.making.items in
+    let fewer : missing plan.rows plan.contract now ≤ missing plan.rows plan.contract now = omega arith in
+    let low : measure_of_part plan now d.row < document_rank plan now now.pending d.row d.purpose =
+    subst (λ q. measure_of_part plan now d.row < document_rank plan now now.pending d.row q) (sym c.in-Content.is)
+    (content_to_part plan now now d.row fewer refl) in
+    IfOk-weaker c.place_part.result _ _ (λ o x outside old want h.
+    let filled = filled_made plan outside old want now d h c.requires.all_answered s c.requires.checked c.in_ok-schema.ensures in
+    let replied = closes_referred plan outside old want now d h s filled (is_inline_at plan.rows d.row || plan.inlines) new x.reply
+    c.in-Content.is refl (search rules) x.replied in
+    record {
+      reply = x.reply;
+      given = x.given;
+      replied = replied;
+      is_like = closing_less plan outside old want now new d ds x.reply (measure_of_part plan now d.row) h
+          (replied_fewer plan d.in_definition now (asked (part d.row)) new x.reply x.replied) replied x.is_like low;
+    }) c.place_part.ensures.replies
+
+pub returns-clause-replies : goal.returns-clause-replies
+returns-clause-replies g c = λ outside old want h.
+    let plan = plan_of c.args.plan.now in
+    let now = c.args.registry.now in
+    let d = c.args.document in
+    let s = c.in_ok-schema.schema in
+    let t = c.open_inside.new.schema in
+    let filled = filled_made plan outside old want now d h c.requires.all_answered s c.requires.checked c.in_ok-schema.ensures in
+    closing_replies plan outside old want now now d (reverse c.args.making.now.items) t h (omega arith)
+    (closes_content plan outside old want now d h s filled (is_inline_at plan.rows d.row || plan.inlines) t c.in-Content.is refl
+    (search rules) (search rules))

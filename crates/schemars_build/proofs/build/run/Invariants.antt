@@ -1,0 +1,11 @@
+use Rattle.std.proofs.Common.{reverse}
+use Rattle.schemars_build.specs.Making.{GoesOn, wanted}
+use Rattle.schemars_build.specs.Measure.{measure_of_turn}
+use Rattle.schemars_build.specs.Plans.{plan_of}
+use Rattle.schemars_build.proofs.build.run.Given as goal
+
+abbrev pub invariant-going : goal.invariant-going
+invariant-going g l = GoesOn (plan_of l.plan) l.in_definition l.fn.registry (wanted l.fn.request) l.registry (reverse l.making.items) l.answer
+
+abbrev pub decreases-going : goal.decreases-going
+decreases-going g l = measure_of_turn (plan_of l.plan) l.registry (reverse l.making.items) l.answer

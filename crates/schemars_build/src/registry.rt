@@ -1,0 +1,336 @@
+//! What documents are made into.
+ghost use Rattle.std.specs.Prelude.{ℕ, List, true, false, map, ◌≡◌, ◌∷◌, ◌++◌, ◌||◌, [], None, Some, length, IfOk, OnOk, OnErr, is_some, string_bytes, not, ◌&&◌, if◌then◌else◌};
+ghost use Rattle.serde_json.specs.Data.{boolean, put, no_members};
+ghost use Rattle.serde_json.specs.Find.{get_member, as_object};
+ghost use Rattle.serde_json.specs.View.{members_view};
+ghost use Rattle.schemars_schema.specs.Edits.{replaced};
+ghost use Rattle.schemars_build.specs.Naming.{name_of, IsOneToOne};
+ghost use Rattle.schemars_types.specs.declared.contract.Contract.{Contract};
+ghost use Rattle.schemars_build.specs.Placed.{is_pending, pending_in};
+ghost use Rattle.schemars_build.specs.Registry.{GivesNames, rolled_back, without_all, without_last};
+ghost use Rattle.std.specs.Borrow.{Lends, sem};
+ghost use Rattle.serde_json.specs.Rows.{map_row};
+
+use crate::names::Names;
+use crate::pending::Pending;
+use schemars_definitions::{Definitions, Objects};
+use schemars_schema::Schema;
+use schemars_types::{Contract, TypeNo, Types};
+use serde_json::{Map, Value};
+use std::alloc::{AllocError, Global};
+use std::marker::Model;
+
+/// The names and definitions that documents are made into, and what a call has added to them.
+#[derive(Drop)]
+pub struct Registry<D: Definitions> {
+    names: Names,
+    definitions: D,
+    begun: Vec<String>,
+    kept: usize,
+    has_root_reference: bool,
+    pending: Pending,
+}
+
+impl<D: Definitions> Model for Registry<D> {
+    ghost use Rattle.std.specs.Prelude.{◌≤◌, map, length, string_bytes};
+    ghost use Rattle.std.specs.Coded.{codes};
+    ghost use Rattle.schemars_schema.specs.DataCode.{members_code};
+    ghost use Rattle.schemars_build.specs.Registry as specs;
+
+    ghost Value = { specs.Registry };
+
+    ghost coded = { Prim.hlevel (codes, members_code) };
+
+    ghost view = { λ w. record {
+      names = w.names;
+      definitions = D.kept w.definitions;
+      begun = map string_bytes w.begun.items;
+      kept = w.kept;
+      has_root_reference = w.has_root_reference;
+      pending = w.pending;
+    } };
+
+    ghost invariant = { λ w. w.kept ≤ length w.names };
+}
+
+impl Clone for Registry<Objects> {
+    ghost use Rattle.std.specs.Prelude.{◌≡◌};
+
+    ghost is_clone = { λ v w. w ≡ v };
+
+    fn clone(&self) -> Result<Registry<Objects>, AllocError> {
+        Ok(Registry {
+            names: self.names.clone()?,
+            definitions: self.definitions.clone()?,
+            begun: self.begun.clone()?,
+            kept: self.kept,
+            has_root_reference: self.has_root_reference,
+            pending: self.pending.clone()?,
+        })
+    }
+}
+
+impl Registry<Objects> {
+    ghost use Rattle.schemars_build.specs.contracts.registry.Registry.{the_row};
+    ghost use Rattle.schemars_definitions.specs.contracts.objects.Objects.{the_row as objects_row};
+
+    /// No names and no definitions.
+    pub fn new(alloc: Global) -> Registry<Objects>
+        ensures { result ≡ record {
+          names = [];
+          definitions = no_members;
+          begun = [];
+          kept = 0;
+          has_root_reference = false;
+          pending = [];
+        } }
+    {
+        Registry {
+            names: Names::new(alloc),
+            definitions: Objects::new(alloc),
+            begun: Vec::new(alloc),
+            kept: 0,
+            has_root_reference: false,
+            pending: Pending::new(alloc),
+        }
+    }
+
+    /// The definitions.
+    pub fn definitions(&self) -> &Map<String, Value>
+        ensures { members_view result.now.entries ≡ self.now.definitions }
+    {
+        self.definitions.as_object()
+    }
+
+    /// The definitions, for writing.
+    pub fn definitions_mut(&mut self) -> &mut Map<String, Value>
+        ensures* writes_back { sem 𝓛 (Lends (the_row objects_row ⟦<Objects as Definitions>⟧) map_row
+            self.entry result (λ m. record self.old { definitions = members_view m.entries })) }
+        ensures value { members_view result.now.entries ≡ self.old.definitions }
+    {
+        self.definitions.as_object_mut()
+    }
+
+    /// A copy of the definitions.
+    pub fn copy_definitions(&self) -> Result<Map<String, Value>, AllocError>
+        ensures { IfOk result (λ m. members_view m.entries ≡ self.now.definitions) }
+    {
+        Ok(self.definitions.clone()?.into_object())
+    }
+
+    /// Takes the definitions.
+    pub fn take_definitions(&mut self, alloc: Global) -> Map<String, Value>
+        ensures taken { members_view result.entries ≡ self.old.definitions }
+        ensures rest { self.new ≡ record self.old { definitions = no_members } }
+    {
+        std::mem::replace(&mut self.definitions, Objects::new(alloc)).into_object()
+    }
+}
+
+impl<D: Definitions> Registry<D> {
+    /// Makes room for what is noted of this many rows.
+    pub fn extend(&mut self, rows: usize) -> Result<(), AllocError>
+        ensures { self.new ≡ self.old }
+    {
+        self.names.extend(rows)?;
+        self.pending.extend(rows)
+    }
+
+    /// Whether there is a definition of this name.
+    pub fn has_definition(&self, name: &str) -> bool
+        ensures { result ≡ is_some (get_member name.now self.now.definitions) }
+    {
+        self.definitions.contains_key(name)
+    }
+
+    /// The name of row `n`, which is given one if it has none.
+    pub fn name_for(
+        &mut self,
+        alloc: Global,
+        types: &Types,
+        contract: Contract,
+        n: TypeNo,
+    ) -> Result<String, AllocError>
+        ensures named { IfOk result (λ s. name_of n contract self.new.names
+            ≡ Some (string_bytes s)) }
+        ensures given { OnOk result (GivesNames types.now self.old.names self.new.names) }
+        ensures no_other { OnOk result ((m : ℕ) (c : Contract) (name : List ℕ)
+            → name_of m c self.old.names ≡ None
+            → name_of m c self.new.names ≡ Some name → (m ≡ n) × (c ≡ contract)) }
+        ensures rest { self.new ≡ record self.old { names = self.new.names } }
+        ensures rolled_back { rolled_back self.new ≡ rolled_back self.old }
+    {
+        if let Some(name) = self.names.get(n, contract) {
+            let name = String::from_str(alloc, name)?;
+            return Ok(name);
+        }
+        let base = types.name(n).unwrap_or("");
+        let name = self.names.give(alloc, n, contract, base)?;
+        Ok(name)
+    }
+
+    // Begins a definition, which is `false` until it is finished, unless there is one of this name.
+    // Answers whether it did. One that is likely to be there is looked for first.
+    pub(crate) fn begin_new(
+        &mut self,
+        alloc: Global,
+        name: &str,
+        is_likely: bool,
+    ) -> Result<bool, AllocError>
+        ensures is_new { IfOk result (λ b. b
+            ≡ not (is_some (get_member name.now self.old.definitions))) }
+        ensures begun { IfOk result (λ b. b ≡ true → self.new ≡ record self.old {
+          definitions = put name.now (boolean false) self.old.definitions;
+          begun = self.old.begun ++ name.now ∷ [];
+        }) }
+        ensures same { IfOk result (λ b. b ≡ false → self.new ≡ self.old) }
+        ensures err { OnErr result (self.new ≡ self.old) }
+    {
+        if is_likely && self.has_definition(name) {
+            return Ok(false);
+        }
+        self.begun.push(String::from_str(alloc, name)?)?;
+        let is_new = self.definitions.begin(alloc, name);
+        if !matches!(is_new, Ok(true)) {
+            let _ = self.begun.pop();
+        }
+        is_new
+    }
+
+    // Whether row `n` has a name.
+    pub(crate) fn is_named(&self, contract: Contract, n: TypeNo) -> bool {
+        self.names.get(n, contract).is_some()
+    }
+
+    /// Puts a definition that was begun in its place.
+    pub fn finish(&mut self, alloc: Global, name: &str, schema: Schema) -> Result<(), AllocError>
+        ensures ok { OnOk result (self.new
+            ≡ record self.old { definitions = replaced name.now schema self.old.definitions }) }
+        ensures err { OnErr result (self.new ≡ self.old) }
+    {
+        self.definitions.finish(alloc, name, schema)
+    }
+
+    /// Notes that the root was referred to, where a definition does so.
+    pub fn note_root_reference(&mut self, in_definition: bool)
+        ensures { self.new ≡ record self.old { has_root_reference = self.old.has_root_reference || in_definition } }
+    {
+        self.has_root_reference = self.has_root_reference || in_definition;
+    }
+
+    /// Whether a definition that was added refers to the root.
+    pub fn has_root_reference(&self) -> bool
+        ensures { result ≡ self.now.has_root_reference }
+    {
+        self.has_root_reference
+    }
+
+    /// Whether the document of row `n` is being made.
+    pub fn is_pending(&self, n: TypeNo) -> bool
+        ensures { result ≡ is_pending self.now.pending n }
+    {
+        self.pending.contains(n)
+    }
+
+    /// Notes, where rows are inlined, that the document of row `n` is being made. The answer is
+    /// whether it was not noted before.
+    pub fn enter(&mut self, inlines: bool, n: TypeNo) -> Result<bool, AllocError>
+        ensures is_new { IfOk result (λ b. b ≡ inlines && not (is_pending self.old.pending n)) }
+        ensures ok { OnOk result (self.new
+            ≡ record self.old { pending = pending_in inlines self.old.pending n }) }
+        ensures err { OnErr result (self.new ≡ self.old) }
+    {
+        if !inlines {
+            return Ok(false);
+        }
+        let is_new = self.pending.enter(n)?;
+        Ok(is_new)
+    }
+
+    /// Notes that the document of the row that was entered last is made, where one was.
+    pub fn leave(&mut self, entered: bool)
+        ensures { self.new
+            ≡ record self.old { pending = if entered then without_last self.old.pending else self.old.pending } }
+    {
+        if entered {
+            self.pending.leave();
+        }
+    }
+
+    /// Keeps what was added.
+    pub fn commit(&mut self)
+        ensures one_to_one { IsOneToOne self.old.names }
+        ensures kept { self.new ≡ record self.old { begun = []; kept = length self.old.names; has_root_reference = false } }
+    {
+        self.begun.clear();
+        self.kept = self.names.len();
+        self.has_root_reference = false;
+    }
+
+    /// Keeps the names that were added, and takes the definitions back.
+    pub fn discard_definitions(&mut self)
+        ensures one_to_one { IsOneToOne self.old.names }
+        ensures kept { self.new ≡ record self.old {
+          definitions = without_all self.old.begun self.old.definitions;
+          begun = [];
+          kept = length self.old.names;
+          has_root_reference = false;
+        } }
+    {
+        take_out(&mut self.definitions, &mut self.begun);
+        self.commit();
+    }
+
+    /// Takes back what was added.
+    pub fn roll_back(&mut self)
+        ensures { self.new ≡ rolled_back self.old }
+    {
+        self.names.truncate(self.kept);
+        self.pending.clear();
+        self.discard_definitions();
+    }
+
+    /// The store of the definitions.
+    pub fn into_store(self) -> D
+        ensures { D.kept result ≡ self.definitions }
+    {
+        let Registry { definitions, .. } = self;
+        definitions
+    }
+}
+
+impl<D: Definitions + Drop> Registry<D> {
+    /// The same work with another store, which keeps the same definitions.
+    pub fn with_store<E: Definitions>(self, store: E) -> Registry<E>
+        requires { E.kept store ≡ self.definitions }
+        ensures { result ≡ self }
+    {
+        let Registry {
+            names,
+            begun,
+            kept,
+            has_root_reference,
+            pending,
+            ..
+        } = self;
+        Registry {
+            names,
+            definitions: store,
+            begun,
+            kept,
+            has_root_reference,
+            pending,
+        }
+    }
+}
+
+// Removes the definitions of these names, the last first.
+fn take_out<D: Definitions>(definitions: &mut D, names: &mut Vec<String>)
+    ensures definitions { D.kept definitions.new
+        ≡ without_all (map string_bytes names.old.items) (D.kept definitions.old) }
+    ensures names { names.new.items ≡ [] }
+{
+    while let Some(name) = names.pop() {
+        definitions.remove(name.as_str());
+    }
+}
