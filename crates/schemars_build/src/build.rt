@@ -400,7 +400,8 @@ fn finish_document<'t, D: Definitions>(
     ensures replies { IfOk result (λ o. (outside : Bool) (old : specs.Registry) (want : Wanted)
         → IsInMaking (plan_of plan.now) outside old want registry.old document.entry
         → HasReplied (plan_of plan.now) outside old want (reverse making.old.items)
-        (IsLess (plan_of plan.now) registry.old document.entry (reverse making.old.items) registry.new)
+        (IsLess (plan_of plan.now) registry.old document.entry (reverse making.old.items)
+        registry.new)
         registry.new (reverse making.new.items) o) }
 {
     let Document {

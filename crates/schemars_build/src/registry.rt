@@ -213,7 +213,8 @@ impl<D: Definitions> Registry<D> {
 
     /// Notes that the root was referred to, where a definition does so.
     pub fn note_root_reference(&mut self, in_definition: bool)
-        ensures { self.new ≡ record self.old { has_root_reference = self.old.has_root_reference || in_definition } }
+        ensures { self.new ≡ record self.old
+            { has_root_reference = self.old.has_root_reference || in_definition } }
     {
         self.has_root_reference = self.has_root_reference || in_definition;
     }
@@ -250,7 +251,10 @@ impl<D: Definitions> Registry<D> {
     /// Notes that the document of the row that was entered last is made, where one was.
     pub fn leave(&mut self, entered: bool)
         ensures { self.new
-            ≡ record self.old { pending = if entered then without_last self.old.pending else self.old.pending } }
+            ≡ record self.old {
+              pending = if entered then without_last self.old.pending else
+                  self.old.pending;
+            } }
     {
         if entered {
             self.pending.leave();
@@ -260,7 +264,8 @@ impl<D: Definitions> Registry<D> {
     /// Keeps what was added.
     pub fn commit(&mut self)
         ensures one_to_one { IsOneToOne self.old.names }
-        ensures kept { self.new ≡ record self.old { begun = []; kept = length self.old.names; has_root_reference = false } }
+        ensures kept { self.new ≡ record self.old
+            { begun = []; kept = length self.old.names; has_root_reference = false } }
     {
         self.begun.clear();
         self.kept = self.names.len();
@@ -300,7 +305,7 @@ impl<D: Definitions> Registry<D> {
 }
 
 impl<D: Definitions + Drop> Registry<D> {
-    /// The same work with another store, which keeps the same definitions.
+    /// The same registry with another store, which keeps the same definitions.
     pub fn with_store<E: Definitions>(self, store: E) -> Registry<E>
         requires { E.kept store ≡ self.definitions }
         ensures { result ≡ self }

@@ -85,7 +85,7 @@ module _ {O : Type 0} (Q : TransformStep O) (ts us : Transforms O) (s : State) (
     headline = λ draft is. promised Q ts us R (λ x. RootHeadline (dialect_of x) s n) (λ e told x. all e told x) d made draft is;
   }
 
-  -- the document that leaves this work behind
+  -- the document that leaves this registry behind
   pub root_made : (w : Registry) (new : State) (d : Data) → IsChecked s.rows
       → new ≡ record s { names = w.names; definitions = w.definitions } → IsThrough (ApplyInOrder Q) ts us (IsRootMade s n w) d
       → IsRootInTable Q ts us s n (IsUntransformedCall s n new) d

@@ -36,7 +36,7 @@ use Rattle.schemars_headline.proofs.Roots.{root_placed, root_call_means}
 
 -- ---- definitions between calls
 
--- references that are known in another work too
+-- references that are known in another registry too
 definition-moved : (plan other : Plan) (old new : Registry) → plan.rows ≡ other.rows → plan.contract ≡ other.contract
     → plan.titles ≡ other.titles → plan.inlines ≡ other.inlines
     → ((n : ℕ) (name : Text) → name_of n plan.contract old.names ≡ Some name → name_of n other.contract new.names ≡ Some name)
@@ -178,7 +178,7 @@ reference_of_part s n d (inl (r, (inl h, e), same)) apart = cc
 reference_of_part s n d (inl (r, (inr h, e), same)) apart = (h.0, h.1, h.2, same ∙ ap reference h.3)
 reference_of_part s n d (inr h) apart = absurd (true≢false (sym h.1 ∙ apart))
 
--- what a call leaves of its work
+-- what a call leaves of its registry
 abbrev left_by : State → Registry → Registry
 left_by s w = registry_of (record s { names = w.names; definitions = w.definitions })
 

@@ -202,7 +202,8 @@ fn add_shape_enums(
     found: &mut Vec<TypeNo>,
 ) -> Result<(), AllocError>
     ensures { OnOk result (found.new.items ≡ found.old.items
-        ++ shape_enums (λ p. enums_within types.now steps (without_options types.now p.ty)) n (shape_of shape.now)) }
+        ++ shape_enums (λ p. enums_within types.now steps (without_options types.now p.ty)) n
+        (shape_of shape.now)) }
 {
     match shape {
         Shape::Struct(fields) => add_enums(types, steps, &fields.flatten, found),

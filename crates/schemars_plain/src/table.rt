@@ -87,7 +87,8 @@ fn are_named_and_plain(
     variants: &[Variant],
 ) -> Result<bool, AllocError>
     ensures { IfOk result (λ b. b ≡ (all_differ (names_of_variants (map variant_of variants.now))
-        && are_plain_variants (map (expanded_variant_in types.now) (map variant_of variants.now)))) }
+        && are_plain_variants (map (expanded_variant_in types.now)
+        (map variant_of variants.now)))) }
 {
     if !names_differ(alloc, variants)? {
         return Ok(false);
