@@ -1,5 +1,5 @@
 -- The first rows, in the words of slots.
-use Rattle.std.proofs.Common.{◌≡◌, ◌∙◌, ap, sym, subst, take, map}
+use Rattle.std.proofs.Common.{◌∙◌, ap, sym, subst, take, map}
 use Rattle.std.proofs.lemmas.List.{take-map}
 use Rattle.schemars_types.specs.Edges.{RefersWithin}
 use Rattle.schemars_types.specs.Slots.{row_of}
