@@ -15,7 +15,7 @@ pub use fields::{
     OPTIONAL, READ_OPTIONAL, REQUIRED, add_field, add_field_of, add_flattened, flat_entry,
     struct_entry,
 };
-pub use impls::parts::{add_number, add_one};
+pub use impls::tuple::parts::{add_number, add_one};
 pub use law::{JsonSchema, register};
 pub use notes::{note_entry, note_field, note_internal_variant, note_variant};
 pub use own_fields::{add_array_of, add_map_of, add_option_of, add_own, add_seq_of, add_set_of};

@@ -9,7 +9,7 @@ ghost use Rattle.schemars_impls.specs.Keeps.{Keeps};
 ghost use Rattle.schemars_impls.specs.Dictionary.{IsIn, KeepsTo, RefusesAs};
 ghost use Rattle.schemars_impls.specs.Containers.{map_row};
 
-use crate::impls::parts::register_two;
+use crate::impls::tuple::parts::register_two;
 use crate::law::{JsonSchema, entry};
 use schemars_types::{Shape, TypeEntry, Types, TypesError};
 use std::alloc::{AllocError, Global};

@@ -3,6 +3,10 @@ ghost use Rattle.std.specs.Prelude.{codes, true};
 ghost use Rattle.schemars_shapes.specs.Shape.{Shape as shape, in_place};
 ghost use Rattle.schemars_impls.specs.Dictionary.{alone};
 
+mod floats;
+mod integers;
+mod net;
+
 use crate::law::{JsonSchema, entry};
 use schemars_types::{Shape, TypeEntry, Types, TypesError};
 use std::alloc::{AllocError, Global};

@@ -9,7 +9,7 @@ ghost use Rattle.schemars_impls.specs.Describes.{IsMade, OfTwo};
 ghost use Rattle.schemars_impls.specs.Keeps.{Keeps};
 ghost use Rattle.schemars_impls.specs.Dictionary.{IsIn, KeepsTo, RefusesAs, of_two};
 
-use crate::impls::parts::register_two;
+use crate::impls::tuple::parts::register_two;
 use crate::law::{JsonSchema, entry};
 use schemars_types::{Field, Fields, Required, Shape, TypeEntry, TypeNo, Types, TypesError};
 use serde_json::Map;

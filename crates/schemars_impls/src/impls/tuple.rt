@@ -10,8 +10,9 @@ ghost use Rattle.schemars_impls.specs.Dictionary.{KeepsTo, RefusesAs};
 ghost use Rattle.schemars_impls.specs.Containers.{tuple_row};
 
 mod long;
+pub(crate) mod parts;
 
-use crate::impls::parts::{And, Nil, Parts};
+use crate::impls::tuple::parts::{And, Nil, Parts};
 use crate::law::{JsonSchema, entry};
 use schemars_types::{Shape, TypeEntry, Types, TypesError};
 use std::alloc::{AllocError, Global};

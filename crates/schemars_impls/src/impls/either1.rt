@@ -4,7 +4,7 @@ ghost use Rattle.schemars_shapes.specs.Shape.{Shape as shape, in_place};
 ghost use Rattle.schemars_types.specs.Names.{either_id, either_name};
 ghost use Rattle.schemars_impls.specs.Dictionary.{of_two};
 
-use crate::impls::parts::register_two;
+use crate::impls::tuple::parts::register_two;
 use crate::law::{JsonSchema, entry};
 use either::Either;
 use schemars_types::{Shape, TypeEntry, Types, TypesError};

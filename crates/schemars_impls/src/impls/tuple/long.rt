@@ -1,8 +1,8 @@
 //! Tuples of nine parts to sixteen.
 ghost use Rattle.schemars_impls.specs.Containers.{tuple_row};
 
-use crate::impls::parts::{And, Parts};
-use crate::impls::tuples::{Of8, entry_of_all, id_of, name_of};
+use crate::impls::tuple::parts::{And, Parts};
+use crate::impls::tuple::{Of8, entry_of_all, id_of, name_of};
 use crate::law::JsonSchema;
 use schemars_types::{TypeEntry, Types, TypesError};
 use std::alloc::{AllocError, Global};

@@ -4,7 +4,7 @@ ghost use Rattle.schemars_shapes.specs.Shape.{Shape as shape, in_place};
 ghost use Rattle.schemars_impls.specs.Dictionary.{alone};
 ghost use Rattle.schemars_impls.specs.Floats.{float_schema};
 
-use crate::impls::foreign::identifiers::insert_text;
+use crate::impls::literals::insert_text;
 use crate::law::{JsonSchema, entry};
 use schemars_schema::Schema;
 use schemars_types::{Shape, TypeEntry, Types, TypesError};

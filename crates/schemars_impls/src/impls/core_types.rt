@@ -5,7 +5,7 @@ ghost use Rattle.schemars_types.specs.Names.{result_id, result_name, bound_id, b
 ghost use Rattle.schemars_impls.specs.Dictionary.{alone, of_one, of_two};
 ghost use Rattle.schemars_impls.specs.Containers.{option_row};
 
-use crate::impls::parts::register_two;
+use crate::impls::tuple::parts::register_two;
 use crate::law::{JsonSchema, entry, register};
 use schemars_types::{Shape, TypeEntry, Types, TypesError};
 use std::alloc::{AllocError, Global};
