@@ -34,6 +34,17 @@ pub record Registry : Type 0 where
   -- the rows whose documents are being made, where rows are inlined
   pub pending : List ℕ
 
+-- between calls, with these names and definitions
+abbrev pub idle_registry : Naming → Members → Registry
+idle_registry names definitions = record {
+  names = names;
+  definitions = definitions;
+  begun = [];
+  kept = length names;
+  has_root_reference = false;
+  pending = [];
+}
+
 -- ---- references
 
 abbrev pub IsKey : Text → Members → Type 0

@@ -7,13 +7,13 @@ use Rattle.schemars_types.specs.declared.error.TypesError.{TypesError}
 use Rattle.schemars_impls.specs.Describes.{entry_under}
 use Rattle.schemars_impls.specs.Dictionary.{TypeRow, IsIn, IsAdded, KeepsTo, RefusesAs}
 use Rattle.schemars_build.specs.Naming.{IsOneToOne}
-use Rattle.schemars_build.specs.Registry.{Registry}
+use Rattle.schemars_build.specs.Registry.{Registry, idle_registry}
 use Rattle.schemars_walk.specs.Walk.{TransformStep}
 use Rattle.schemars_headline.specs.Drafts.{Draft, dialect_of}
 use Rattle.schemars_headline.specs.Headline.{RootHeadline, Headline, IsDraftPath, SubschemaHeadline}
 use Rattle.schemars_headline.specs.State.{State, Settings, HasOwnDefinitions, stripped}
 use Rattle.schemars_generate.specs.Refusals.{error_of}
-use Rattle.schemars_generate.specs.Generator.{Transforms, held_registry}
+use Rattle.schemars_generate.specs.Generator.{Transforms}
 use Rattle.schemars_generate.specs.Settings.{transforms_for}
 use Rattle.schemars_generate.specs.Answers.{IsSubschemaFor}
 use Rattle.schemars_generate.specs.Through.{IsTransformed, IsRootRefusal, IsUntransformedCall}
@@ -43,7 +43,7 @@ pub record AreHeld (rows : List Row) (w : Registry) : Type 0 where
   pub checked : IsChecked rows
   pub ids : HasDistinctIds rows
   pub one_to_one : IsOneToOne w.names
-  pub between : w ≡ held_registry w.names w.definitions
+  pub between : w ≡ idle_registry w.names w.definitions
 
 -- the transforms made the document of row n, of which R holds before them, in this table
 pub record IsRootInTable {O : Type 0} (Q : TransformStep O) (ts us : Transforms O) (s : State) (n : ℕ) (R : Data → Type 0) (d : Data)

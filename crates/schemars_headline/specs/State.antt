@@ -8,7 +8,7 @@ use Rattle.schemars_types.specs.Rows.{Row}
 use Rattle.schemars_types.specs.declared.contract.Contract.{Contract}
 use Rattle.schemars_types.specs.declared.contract.Contract.TheVariants.{Deserialize}
 use Rattle.schemars_build.specs.Naming.{Naming}
-use Rattle.schemars_build.specs.Registry.{Plan, Registry, IsKey, AreDefinitions, reference_to}
+use Rattle.schemars_build.specs.Registry.{Plan, Registry, idle_registry, IsKey, AreDefinitions, reference_to}
 
 pub record Settings : Type 0 where
   pub definitions_path : Text
@@ -57,14 +57,7 @@ path_of s = stripped s.settings.definitions_path
 -- ---- between calls
 
 abbrev pub registry_of : State → Registry
-registry_of s = record {
-  names = s.names;
-  definitions = s.definitions;
-  begun = [];
-  kept = length s.names;
-  has_root_reference = false;
-  pending = [];
-}
+registry_of s = idle_registry s.names s.definitions
 
 abbrev pub state_plan : State → Option ℕ → Plan
 state_plan s root = record {

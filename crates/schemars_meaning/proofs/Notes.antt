@@ -110,7 +110,7 @@ ready-agree ms ns noted e once (inl p) = inl (
       e (codes "$ref") refl,
       e (codes "not") refl,
     ) (p.0 dialect draft).combined;
-    matches_of = λ stays. absurd (noted-not_choice ms noted stays);
+    offers = λ stays. absurd (noted-not_choice ms noted stays);
   },
   ap (λ o. is_text (codes "null") (option_and_then as_str o)) (e (codes "type") refl) ∙ p.1,
 )
@@ -132,7 +132,7 @@ ready-members_in : (s : Data) → IsReady s → IsReady (object (members_in s))
 ready-members_in (boolean true) r =
     inr (record { alone = refl; type_form = tt; values = inl refl; not_form = inl refl })
 ready-members_in (boolean false) r =
-    inl (λ dialect draft. record { combined = refl; matches_of = λ stays. absurd (true≢false (sym stays)) }, refl)
+    inl (λ dialect draft. record { combined = refl; offers = λ stays. absurd (true≢false (sym stays)) }, refl)
 ready-members_in (object ms) r = r
 ready-members_in _ r = absurd r
 

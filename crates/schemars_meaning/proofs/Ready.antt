@@ -55,11 +55,11 @@ tuple_ready (t ∷ ts) = inr (record { alone = refl; type_form = refl; values = 
 
 pub one_of_ready : (ts : List Data) (s : Data) → s ≡ one_of_document ts → IsReady s
 one_of_ready ts s is =
-    rw is (inl (λ dialect draft. record { combined = refl; matches_of = λ stays. absurd (true≢false (sym stays)) }, refl))
+    rw is (inl (λ dialect draft. record { combined = refl; offers = λ stays. absurd (true≢false (sym stays)) }, refl))
 
 pub any_of_ready : (ts : List Data) → AreReady ts → IsReady (any_of_document ts)
 any_of_ready ts r = inl (
-  λ dialect draft. record { combined = refl; matches_of = λ stays. some_accepts_null dialect draft ts r stays },
+  λ dialect draft. record { combined = refl; offers = λ stays. some_accepts_null dialect draft ts r stays },
   refl,
 )
 
@@ -73,4 +73,4 @@ fields_ready W contract list closed s d = subst IsReady (sym d.is) (ready-noted_
 
 pub reference_ready : (r : Text) → IsReady (reference r)
 reference_ready r =
-    inl (λ dialect draft. record { combined = refl; matches_of = λ stays. absurd (true≢false (sym stays)) }, refl)
+    inl (λ dialect draft. record { combined = refl; offers = λ stays. absurd (true≢false (sym stays)) }, refl)

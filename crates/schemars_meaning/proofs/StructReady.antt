@@ -37,7 +37,7 @@ module _ (es : List Keyword) (ns : List Text) (ps : Parts) (closed : Bool) (ms :
   struct_choice : has_parts ps ≡ true → (dialect : Dialect) → IsChoice dialect ms
   struct_choice parts dialect = record {
     combined = combined ∙ parts;
-    matches_of = λ stays. absurd (true≢false (sym stays
+    offers = λ stays. absurd (true≢false (sym stays
         ∙ (ap (λ o. has_one_member (object ms) && offers_null o) (form.at (codes "anyOf") refl) ∙ and-false (has_one_member (object ms)))));
   }
 
