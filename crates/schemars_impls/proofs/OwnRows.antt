@@ -100,6 +100,25 @@ array-known id rows n len there = by (len == 0)
     by true = refl
     by false = known-alone id rows n there
 
+-- what a search for the id of such a row found
+pub found_at : (rows : List Row) {asked made_id : Text} {o : Option ℕ} → asked ≡ made_id → o ≡ place_of asked rows → (found : Option ℕ)
+    → o ≡ found → place_of made_id rows ≡ found
+found_at rows is at found same = ap (λ i. place_of i rows) (sym is) ∙ sym at ∙ same
+
+-- such a row is made by a constructor that takes the reserved row's id and name from the table
+module _ (id name : Text) (made_id made_name : Text → Text) (make : ℕ → Entry) (old mid : List Row) (part : ℕ)
+    (mid_is : mid ≡ reserved id name old) (place : place_of id mid ≡ Some part) (none : place_of (made_id id) mid ≡ None) where
+  pub row-added : (new : List Row) (n : ℕ) → Registers (made_id (id_at mid part)) (made_name (name_at mid part)) (make part) mid new n
+      → HasRowOf id name (made_id id) made_name make old new n
+  row-added new n r = row-made id name (made_id id) made_name make old mid part mid_is place new n none
+      (subst (λ i. Registers (made_id i) (made_name (name_at mid part)) (make part) mid new n) (id-there id part mid place) r)
+
+pub added-memory : (id : Text) (made_id : Text → Text) (x : Entry) (mid : List Row) (part : ℕ) (e : TypesError)
+    → place_of id mid ≡ Some part → place_of (made_id id) mid ≡ None → unknown_in mid x.shape ≡ None
+    → Refuses (made_id (id_at mid part)) x mid e → e ≡ OutOfMemory
+added-memory id made_id x mid part e place none known r =
+    made-memory (made_id id) x mid e none known (subst (λ i. Refuses (made_id i) x mid e) (id-there id part mid place) r)
+
 -- ---- in the words of the law
 
 pub self_reserved : (t : TypeRow) (d : Dictionary) → IsInPart t d → IsReserved t.id t.name d
