@@ -7,6 +7,7 @@ ghost use Rattle.schemars_impls.specs.Dictionary.{IsIn, own};
 ghost use Rattle.schemars_impls.specs.OwnRows.{IsOptionOf, IsSeqOf};
 
 use crate::line::line_of;
+use crate::own_enums::own_enum;
 use schemars::impls::{
     JsonSchema, OPTIONAL, REQUIRED, add_field, add_option_of, add_seq_of, register, struct_entry,
 };
@@ -169,6 +170,6 @@ pub(crate) fn own_type(alloc: Global, of: &str) -> Result<String, GenerateError>
         "Author" => line_of::<Author>(alloc),
         "Author beside Book" => document_of::<Author>(alloc),
         "Book beside Author" => document_of::<Book>(alloc),
-        _ => Ok(String::from_str(alloc, "no such type")?),
+        _ => own_enum(alloc, of),
     }
 }

@@ -6,7 +6,7 @@ use Rattle.schemars_types.specs.declared.error.TypesError.{TypesError}
 use Rattle.schemars_types.specs.Rows.{Row, place_of}
 use Rattle.schemars_impls.specs.Dictionary.{Dictionary, TypeRow, IsInPart, KeepsTo, RefusesAs, Describes, RefusesPart}
 use Rattle.schemars_types.proofs.Registered.{nat_le-above, place_of-below}
-use Rattle.schemars_impls.specs.Fields.{FieldsAreKnown, NumbersAreKnown, PartsAreKnown, VariantsAreKnown, bare_variant, plain_field, part}
+use Rattle.schemars_impls.specs.Fields.{FieldsAreKnown, NumbersAreKnown, PartsAreKnown, VariantsAreKnown, bare_variant, fields_with, plain_field, part}
 use Rattle.schemars_impls.specs.Keeps.{Keeps, KeepsRows}
 use Rattle.schemars_impls.proofs.Keeping.{keeps-refl, keeps-same, numbers-kept, known-one, place_of-kept, reserved_keeps}
 use Rattle.schemars_impls.proofs.Placing.{known_more, place_added, adds_none, adds_then, adds_placed}
@@ -123,6 +123,14 @@ pub flat_known : (rows : List Row) (fields : List Field) (parts : List Flattened
     → find (λ m. nat_le (length rows) m) (map (λ f. f.ty) fields ++ map (λ p. p.ty) parts) ≡ None
 flat_known rows fields parts h k = both_known (length rows) (map (λ f. f.ty) fields) (map (λ p. p.ty) parts) h.known k.known
 
+pub flat_struct_added : (rows : List Row) (before after : List Variant) (name : Text) (fields : List Field) (parts : List Flattened)
+    (closed : Bool) → FieldsAreKnown rows fields → PartsAreKnown rows parts
+    → after ≡ before ++ bare_variant name (struct_payload (fields_with fields parts closed)) ∷ []
+    → VariantsAreKnown rows before → VariantsAreKnown rows after
+flat_struct_added rows before after name fields parts closed known parts_known is h =
+    variant_added rows before after (bare_variant name (struct_payload (fields_with fields parts closed)))
+    (flat_known rows fields parts known parts_known) is h
+
 -- ---- numbers
 
 pub no_numbers : (rows : List Row) → NumbersAreKnown rows []
@@ -173,6 +181,7 @@ pub ruleset adding = (
   newtype_added,
   tuple_added,
   struct_added,
+  flat_struct_added,
   flat_known,
   reserve_follows,
   row_of_keeps,

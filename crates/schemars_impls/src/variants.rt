@@ -2,17 +2,17 @@
 #![tactic(auto, using(crate::proofs::OwnTypes::adding))]
 
 ghost use Rattle.std.specs.Prelude.{◌≡◌, ◌++◌, List, [], ◌∷◌, None, Some, IfErr, OnErr, OnOk, false, map, option_map, string_bytes};
-ghost use Rattle.schemars_shapes.specs.Shape.{Shape as shape, Tagging as tagging, bare_fields, entry_of, field_of, internal_payload_of, internal_variant_of, newtype_payload, no_payload, payload_of, shape_of, struct_payload, tuple_payload, variant_of, without_notes};
+ghost use Rattle.schemars_shapes.specs.Shape.{Shape as shape, Tagging as tagging, bare_fields, entry_of, field_of, flattened_of, internal_payload_of, internal_variant_of, newtype_payload, no_payload, payload_of, shape_of, struct_payload, tuple_payload, variant_of, without_notes};
 ghost use Rattle.schemars_types.specs.Rows.{Row, place_of, unknown_in};
 ghost use Rattle.schemars_impls.specs.Dictionary.{IsIn, KeepsTo, RefusesAs};
-ghost use Rattle.schemars_impls.specs.Fields.{bare_variant, FieldsAreKnown, NumbersAreKnown, VariantsAreKnown};
+ghost use Rattle.schemars_impls.specs.Fields.{bare_variant, fields_with, FieldsAreKnown, NumbersAreKnown, PartsAreKnown, VariantsAreKnown};
 ghost use Rattle.schemars_impls.specs.Keeps.{Keeps};
 ghost use Rattle.schemars_impls.specs.OwnRows.{RefusesNumbers};
 
 use crate::law::{JsonSchema, entry, register};
 use schemars_types::{
-    Adjacent, Field, Fields, Internal, InternalPayload, InternalVariant, Payload, Shape, TypeEntry,
-    TypeNo, Types, TypesError, Variant,
+    Adjacent, Field, Fields, Flattened, Internal, InternalPayload, InternalVariant, Payload, Shape,
+    TypeEntry, TypeNo, Types, TypesError, Variant,
 };
 use serde_json::Map;
 use std::alloc::{AllocError, Global};
@@ -111,6 +111,38 @@ pub fn add_struct(
     let fields = Fields {
         list: fields,
         flatten: Vec::new(alloc),
+        closed,
+    };
+    push_variant(alloc, variants, name, Payload::Struct(fields))?;
+    Ok(())
+}
+
+/// Adds a variant with these fields, and the members of these rows, behind the others.
+///
+/// # Errors
+///
+/// `AllocError`. The variants are then unchanged.
+pub fn add_flat_struct(
+    alloc: Global,
+    variants: &mut Vec<Variant>,
+    name: &str,
+    fields: Vec<Field>,
+    flatten: Vec<Flattened>,
+    closed: bool,
+) -> Result<(), AllocError>
+    ensures adds { OnOk result (map variant_of variants.new.items
+        ≡ map variant_of variants.old.items ++ bare_variant name.now (struct_payload
+        (fields_with (map field_of fields.items) (map flattened_of flatten.items) closed)) ∷ []) }
+    ensures known { OnOk result ((rows : List Row)
+        → FieldsAreKnown rows (map field_of fields.items)
+        → PartsAreKnown rows (map flattened_of flatten.items)
+        → VariantsAreKnown rows (map variant_of variants.old.items)
+        → VariantsAreKnown rows (map variant_of variants.new.items)) }
+    ensures unchanged { OnErr result (variants.new.items ≡ variants.old.items) }
+{
+    let fields = Fields {
+        list: fields,
+        flatten,
         closed,
     };
     push_variant(alloc, variants, name, Payload::Struct(fields))?;
@@ -249,6 +281,66 @@ pub fn add_internal_newtype<T: JsonSchema>(
 {
     let ty = register::<T>(alloc, types)?;
     push_internal(alloc, variants, name, InternalPayload::Newtype(ty))?;
+    Ok(())
+}
+
+/// Adds a variant that has the members of the type with this number behind the others.
+///
+/// # Errors
+///
+/// `OutOfMemory`, or `UnknownType` if the table has no such row. The variants are then unchanged.
+pub fn add_internal_newtype_of(
+    alloc: Global,
+    types: &Types,
+    variants: &mut Vec<InternalVariant>,
+    name: &str,
+    ty: TypeNo,
+) -> Result<(), TypesError>
+    ensures known { OnOk result
+        (VariantsAreKnown types.now (map internal_variant_of variants.old.items)
+        → VariantsAreKnown types.now (map internal_variant_of variants.new.items)) }
+    ensures adds { OnOk result (map internal_variant_of variants.new.items
+        ≡ map internal_variant_of variants.old.items
+        ++ bare_variant name.now (newtype_payload ty) ∷ []) }
+    ensures unchanged { OnErr result (variants.new.items ≡ variants.old.items) }
+    ensures refused { IfErr result (RefusesNumbers types.now (ty ∷ [])) }
+{
+    if types.len() <= ty {
+        return Err(TypesError::UnknownType(ty));
+    }
+    push_internal(alloc, variants, name, InternalPayload::Newtype(ty))?;
+    Ok(())
+}
+
+/// Adds a variant with these fields, and the members of these rows, behind the others.
+///
+/// # Errors
+///
+/// `AllocError`. The variants are then unchanged.
+pub fn add_internal_flat_struct(
+    alloc: Global,
+    variants: &mut Vec<InternalVariant>,
+    name: &str,
+    fields: Vec<Field>,
+    flatten: Vec<Flattened>,
+    closed: bool,
+) -> Result<(), AllocError>
+    ensures adds { OnOk result (map internal_variant_of variants.new.items
+        ≡ map internal_variant_of variants.old.items ++ bare_variant name.now (struct_payload
+        (fields_with (map field_of fields.items) (map flattened_of flatten.items) closed)) ∷ []) }
+    ensures known { OnOk result ((rows : List Row)
+        → FieldsAreKnown rows (map field_of fields.items)
+        → PartsAreKnown rows (map flattened_of flatten.items)
+        → VariantsAreKnown rows (map internal_variant_of variants.old.items)
+        → VariantsAreKnown rows (map internal_variant_of variants.new.items)) }
+    ensures unchanged { OnErr result (variants.new.items ≡ variants.old.items) }
+{
+    let fields = Fields {
+        list: fields,
+        flatten,
+        closed,
+    };
+    push_internal(alloc, variants, name, InternalPayload::Struct(fields))?;
     Ok(())
 }
 
