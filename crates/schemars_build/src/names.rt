@@ -256,6 +256,9 @@ fn extend(places: &mut Vec<Places>, n: TypeNo) -> Result<(), AllocError>
     ensures same { (m : ℕ) (d : Contract)
         → place_of_owner m d places.new.items ≡ place_of_owner m d places.old.items }
 {
+    if let Some(more) = n.checked_sub(places.len()) {
+        places.reserve(more.saturating_add(1))?;
+    }
     'growing: while places.len() <= n {
         places.push(NOWHERE)?;
     }

@@ -111,6 +111,9 @@ fn extend(marks: &mut Vec<usize>, n: TypeNo) -> Result<(), AllocError>
     ensures same { (m i : ℕ) → slice_get marks.old.items m ≡ Some i
         → slice_get marks.new.items m ≡ Some i }
 {
+    if let Some(more) = n.checked_sub(marks.len()) {
+        marks.reserve(more.saturating_add(1))?;
+    }
     'growing: while marks.len() <= n {
         marks.push(0)?;
     }
