@@ -11,6 +11,7 @@ mod macros;
 pub mod schema;
 pub mod transform;
 pub mod types;
+pub mod validate;
 
 pub use impls::JsonSchema;
 pub use schema::Schema;
