@@ -1,21 +1,14 @@
 -- How the recursion that makes documents goes down.
 use Rattle.std.proofs.Common.{◌≡◌, ◌<◌, ◌≤◌, ◌+◌, ◌*◌, ◌∙◌, ℕ, zero, suc, List, [], ◌∷◌, ◌++◌, length, Bool, true, false, Some, refl, ap, sym, subst, arith, Contains, inl, inr}
-use Rattle.std.specs.Prelude.{if◌then◌else◌, ◌||◌, ◌&&◌, not, nat_eq}
-use Rattle.std.specs.Option.{option_map_or}
+use Rattle.schemars_build.proofs.Words.{if◌then◌else◌, ◌||◌, ◌&&◌, not, nat_eq, option_map_or, nat_tests, Entry, Row, entry_at, is_inline_at, IsChecked, is_pending, pending_in, is_in_place, Plan, Registry, Ask, part, members_of, content, missing, IsAskedIn, measure_of_part, measure_of_own_document, measure_of_filled, measure_of_asked}
 use Rattle.std.proofs.Math.Nat.{mul-le-mul_right}
 use Rattle.std.proofs.lemmas.List.Folds.{list_any-append}
-use Rattle.std.proofs.lemmas.Bool.Decides.{nat_tests}
 use Rattle.indexmap.specs.IndexSet.{insert_key}
-use Rattle.schemars_shapes.specs.Shape.{Entry, numbers_of}
-use Rattle.schemars_types.specs.Rows.{Row, entry_at}
-use Rattle.schemars_types.specs.Edges.{numbers_at, is_inline_at, asked_in, asked_at, height}
-use Rattle.schemars_types.specs.Faults.{IsChecked}
-use Rattle.schemars_build.specs.Placed.{is_pending, pending_in, is_in_place}
-use Rattle.schemars_build.specs.Registry.{Plan, Registry}
-use Rattle.schemars_documents.specs.Template.{Ask, part, members_of, content}
+use Rattle.schemars_shapes.specs.Shape.{numbers_of}
+use Rattle.schemars_types.specs.Edges.{numbers_at, asked_in, asked_at, height}
 use Rattle.schemars_documents.specs.Describes.{without_options}
-use Rattle.schemars_build.specs.Missing.{failing_below, missing, idle, depth_in_place, IsLower, IsAskedIn}
-use Rattle.schemars_build.specs.Measure.{width, places, measure_of_definition, measure_of_part, measure_of_own_document, measure_of_filled, measure_of_members, measure_of_content, measure_of_asked}
+use Rattle.schemars_build.specs.Missing.{failing_below, idle, depth_in_place, IsLower}
+use Rattle.schemars_build.specs.Measure.{width, places, measure_of_definition, measure_of_members, measure_of_content}
 use Rattle.schemars_build.proofs.Counting.{failing-fewer, failing-less}
 use Rattle.schemars_meaning.proofs.Following.{closer}
 

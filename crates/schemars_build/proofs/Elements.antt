@@ -1,7 +1,6 @@
 -- Elements of lists by their place.
 use Rattle.std.proofs.Common.{◌≡◌, ◌++◌, ◌∷◌, [], ◌∙◌, ◌||◌, ℕ, zero, suc, List, Bool, true, false, Some, inl, inr, refl, sym, ap, length, take, slice_get, true≢false}
-use Rattle.std.specs.Prelude.{◌⊎◌}
-use Rattle.std.specs.List.{list_any}
+use Rattle.schemars_build.proofs.Words.{◌⊎◌, list_any}
 use Rattle.std.proofs.lemmas.Bool.{or_parts}
 
 pub at_in_take : {A : Type 0} (k : ℕ) (xs : List A) (i : ℕ) (x : A) → slice_get (take k xs) i ≡ Some x → slice_get xs i ≡ Some x

@@ -1,33 +1,19 @@
 -- How the list of documents that wait comes to an end.
 use Rattle.std.proofs.Common.{◌≡◌, ◌<◌, ◌≤◌, ◌+◌, ◌*◌, ◌∙◌, ◌^◌, ℕ, zero, suc, List, [], ◌∷◌, length, map, Bool, true, false, Some, None, refl, ap, sym, subst, arith, string_bytes, get_or, All}
-use Rattle.std.specs.Prelude.{if◌then◌else◌, nat_eq}
-use Rattle.std.proofs.lemmas.Bool.Decides.{nat_tests}
-use Rattle.std.specs.Option.{option_map_or}
+use Rattle.schemars_build.proofs.Words.{if◌then◌else◌, nat_eq, nat_tests, option_map_or, length-append, Data, get_member, Text, IsChecked, name_of, pending_in, Plan, Registry, Step, basis_of_plan, without_last, Ask, asks_of, ask_of, entry_template, IsAskedIn, measure_of_own_document, measure_of_part, measure_of_filled, measure_of_asked, document_rank, IsWithin, Wanted, IsBegun, IsTemplate, IsOpened, IsInMaking, HasAnswered, IsRepliedBy, HasReplied, answer, document, get_member-replaced_other, get_member-replaced}
 use Rattle.std.proofs.Math.Nat.{mul-le-mul_right, mul-le-mul_left, pow-le-pow_right, pow-succ', one-le-pow}
-use Rattle.std.proofs.lemmas.List.{length-append, length-map, get_or-map}
-use Rattle.serde_json.specs.Data.{Data}
-use Rattle.serde_json.specs.Find.{get_member}
-use Rattle.schemars_schema.specs.Json.{Text}
-use Rattle.schemars_types.specs.Faults.{IsChecked}
-use Rattle.schemars_build.specs.Naming.{name_of}
-use Rattle.schemars_build.specs.Placed.{pending_in}
-use Rattle.schemars_build.specs.Registry.{Plan, Registry, Step, basis_of_plan, without_last}
-use Rattle.schemars_documents.specs.Template.{Ask, asks_of}
-use Rattle.schemars_documents.specs.View.{ask_of}
-use Rattle.schemars_documents.specs.OfShape.{entry_template}
+use Rattle.std.proofs.lemmas.List.{length-map, get_or-map}
 use Rattle.schemars_documents.specs.declared.template.Ask as src-ask
-use Rattle.schemars_build.specs.Missing.{missing, IsAskedIn}
-use Rattle.schemars_build.specs.Measure.{measure_of_own_document, measure_of_part, width, places, measure_of_filled, measure_of_asked, asks_at, sum_below, breadth, document_rank, weight, unanswered_in, pending_around, left_waiting, left_going, measure_of_reply, IsWithin, IsLess}
-use Rattle.schemars_build.specs.Making.{Wanted, IsBegun, IsTemplate, IsOpened, IsInMaking, HasAnswered, IsRepliedBy, HasReplied, Reply, answer, document}
+use Rattle.schemars_build.specs.Missing.{missing}
+use Rattle.schemars_build.specs.Measure.{width, places, asks_at, sum_below, breadth, weight, unanswered_in, pending_around, left_waiting, left_going, measure_of_reply, IsLess}
+use Rattle.schemars_build.specs.Making.{Reply}
 use Rattle.schemars_build.specs.declared.build.Document.{Document}
 use Rattle.schemars_build.specs.declared.build.Purpose.{Purpose}
 use Rattle.schemars_build.specs.declared.build.Purpose.TheVariants as purpose
 use Rattle.schemars_build.proofs.Asked.{asks_in_order}
 use Rattle.schemars_build.proofs.Placing.{left_pending}
-use Rattle.schemars_definitions.proofs.Members.{get_member-replaced_other}
 use Rattle.schemars_build.proofs.Steps.{begun_with, finished_with, begun-fewer, missing-wider, step_wider, same_key}
 use Rattle.schemars_build.proofs.Descending.{to_asked, to_filled, to_define, to_definition}
-use Rattle.schemars_schema.proofs.Members.{get_member-replaced}
 
 -- ---- numbers
 

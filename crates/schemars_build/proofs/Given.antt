@@ -1,14 +1,11 @@
 -- Names that are given stay, and are found.
 use Rattle.std.proofs.Common.{◌≡◌, ℕ, List, [], ◌∷◌, ◌++◌, Bool, true, false, Some, None, refl, sym, ap, ◌∙◌, arith, subst, find, option_map, append-nil, append_assoc}
-use Rattle.std.specs.Prelude.{◌==◌, ◌&&◌, cond}
-use Rattle.std.proofs.lemmas.Bool.Decides.{nat_tests}
-use Rattle.schemars_schema.specs.Json.{Text}
-use Rattle.schemars_types.specs.Rows.{Row}
+use Rattle.schemars_build.proofs.Words.{◌&&◌, nat_tests, Text, Row, NamedRow, Naming, is_of, name_of, GivesNames}
+use Rattle.std.specs.Prelude.{◌==◌, cond}
 use Rattle.schemars_types.specs.declared.contract.Contract.{Contract}
 use Rattle.schemars_types.specs.declared.contract.Contract.TheVariants.{Deserialize, Serialize}
 use Rattle.schemars_types.specs.SameContract.{is_same_contract}
-use Rattle.schemars_build.specs.Naming.{NamedRow, Naming, is_of, name_of}
-use Rattle.schemars_build.specs.Registry.{IsGiven, AreGiven, GivesNames}
+use Rattle.schemars_build.specs.Registry.{IsGiven, AreGiven}
 use Rattle.schemars_build.proofs.NamingLemmas.{same_contract-equal}
 
 pub name_of-joined : (n : ℕ) (c : Contract) (old more : Naming) (name : Text) → name_of n c old ≡ Some name

@@ -1,37 +1,23 @@
 -- What documents that are being made come to.
 use Rattle.std.proofs.Common.{◌≡◌, ◌≢◌, inl, inr, ◌<◌, ◌≤◌, ◌+◌, ℕ, List, [], ◌∷◌, ◌++◌, length, map, take, Bool, true, false, not, Option, Some, None, refl, ap, sym, ◌∙◌, subst, arith, string_bytes, All, get_or, reverse, slice_index_or, ◌-◌}
-use Rattle.std.specs.Prelude.{◌&&◌, ◌||◌, if◌then◌else◌, String}
+use Rattle.schemars_build.proofs.Words.{◌&&◌, ◌||◌, if◌then◌else◌, length-append, IsAskedIn, row_asked, entry_at, Data, boolean, get_member, get_member-put, Text, references, is_inline_at, IsChecked, reference, Ask, part, members_of, content, asks_of, filled, ask_of, are_optional, entry_template, name_of, is_pending, pending_in, is_in_place, Plan, Registry, Step, GivesNames, rolled_back, reference_to, basis_of_plan, without_last, AreReached, IsPart, IsFilledIn, IsAnswer, AreAnswers, Wanted, own, IsBegun, IsTemplate, IsOpened, ComesFrom, IsInMaking, HasAnswered, answer, document, IsRepliedBy, HasReplied, IsTaken, document_rank, measure_of_turn, IsWithin}
+use Rattle.std.specs.Prelude.{String}
 use Rattle.std.specs.declared.alloc.Global.{Global}
 use Rattle.std.specs.Str.{IsUtf8}
 use Rattle.std.proofs.lemmas.Option.{none-some}
-use Rattle.std.proofs.lemmas.List.{take_all, length-append, length-map, get_or-map}
+use Rattle.std.proofs.lemmas.List.{take_all, length-map, get_or-map}
 use Rattle.schemars_documents.specs.declared.template.Ask as src-ask
-use Rattle.schemars_build.specs.Missing.{IsAskedIn, row_asked}
 use Rattle.schemars_build.proofs.Asked.{asks_in_order}
-use Rattle.schemars_types.specs.Rows.{entry_at}
-use Rattle.serde_json.specs.Data.{Data, string, boolean}
-use Rattle.serde_json.specs.Find.{get_member}
-use Rattle.serde_json.proofs.Views.{get_member-put}
-use Rattle.schemars_schema.specs.Json.{Text}
-use Rattle.schemars_schema.specs.References.{references}
-use Rattle.schemars_types.specs.Edges.{is_inline_at}
-use Rattle.schemars_types.specs.Faults.{IsChecked}
+use Rattle.serde_json.specs.Data.{string}
 use Rattle.schemars_flatten.specs.Opening.{opened_inside, must_be_in_place}
 use Rattle.schemars_flatten.specs.Parts.{flattened_part}
-use Rattle.schemars_documents.specs.Documents.{reference}
 use Rattle.schemars_types.specs.declared.contract.Contract.{Contract}
-use Rattle.schemars_documents.specs.Template.{Ask, part, members_of, content, asks_of, filled}
-use Rattle.schemars_documents.specs.View.{ask_of, template_view}
-use Rattle.schemars_documents.specs.Describes.{without_options, are_optional}
-use Rattle.schemars_documents.specs.OfShape.{entry_template}
-use Rattle.schemars_build.specs.Naming.{name_of}
-use Rattle.schemars_build.specs.Placed.{is_pending, pending_in, is_in_place}
-use Rattle.schemars_build.specs.Registry.{Plan, Registry, Step, GivesNames, rolled_back, reference_to, basis_of_plan, without_last}
+use Rattle.schemars_documents.specs.View.{template_view}
+use Rattle.schemars_documents.specs.Describes.{without_options}
 use Rattle.schemars_build.proofs.Given.{gives-keeps}
-use Rattle.schemars_build.specs.Reached.{AreReached}
-use Rattle.schemars_build.specs.Parts.{IsOwn, IsMade, IsPart, IsFilledIn, IsAnswer, AreAnswers}
-use Rattle.schemars_build.specs.Making.{Wanted, own, defined, flattened, asked, wanted_for, IsReply, IsBegun, IsTemplate, IsTemplateAt, IsOpened, ComesFrom, IsInMaking, HasAnswered, IsNext, AreWaiting, Reply, answer, document, IsRepliedBy, IsGivenBack, HasReplied, GoesOn, IsTaken, AreMaking, HasFirst}
-use Rattle.schemars_build.specs.Measure.{document_rank, left_waiting, measure_of_reply, measure_of_making, measure_of_turn, IsWithin, IsLess}
+use Rattle.schemars_build.specs.Parts.{IsOwn, IsMade}
+use Rattle.schemars_build.specs.Making.{defined, flattened, asked, wanted_for, IsReply, IsTemplateAt, IsNext, AreWaiting, Reply, IsGivenBack, GoesOn, AreMaking, HasFirst}
+use Rattle.schemars_build.specs.Measure.{left_waiting, measure_of_reply, measure_of_making, IsLess}
 use Rattle.schemars_build.proofs.Ending.{answered_same, asking_less}
 use Rattle.schemars_build.proofs.Innermost.{last_got}
 use Rattle.schemars_build.specs.declared.build.Document.{Document}

@@ -1,34 +1,25 @@
 -- A table that a type has joined, what is made in it, and why a type does not join.
 use Rattle.std.proofs.Common.{◌≡◌, ◌⊎◌, ◌<◌, inl, inr, ℕ, suc, List, [], ◌∷◌, take, length, Bool, Option, Some, None, IsSome, refl, ap, sym, ◌∙◌, subst, arith}
-use Rattle.serde_json.specs.Data.{Data}
-use Rattle.schemars_schema.specs.Json.{Text}
+use Rattle.schemars_generate.proofs.Words.{Data, Text, Row, IsAccepted, IsChecked, IsOneToOne, part, Registry, TransformStep, dialect_of, RootHeadline, IsDraftPath, State, Settings, HasOwnDefinitions, stripped, more_types_own, IsAnswerFor, KeepsDefinitions, IsJoined, IsTypeRefusal, with_rows, Transforms, ApplyInOrder, IsThrough, IsTransformed}
 use Rattle.schemars_shapes.specs.Shape.{Entry}
-use Rattle.schemars_types.specs.Rows.{Row, place_of, entry_at, name_at}
-use Rattle.schemars_types.specs.Faults.{IsAccepted, IsChecked, Refusal}
+use Rattle.schemars_types.specs.Rows.{place_of, entry_at, name_at}
+use Rattle.schemars_types.specs.Faults.{Refusal}
 use Rattle.schemars_types.specs.declared.error.TypesError.{TypesError}
 use Rattle.schemars_types.specs.declared.error.TypesError.TheVariants as fault
 use Rattle.schemars_impls.specs.Describes.{entry_under}
 use Rattle.schemars_impls.specs.Dictionary.{TypeRow, IsIn, IsAdded, KeepsTo, RefusesType}
 use Rattle.schemars_impls.specs.Keeps.{Keeps, AllContinue, Continues}
-use Rattle.schemars_build.specs.Naming.{IsOneToOne}
-use Rattle.schemars_documents.specs.Template.{part}
-use Rattle.schemars_build.specs.Registry.{Registry}
-use Rattle.schemars_walk.specs.Walk.{TransformStep}
 use Rattle.schemars_headline.specs.Calls.{IsRootCall}
-use Rattle.schemars_headline.specs.Drafts.{DraftHeadlines, dialect_of}
-use Rattle.schemars_headline.specs.Headline.{RootHeadline, Headline, IsDraftPath}
-use Rattle.schemars_headline.specs.State.{State, Settings, HasOwnDefinitions, stripped}
+use Rattle.schemars_headline.specs.Drafts.{DraftHeadlines}
+use Rattle.schemars_headline.specs.Headline.{Headline}
 use Rattle.schemars_headline.proofs.Calls.{part_own, after_root_own}
-use Rattle.schemars_headline.proofs.Larger.{more_types_own}
-use Rattle.schemars_generate.specs.Answers.{IsAnswerFor, IsSubschemaFor, KeepsDefinitions}
+use Rattle.schemars_generate.specs.Answers.{IsSubschemaFor}
 use Rattle.schemars_headline.proofs.InlinedDrafts.{root_needs_none}
-use Rattle.schemars_generate.specs.ByType.{IsRegistered, IsJoined, MeansTypeIn, MeansType, IsSubschemaOfType, IsRootOfType, IsTypeRefusal, IsRootInTable, with_rows}
+use Rattle.schemars_generate.specs.ByType.{IsRegistered, MeansTypeIn, MeansType, IsSubschemaOfType, IsRootOfType, IsRootInTable}
 use Rattle.schemars_generate.specs.Refusals.{error_of}
 use Rattle.schemars_generate.specs.declared.error.GenerateError.{GenerateError}
 use Rattle.schemars_generate.specs.declared.error.GenerateError.TheVariants.{OutOfMemory}
-use Rattle.schemars_generate.specs.Generator.{Transforms}
-use Rattle.schemars_transform.specs.Member.{ApplyInOrder}
-use Rattle.schemars_generate.specs.Through.{IsThrough, IsTransformed, IsRootMade, IsUntransformedCall}
+use Rattle.schemars_generate.specs.Through.{IsRootMade, IsUntransformedCall}
 use Rattle.schemars_generate.proofs.Answered.{subschema_for, keeps}
 use Rattle.schemars_generate.proofs.BuiltIns.{transformed, promised}
 use Rattle.schemars_generate.proofs.Untransformed.{untransformed}

@@ -1,13 +1,8 @@
 -- The rows that are asked in a row's document are among those that it refers to.
 use Rattle.std.proofs.Common.{suc, List, [], ◌∷◌, Some, Contains, All, refl, subst, arith}
-use Rattle.serde_json.specs.Data.{Data}
-use Rattle.schemars_shapes.specs.Shape.{Entry, numbers_of}
-use Rattle.schemars_documents.specs.Basis.{Basis}
-use Rattle.schemars_documents.specs.Template.{Ask, asks_of}
-use Rattle.schemars_documents.specs.OfShape.{entry_template}
-use Rattle.schemars_documents.specs.Describes.{AreAnswered, IsOwnDocument}
+use Rattle.schemars_headline.proofs.Words.{Data, Entry, numbers_of, Basis, Ask, asks_of, entry_template, IsOwnDocument, row_asked}
+use Rattle.schemars_documents.specs.Describes.{AreAnswered}
 use Rattle.schemars_meaning.proofs.Rows.{all_asks}
-use Rattle.schemars_build.specs.Missing.{row_asked}
 use Rattle.schemars_types.proofs.Asked.{flattened_number}
 use Rattle.schemars_build.proofs.Asked.{content_number}
 

@@ -1,21 +1,10 @@
 -- The transforms of the drafts make the same of members that differ in the value of one key, but for what they make of that.
 use Rattle.std.proofs.Common.{◌≡◌, ◌≢◌, ◌⊎◌, inl, inr, suc, Option, Some, None, Bool, true, false, Ordering, Less, Equal, Greater, nat_cmp, codes, refl, sym, ap, ◌∙◌, subst}
-use Rattle.std.specs.Prelude.{bytes_eq, if◌then◌else◌, ◌==◌}
-use Rattle.std.specs.Ordering.{match_ordering}
-use Rattle.std.specs.Cmp.Lexicographic.{slice_cmp}
-use Rattle.std.proofs.lemmas.Map.Lookups.{exact_bytes}
-use Rattle.serde_json.specs.Data.{Data, object, Members, no_members, member, put}
-use Rattle.serde_json.specs.Find.{get_member}
-use Rattle.serde_json.specs.Events.{members_len}
-use Rattle.schemars_schema.specs.Json.{Text}
-use Rattle.schemars_schema.specs.Edits.{without}
-use Rattle.schemars_schema.specs.References.{place_under}
-use Rattle.schemars_schema.specs.Acceptance.{Context, judge}
-use Rattle.schemars_schema.proofs.Objects.{IsSilent, IsKeyword, apart, judge-agree}
-use Rattle.schemars_walk.specs.Rewritten.{forms, form_at, in_keywords}
-use Rattle.schemars_transform.specs.Built.{reference_moved, without_siblings, remove_ref_siblings, old_items_moved, prefix_moved, prefix_as_items, replace_prefix_items}
-use Rattle.schemars_transform.specs.Unevaluated.{closed_by, unevaluated_as_additional, replace_unevaluated_properties}
-use Rattle.schemars_laws.proofs.Looked.{change_rules, walked, none-walked}
+use Rattle.schemars_headline.proofs.Words.{bytes_eq, if◌then◌else◌, ◌==◌, match_ordering, slice_cmp, exact_bytes, Data, object, Members, no_members, member, put, get_member, members_len, Text, without, place_under, judge, IsSilent, form_at, reference_moved, without_siblings, remove_ref_siblings, old_items_moved, prefix_moved, prefix_as_items, replace_prefix_items, closed_by, unevaluated_as_additional, replace_unevaluated_properties, change_rules, walked}
+use Rattle.schemars_schema.specs.Acceptance.{Context}
+use Rattle.schemars_schema.proofs.Objects.{IsKeyword, apart, judge-agree}
+use Rattle.schemars_walk.specs.Rewritten.{forms, in_keywords}
+use Rattle.schemars_laws.proofs.Looked.{none-walked}
 
 -- the same keys in the same order, with the same values but under this key
 abbrev pub DifferAt : Text → Members → Members → Type 0

@@ -1,33 +1,20 @@
 -- What a call makes of what a generator holds.
 use Rattle.std.proofs.Common.{◌≡◌, inl, inr, ℕ, List, [], ◌∷◌, length, Bool, true, false, Option, Some, None, refl, sym, ap, ◌∙◌, arith, subst, true≢false, Result, Ok, Err, IsErrAnd, IfErr}
-use Rattle.std.specs.Prelude.{if◌then◌else◌}
+use Rattle.schemars_headline.proofs.Words.{if◌then◌else◌, Data, Members, get_member, has_float, members_have_float, Dialect, draft2020_12, placed_at, Text, Row, name_at, IsChecked, plain_under, name_of, IsOneToOne, reference, root_document, Basis, HasKeysOnce, IsPlainUnder, HasPlainNotes, Plan, Registry, IsKey, Refers, reference_to, basis_of_plan, State, state_plan, registry_of, HasOwnDefinitions, IsDraftPath, IsRootOf, with_definitions, IsPlaced, IsSubschema, document_describes, references}
 use Rattle.std.specs.List.{IsDistinct}
-use Rattle.serde_json.specs.Data.{Data, Members}
-use Rattle.serde_json.specs.Find.{get_member}
-use Rattle.serde_json.specs.Written.{has_float, members_have_float}
 use Rattle.serde_json.specs.View.{members_view}
 use Rattle.serde_json.proofs.Views.{Entry as Entries}
-use Rattle.schemars_schema.specs.Acceptance.{Dialect, draft2020_12}
-use Rattle.schemars_schema.specs.Placing.{placed_at}
-use Rattle.schemars_schema.specs.Json.{Text}
-use Rattle.schemars_types.specs.Rows.{Row, name_at}
 use Rattle.schemars_types.specs.Edges.{DirectEdge, height, rank, SameValueEdge}
 use Rattle.schemars_types.specs.Walks as walks
-use Rattle.schemars_types.specs.Faults.{IsAccepted, IsChecked}
-use Rattle.schemars_documents.proofs.OpenStructs.{plain_under}
-use Rattle.schemars_build.specs.Naming.{name_of, IsOneToOne}
-use Rattle.schemars_documents.specs.Documents.{reference, root_document}
-use Rattle.schemars_documents.specs.Basis.{Basis}
-use Rattle.schemars_definitions.specs.Keys.{HasKeysOnce}
+use Rattle.schemars_types.specs.Faults.{IsAccepted}
 use Rattle.schemars_types.specs.declared.contract.Contract.{Contract}
-use Rattle.schemars_documents.specs.PlainTable.{IsPlainUnder, HasPlainNotes, HasNoFloat}
-use Rattle.schemars_build.specs.Registry.{Plan, Registry, IsKey, Refers, IsDefinition, Step, reference_to, basis_of_plan}
-use Rattle.schemars_headline.specs.State.{State, state_plan, registry_of, after_root, HasOwnDefinitions}
-use Rattle.schemars_headline.specs.Headline.{IsPlainFor, RootHeadline, IsDraftPath, IsRootOf, IsTitledRoot, CannotPlace, with_definitions}
-use Rattle.schemars_build.specs.Placed.{is_in_place, IsPlaced, IsDocument}
-use Rattle.schemars_build.specs.Parts.{IsSubschema, IsDocumentOf}
-use Rattle.schemars_build.proofs.Placing.{placed_map, document-wider, document_describes}
-use Rattle.schemars_schema.specs.References.{references}
+use Rattle.schemars_documents.specs.PlainTable.{HasNoFloat}
+use Rattle.schemars_build.specs.Registry.{IsDefinition, Step}
+use Rattle.schemars_headline.specs.State.{after_root}
+use Rattle.schemars_headline.specs.Headline.{IsPlainFor, RootHeadline, IsTitledRoot, CannotPlace}
+use Rattle.schemars_build.specs.Placed.{is_in_place, IsDocument}
+use Rattle.schemars_build.specs.Parts.{IsDocumentOf}
+use Rattle.schemars_build.proofs.Placing.{placed_map, document-wider}
 use Rattle.schemars_build.specs.Reached.{AreReached}
 use Rattle.schemars_build.proofs.Steps.{Wider, step_wider, definition-wider}
 use Rattle.schemars_headline.proofs.Standing.{Stands, AllStand, stands_now, stands_before}

@@ -1,29 +1,20 @@
 -- Which changes leave a schema object one that the laws of the drafts speak of.
 use Rattle.std.proofs.Common.{◌≡◌, ◌≢◌, ◌⊎◌, inl, inr, List, [], ◌∷◌, Option, Some, None, Bool, true, false, codes, refl, sym, ap, ◌∙◌, subst, true≢false}
-use Rattle.std.specs.Prelude.{bytes_eq, if◌then◌else◌, ◌||◌, ◌&&◌}
-use Rattle.serde_json.specs.Data.{Data, null, boolean, number, string, array, object, Items, no_items, item, Members, no_members, member, put}
-use Rattle.serde_json.specs.Find.{get_member}
-use Rattle.serde_json.proofs.Views.{get_member-put, get_member-put_other}
-use Rattle.schemars_schema.specs.Json.{Text}
-use Rattle.schemars_text.specs.OrderedText.{is_listed}
-use Rattle.schemars_schema.specs.SchemaData.{IsSchema, members_in, put_members}
-use Rattle.schemars_schema.specs.Annotations.{is_annotation, AreNotes}
-use Rattle.schemars_schema.specs.Edits.{without, replaced, holds_text, with_item}
-use Rattle.schemars_schema.specs.References.{NoSchemas, place_under, with_schema, with_list, keywords_with_names}
-use Rattle.schemars_schema.specs.Acceptance.{draft2020_12, is_null}
+use Rattle.schemars_headline.proofs.Words.{bytes_eq, if◌then◌else◌, ◌||◌, ◌&&◌, Data, null, boolean, number, string, array, object, Items, no_items, item, Members, no_members, member, put, get_member, get_member-put, get_member-put_other, Text, is_listed, IsSchema, members_in, put_members, AreNotes, without, replaced, holds_text, NoSchemas, place_under, draft2020_12, is_null, differ, is_null_choice, is_combined, or_null, allow_null, type_with_null, null_in_type, enum_with_null, null_in_enum, const_or_null, null_in_const, null_in_values, annotated, Everywhere, demanded, IsOnce, IsSchemaList, HasPlainItems, IsTextWith, Stands, IsForOpenApi, AreSomeTypes, absent-once, weaker}
+use Rattle.schemars_schema.specs.Annotations.{is_annotation}
+use Rattle.schemars_schema.specs.Edits.{with_item}
+use Rattle.schemars_schema.specs.References.{with_schema, with_list, keywords_with_names}
 use Rattle.schemars_schema.proofs.Objects.{annotation-not_listed}
-use Rattle.schemars_text.proofs.Members.{differ, unequal}
-use Rattle.schemars_builders.specs.AllowNull.{is_null_choice, is_combined, or_null, allow_null, type_with_null, null_in_type, enum_with_null, null_in_enum, const_or_null, null_in_const, null_in_values}
-use Rattle.schemars_documents.specs.Documents.{annotated}
+use Rattle.schemars_text.proofs.Members.{unequal}
 use Rattle.schemars_meaning.proofs.MapDocument.{noted_by, AllNotes}
-use Rattle.schemars_laws.specs.Everywhere.{Everywhere, asked, demanded, asked_of_keywords}
+use Rattle.schemars_laws.specs.Everywhere.{asked, asked_of_keywords}
 use Rattle.schemars_laws.specs.Names.{IsNoObject, HasPlainUnevaluated}
-use Rattle.schemars_laws.specs.Classes.{IsOnce, IsSchemaList, AreTexts, is_null_alone, IsConstAlone, HasPlainItems, HasNoUnevaluated}
-use Rattle.schemars_laws.specs.Stages.{IsTextWith, Stands, IsForOpenApi, AreSomeTypes, HasSomeTypes}
-use Rattle.schemars_laws.proofs.Editing.{without-put, alike-put, alike-replaced, once-put, absent-once, type-alike, values-alike, const-alike, stands-alike}
+use Rattle.schemars_laws.specs.Classes.{AreTexts, is_null_alone, IsConstAlone, HasNoUnevaluated}
+use Rattle.schemars_laws.specs.Stages.{HasSomeTypes}
+use Rattle.schemars_laws.proofs.Editing.{without-put, alike-put, alike-replaced, once-put, type-alike, values-alike, const-alike, stands-alike}
 use Rattle.schemars_laws.proofs.Looked.{without-other}
 use Rattle.schemars_laws.proofs.Plain.{Alike, items-alike, without-swap}
-use Rattle.schemars_laws.proofs.Preserved.{asked-without, asked-put, asked-replaced, weaker}
+use Rattle.schemars_laws.proofs.Preserved.{asked-without, asked-put, asked-replaced}
 
 -- ---- keywords
 

@@ -1,39 +1,22 @@
 -- In a plain table each document of a row is one that the laws of the drafts speak of.
 use Rattle.std.proofs.Common.{◌≡◌, ℕ, zero, suc, inl, inr, List, [], ◌∷◌, ◌++◌, map, Option, Some, None, Bool, true, false, codes, refl, sym, ◌∙◌, subst}
-use Rattle.std.specs.Prelude.{is_some, if◌then◌else◌}
-use Rattle.std.specs.Option.{option_map_or}
-use Rattle.serde_json.specs.Data.{Data, Members}
-use Rattle.schemars_schema.specs.Json.{Text}
-use Rattle.serde_json.specs.Find.{get_member}
-use Rattle.schemars_laws.specs.Everywhere.{Everywhere}
-use Rattle.schemars_laws.specs.Names.{IsName, Named}
-use Rattle.schemars_laws.specs.Classes.{IsDraft07, HasPlainItems}
-use Rattle.schemars_laws.proofs.Preserved.{weaker}
+use Rattle.schemars_headline.proofs.Words.{is_some, if◌then◌else◌, option_map_or, Data, Members, Text, get_member, Everywhere, IsName, HasPlainItems, weaker, text-alone, Stands, IsForOpenApi, draft2020_12, AreNotes, Shape, Field, Fields, Flattened, Entry, Row, entry_at, option_at, key_options, AreNoted, IsPlainTable, IsNotedThroughout, HasPlainNotesThroughout, Basis, Ask, part, asks_of, filled, struct_template, template_of, IsOwnDocument, IsWritten, Fit, plain_rows}
+use Rattle.schemars_laws.specs.Names.{Named}
+use Rattle.schemars_laws.specs.Classes.{IsDraft07}
 use Rattle.schemars_laws.proofs.Plain.{none-plain}
-use Rattle.schemars_laws.proofs.Steps.{text-alone, text-named}
-use Rattle.schemars_laws.specs.Stages.{Stands, IsForOpenApi}
-use Rattle.schemars_schema.specs.Acceptance.{draft2020_12}
-use Rattle.schemars_schema.specs.Annotations.{AreNotes}
+use Rattle.schemars_laws.proofs.Steps.{text-named}
 use Rattle.schemars_schema.proofs.Literals.{literal_is_schema}
 use Rattle.schemars_builders.specs.Variants.{unit_variant}
 use Rattle.schemars_shapes.specs.Shape as shape
-use Rattle.schemars_shapes.specs.Shape.{Shape, Required, Field, Fields, Flattened, Entry}
-use Rattle.schemars_types.specs.Rows.{Row, entry_at}
-use Rattle.schemars_types.specs.Edges.{option_at}
+use Rattle.schemars_shapes.specs.Shape.{Required}
 use Rattle.schemars_types.specs.Effective.{effective, shape_fields, fields_within, without_options, required_only_if, part_fields, flattened_in, part_enums, expanded_shape, expanded_shape_in}
-use Rattle.schemars_types.specs.KeyOptions.{key_options}
-use Rattle.schemars_documents.specs.PlainTable.{AreNoted, IsPlainShape, ArePlainParts, parts_in, IsPlainEntry, IsPlainTable, IsNotedShape, IsNotedThroughout, HasPlainNotesThroughout}
-use Rattle.schemars_documents.specs.Basis.{Basis}
-use Rattle.schemars_documents.specs.Template.{Ask, part, asks_of, filled}
-use Rattle.schemars_documents.specs.OfShape.{struct_template, template_of}
-use Rattle.schemars_documents.specs.Describes.{Fills, IsOwnDocument, IsAnswered, IsWritten, Describes}
+use Rattle.schemars_documents.specs.PlainTable.{IsPlainShape, ArePlainParts, parts_in, IsPlainEntry, IsNotedShape}
+use Rattle.schemars_documents.specs.Describes.{Fills, IsAnswered, Describes}
 use Rattle.schemars_documents.proofs.Literals.{literal_document-schema}
 use Rattle.schemars_documents.proofs.OpenStructs.{parts_apart}
 use Rattle.schemars_meaning.proofs.Spread.{AnswersFields}
-use Rattle.schemars_meaning.proofs.Filling.{Fit}
 use Rattle.schemars_meaning.proofs.Flattened.{struct_fills}
 use Rattle.schemars_meaning.proofs.ByShape.{IsDocument, others_fill, member_document}
-use Rattle.schemars_meaning.proofs.Referring.{plain_rows}
 use Rattle.schemars_meaning.proofs.FieldsDescribed.{described_fields}
 use Rattle.schemars_headline.proofs.Changes.{Demand, IsDraft2019_09, IsGood, good_truth, good-annotated, good-allow_null}
 use Rattle.schemars_headline.proofs.Documents.{type-good, int-good, non_zero-good, char-good, formatted-good, bytes-good, schema_itself-good, reference-good, empty_list-good, seq-good, set-good, array-good, up_to-good, tuple-good, parts-good, fields-good, one_of-good, member-good, map-good, unit-good, literal-good}

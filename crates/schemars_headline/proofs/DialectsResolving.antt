@@ -1,15 +1,9 @@
 -- The references of root documents pass a test after the transforms of the older drafts, such as that they resolve.
 use Rattle.std.proofs.Common.{◌≡◌, List, [], ◌∷◌, ◌++◌, Some, None, Bool, true, false, codes, refl, sym, ap, ◌∙◌, subst, true≢false}
-use Rattle.std.specs.Prelude.{bytes_eq, if◌then◌else◌}
-use Rattle.std.proofs.lemmas.Slice.Eq.{bytes_eq-Decides}
-use Rattle.serde_json.specs.Data.{Data, string, array, object, Items, no_items, item, Members, no_members, member}
-use Rattle.serde_json.specs.Find.{get_member}
-use Rattle.schemars_schema.specs.Json.{Text}
-use Rattle.schemars_schema.specs.Edits.{without}
-use Rattle.schemars_schema.specs.References.{Place, NoSchemas, OneSchema, SchemaList, SchemaOrList, SchemasByName, place_under, at_place, found_in, found_in_items, found_in_members, found_in_keywords, references, resolves, all_resolve}
+use Rattle.schemars_headline.proofs.Words.{bytes_eq, if◌then◌else◌, bytes_eq-Decides, Data, string, array, object, Items, no_items, item, Members, no_members, member, get_member, Text, without, Place, NoSchemas, OneSchema, SchemaList, SchemaOrList, SchemasByName, place_under, references, resolves, all_resolve, Everywhere, demanded, asked_of_items, asked_of_members, asked_of_keywords, IsTextWith}
+use Rattle.schemars_schema.specs.References.{at_place, found_in, found_in_items, found_in_members, found_in_keywords}
 use Rattle.schemars_text.proofs.Members.{get_member-member as get_member-first}
-use Rattle.schemars_laws.specs.Everywhere.{Everywhere, asked, demanded, asked_of_items, asked_of_members, asked_of_keywords}
-use Rattle.schemars_laws.specs.Stages.{IsTextWith}
+use Rattle.schemars_laws.specs.Everywhere.{asked}
 use Rattle.schemars_headline.proofs.Resolving.{all_pass, all_pass-resolve}
 use Rattle.schemars_headline.proofs.ReferencesKept.{RefersOnce}
 use Rattle.std.proofs.lemmas.Bool.{and_parts}

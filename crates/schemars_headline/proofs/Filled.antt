@@ -1,27 +1,19 @@
 -- What fills the templates of enums and maps is what the laws of the drafts speak of, where the answers are.
 use Rattle.std.proofs.Common.{ℕ, List, [], ◌∷◌, ◌++◌, map, Bool, true, false, codes, refl, sym, subst}
-use Rattle.std.specs.Prelude.{if◌then◌else◌}
-use Rattle.serde_json.specs.Data.{Data, string, Members, no_members, put}
-use Rattle.schemars_schema.specs.Json.{Text}
-use Rattle.schemars_schema.specs.SchemaData.{put_all}
-use Rattle.schemars_schema.specs.Annotations.{AreNotes}
+use Rattle.schemars_headline.proofs.Words.{if◌then◌else◌, Data, string, Members, no_members, put, Text, put_all, AreNotes, Field, Fields, Flattened, Payload, Variant, struct_payload, KeyOptions, keys, AreNoted, Keyword, Basis, Ask, part, members_of, content, Template, noted, asks_of, filled, filled_in, keyed, left, bare_units, other_items, choice_of, struct_template, KeywordTemplate, typed_template, object_with, values_of, all_patterns, pattern_properties_at, properties_at, other_values, values_template, first_all, left_all, Fit, asked_of_members}
 use Rattle.schemars_builders.specs.Variants.{unit_variant}
-use Rattle.schemars_shapes.specs.Shape.{Field, Fields, Flattened, Payload, Variant, no_payload, newtype_payload, tuple_payload, struct_payload}
+use Rattle.schemars_shapes.specs.Shape.{no_payload, newtype_payload, tuple_payload}
 use Rattle.schemars_shapes.specs.Units.{is_bare_unit}
 use Rattle.schemars_types.specs.declared.contract.Contract.{Contract}
 use Rattle.schemars_types.specs.Effective.{flattened_fields, effective, expanded_payload, expanded_variant}
-use Rattle.schemars_types.specs.KeyOptions.{KeyOptions, keys}
-use Rattle.schemars_documents.specs.PlainTable.{AreNoted, IsTagged, AreTagged, payload_parts, variant_parts, IsNotedPayload, AreNotedVariants}
-use Rattle.schemars_documents.specs.Documents.{Keyword}
-use Rattle.schemars_documents.specs.Basis.{Basis}
-use Rattle.schemars_documents.specs.Template.{Ask, part, members_of, content, Template, noted, tagged, row, asks_of, asks_in, filled, filled_in, keyed, left, Templates}
-use Rattle.schemars_documents.specs.OfShape.{templates_of, one_of_template, any_of_template, payload_template, named_template, member_template, bare_units, other_items, units_template, choice_of, external_template, title_alone, titled, payload_item, untagged_template, content_template, struct_template, internal_item, internal_template, KeywordTemplate, typed_template, object_with, values_of, all_patterns, pattern_properties_at, properties_at, other_values, values_template, said, whole_template, adjacent_payload, adjacent_item, adjacent_template}
-use Rattle.schemars_meaning.proofs.Parts.{first_all, left_all}
-use Rattle.schemars_meaning.proofs.Filling.{Fit, without_end, parted}
+use Rattle.schemars_documents.specs.PlainTable.{IsTagged, AreTagged, payload_parts, variant_parts, IsNotedPayload, AreNotedVariants}
+use Rattle.schemars_documents.specs.Template.{tagged, row, asks_in, Templates}
+use Rattle.schemars_documents.specs.OfShape.{templates_of, one_of_template, any_of_template, payload_template, named_template, member_template, units_template, external_template, title_alone, titled, payload_item, untagged_template, content_template, internal_item, internal_template, said, whole_template, adjacent_payload, adjacent_item, adjacent_template}
+use Rattle.schemars_meaning.proofs.Filling.{without_end, parted}
 use Rattle.schemars_meaning.proofs.MapDocument.{map_document}
 use Rattle.schemars_meaning.proofs.ByShape.{tuple_fills}
 use Rattle.schemars_meaning.proofs.Enums.{title_noted}
-use Rattle.schemars_laws.specs.Everywhere.{asked, asked_of_members}
+use Rattle.schemars_laws.specs.Everywhere.{asked}
 use Rattle.schemars_headline.proofs.Changes.{Demand, Class, AreGood, are-put, IsGood, good, good_truth, good-annotated}
 use Rattle.schemars_headline.proofs.Documents.{AllGood, are-typed, type-good, tuple-good, parts-good, tagged-good, unit-good, units-good, one_of-good, any_of-good, member-good, map-good, AllNamed, asked-all}
 

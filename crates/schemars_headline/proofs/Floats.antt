@@ -1,47 +1,31 @@
 -- A document has no float but those of its notes.
 use Rattle.std.proofs.Common.{◌≡◌, ℕ, zero, suc, ℤ, pos, negsuc, List, [], ◌∷◌, ◌++◌, map, Option, Some, None, Bool, true, false, refl, subst, Ordering, Less, Equal, Greater, nat_cmp}
-use Rattle.std.specs.Prelude.{codes, is_some, if◌then◌else◌, ◌&&◌, ◌||◌, bytes_eq, option_map, option_and_then}
-use Rattle.std.specs.Ordering.{match_ordering}
-use Rattle.std.specs.Cmp.Lexicographic.{slice_cmp}
-use Rattle.std.specs.List.{AllByRecursion}
-use Rattle.serde_json.specs.Data.{Data, null, boolean, number, string, array, object, Items, no_items, item, Members, no_members, member, put}
-use Rattle.serde_json.specs.Find.{get_member, of_integer, is_float}
-use Rattle.serde_json.specs.View.{items_of}
-use Rattle.serde_json.specs.Written.{has_float, items_have_float, members_have_float}
-use Rattle.schemars_schema.specs.Json.{Text}
-use Rattle.schemars_schema.specs.SchemaData.{put_members, members_in, put_all, object_of, is_schema}
+use Rattle.schemars_headline.proofs.Words.{codes, is_some, if◌then◌else◌, ◌&&◌, ◌||◌, bytes_eq, option_and_then, match_ordering, slice_cmp, AllByRecursion, Data, null, boolean, number, string, array, object, Items, no_items, item, Members, no_members, member, put, get_member, items_of, has_float, members_have_float, Text, put_members, members_in, put_all, object_of, is_null_choice, is_combined, or_null, allow_null, type_with_null, null_in_type, enum_with_null, null_in_enum, const_or_null, null_in_const, null_in_values, is_null, zero_schema, closed_where, has_null_type, internally_tagged_variant, format_of, Shape, Entry, Field, Flattened, Fields, Payload, Variant, struct_payload, entry_at, least_of, greatest_of, KeyOptions, keys, key_options, annotated, with_title, with_meta_schema, root_document, int_keywords, is_signed, required_names, Basis, Template, noted, left, keyed, filled, filled_in, object_with, typed_template, values_of, all_patterns, pattern_properties_at, other_values, properties_at, KeywordTemplate, with_flattened, struct_template, bare_units, other_items, choice_of, values_template, template_of, entry_template, IsWritten, Describes, without, replaced, holds_text, with_member, with_first, placed_at, Plan, Registry, basis_of_plan, with_definitions, HasKeysOnce, either, left_all, first_all}
+use Rattle.std.specs.Prelude.{option_map}
+use Rattle.serde_json.specs.Find.{of_integer, is_float}
+use Rattle.serde_json.specs.Written.{items_have_float}
+use Rattle.schemars_schema.specs.SchemaData.{is_schema}
 use Rattle.schemars_schema.proofs.Contents.{members_have_float-put}
-use Rattle.schemars_builders.specs.AllowNull.{is_null_choice, is_combined, or_null, allow_null, type_with_null, null_in_type, holds_null, enum_with_null, null_in_enum, const_or_null, null_in_const, null_in_values}
-use Rattle.schemars_schema.specs.Acceptance.{is_null}
-use Rattle.schemars_builders.specs.NullLaw.{zero_schema, text_items}
+use Rattle.schemars_builders.specs.AllowNull.{holds_null}
+use Rattle.schemars_builders.specs.NullLaw.{text_items}
 use Rattle.schemars_builders.specs.Properties as properties
-use Rattle.schemars_builders.specs.Properties.{closed_where, has_null_type, internally_tagged_variant}
 use Rattle.schemars_builders.specs.Variants.{unit_variant}
-use Rattle.schemars_shapes.specs.IntKind.{format_of}
 use Rattle.schemars_shapes.specs.Shape as shape
-use Rattle.schemars_shapes.specs.Shape.{Shape, Entry, Field, Flattened, Fields, Payload, Variant, no_payload, newtype_payload, tuple_payload, struct_payload}
-use Rattle.schemars_types.specs.Rows.{entry_at}
+use Rattle.schemars_shapes.specs.Shape.{no_payload, newtype_payload, tuple_payload}
 use Rattle.schemars_types.specs.declared.contract.Contract.{Contract}
 use Rattle.schemars_types.specs.declared.contract.Contract.TheVariants.{Deserialize, Serialize}
-use Rattle.schemars_types.specs.Meaning.{least_of, greatest_of}
-use Rattle.schemars_types.specs.KeyOptions.{KeyOptions, keys, key_options}
-use Rattle.schemars_documents.specs.Documents.{annotated, with_title, with_meta_schema, root_document, int_keywords, is_signed, bytes_document, required_names}
-use Rattle.schemars_documents.specs.Basis.{Basis}
-use Rattle.schemars_documents.specs.Template.{Template, finished, asked, row, list, members, nullable, noted, with_keywords, tagged, Templates, no_templates, template, left, keyed, filled, filled_in}
-use Rattle.schemars_documents.specs.OfShape.{object_with, typed_template, values_of, all_patterns, pattern_properties_at, other_values, properties_at, KeywordTemplate, templates_of, property, map_template, tuple_template, with_flattened, struct_template, content_template, payload_template, named_template, bare_units, other_items, choice_of, values_template, payload_item, titled, untagged_template, template_of, entry_template, internal_item, internal_template, said, adjacent_payload, adjacent_item, adjacent_template}
-use Rattle.schemars_documents.specs.Describes.{IsWritten, Describes}
+use Rattle.schemars_documents.specs.Documents.{bytes_document}
+use Rattle.schemars_documents.specs.Template.{finished, asked, row, list, members, nullable, with_keywords, tagged, Templates, no_templates, template}
+use Rattle.schemars_documents.specs.OfShape.{templates_of, property, map_template, tuple_template, content_template, payload_template, named_template, payload_item, titled, untagged_template, internal_item, internal_template, said, adjacent_payload, adjacent_item, adjacent_template}
 use Rattle.schemars_flatten.proofs.Floats.{flattened-whole, flattened_part-whole, opened_inside-whole}
 use Rattle.schemars_shapes.specs.Decimals.{fields_have_float, payload_has_float, variants_have_float, shape_has_float}
 use Rattle.schemars_documents.specs.PlainTable.{EntryHasNoFloat, HasNoFloat}
-use Rattle.schemars_schema.specs.Edits.{without, replaced, with_item, holds_text, with_member, with_first, changed_at}
-use Rattle.schemars_schema.specs.Placing.{placed, placed_at, tokens_of}
+use Rattle.schemars_schema.specs.Edits.{with_item, changed_at}
+use Rattle.schemars_schema.specs.Placing.{placed, tokens_of}
 use Rattle.schemars_shapes.specs.Units.{is_bare_unit}
-use Rattle.schemars_build.specs.Registry.{Plan, Registry, basis_of_plan}
 use Rattle.schemars_headline.proofs.Standing.{MayRefer, AllStand}
-use Rattle.schemars_headline.specs.Headline.{with_definitions}
-use Rattle.schemars_definitions.specs.Keys.{HasKeysOnce}
 use Rattle.schemars_headline.proofs.Keys.{AllMembers, all_members}
-use Rattle.schemars_meaning.proofs.Parts.{either, left_all, first_all, described_holds, written_holds}
+use Rattle.schemars_meaning.proofs.Parts.{described_holds, written_holds}
 use Rattle.std.proofs.lemmas.Bool.{or_parts}
 
 abbrev pub IsWhole : Data → Type 0

@@ -1,20 +1,13 @@
 -- What is in schemas is of a class, whatever is asked of the schemas themselves: so it stays as they are flattened and opened.
 use Rattle.std.proofs.Common.{◌≡◌, List, [], ◌∷◌, Bool, true, false, refl, sym, subst, true≢false}
-use Rattle.std.proofs.lemmas.Slice.Eq.{bytes_eq-Decides}
-use Rattle.std.specs.List.{AllByRecursion}
-use Rattle.std.specs.Prelude.{◌||◌, bytes_eq, codes, if◌then◌else◌}
-use Rattle.serde_json.specs.Data.{Data, null, array, object, Items, no_items, item, Members, no_members, member, put}
-use Rattle.schemars_schema.specs.Json.{Text}
-use Rattle.schemars_text.specs.OrderedText.{is_listed}
-use Rattle.schemars_schema.specs.SchemaData.{put_members}
-use Rattle.schemars_schema.specs.References.{Place, NoSchemas, OneSchema, SchemaList, SchemaOrList, SchemasByName, place_under, with_same_object, with_same_objects}
+use Rattle.schemars_headline.proofs.Words.{bytes_eq-Decides, AllByRecursion, ◌||◌, bytes_eq, codes, if◌then◌else◌, Data, null, array, object, Items, no_items, item, Members, no_members, member, put, Text, is_listed, put_members, Place, NoSchemas, OneSchema, SchemaList, SchemaOrList, SchemasByName, place_under, flattened, flattened_part, Everywhere, demanded, asked_of_items, asked_of_members, asked_of_keywords}
+use Rattle.schemars_schema.specs.References.{with_same_object, with_same_objects}
 use Rattle.schemars_builders.specs.AllowNull.{null_schema}
-use Rattle.schemars_flatten.specs.Flatten.{flattened}
 use Rattle.schemars_flatten.specs.Opening.{same_object_place}
-use Rattle.schemars_flatten.specs.Parts.{unit_object, flattened_part}
+use Rattle.schemars_flatten.specs.Parts.{unit_object}
 use Rattle.schemars_flatten.proofs.Kept.{AllMembers, AllItems, IsByKeyword}
 use Rattle.schemars_flatten.proofs.Kept as kept
-use Rattle.schemars_laws.specs.Everywhere.{Everywhere, asked, demanded, asked_of_items, asked_of_members, asked_of_keywords}
+use Rattle.schemars_laws.specs.Everywhere.{asked}
 use Rattle.schemars_headline.proofs.Changes.{Demand, Class, nothing, good}
 use Rattle.schemars_headline.proofs.Documents.{type-good, member-good, asked-named}
 

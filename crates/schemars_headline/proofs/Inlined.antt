@@ -1,38 +1,21 @@
 -- Where rows are inlined, a reference closes a cycle.
 use Rattle.std.proofs.Common.{◌≡◌, inl, inr, ℕ, zero, suc, List, [], ◌∷◌, ◌++◌, Bool, true, false, Option, Some, None, refl, sym, ap, ◌∙◌, subst, arith, length, Contains, true≢false}
-use Rattle.std.specs.Prelude.{◌⊎◌, ◌||◌, ◌&&◌, not, nat_eq}
+use Rattle.schemars_headline.proofs.Words.{◌||◌, ◌&&◌, not, option_map_or, match_ordering, Data, Members, no_members, member, get_member, Text, references, Entry, numbers_of, Row, entry_at, name_at, is_inline_at, option_at, IsPlainTable, root_document, Basis, Ask, part, members_of, content, IsOwnDocument, IsWritten, plain_rows, IsPlaced, row_asked, Registry, Refers, basis_of_plan, IsSubschema, IsReached, references-root, State, state_plan, registry_of, IsRootOf, with_definitions}
+use Rattle.std.specs.Prelude.{◌⊎◌, nat_eq}
 use Rattle.std.specs.List.{list_any}
-use Rattle.std.specs.Option.{option_map_or}
-use Rattle.std.specs.Ordering.{match_ordering}
 use Rattle.std.proofs.lemmas.Cmp.{tied_itself, nat_list_cmp_total}
 use Rattle.std.proofs.lemmas.Bool.{eqb-true}
 use Rattle.std.proofs.lemmas.List.Folds.{list_any-append}
-use Rattle.serde_json.specs.Data.{Data, Members, no_members, member}
-use Rattle.serde_json.specs.Find.{get_member}
 use Rattle.indexmap.specs.IndexSet.{insert_key}
-use Rattle.schemars_schema.specs.Json.{Text}
-use Rattle.schemars_schema.specs.References.{references}
 use Rattle.schemars_types.specs.Walks.{Walk, one, then}
-use Rattle.schemars_shapes.specs.Shape.{Entry, numbers_of}
-use Rattle.schemars_types.specs.Rows.{Row, entry_at, name_at}
-use Rattle.schemars_types.specs.Edges.{numbers_at, is_inline_at, option_at}
-use Rattle.schemars_documents.specs.PlainTable.{IsPlainTable}
-use Rattle.schemars_documents.specs.Documents.{root_document}
-use Rattle.schemars_documents.specs.Basis.{Basis}
-use Rattle.schemars_documents.specs.Template.{Ask, part, members_of, content}
-use Rattle.schemars_documents.specs.Describes.{IsOwnDocument, IsAnswered, IsContent, IsWritten, Describes, without_options_within, without_options}
-use Rattle.schemars_meaning.proofs.Referring.{plain_rows}
-use Rattle.schemars_build.specs.Placed.{is_pending, pending_in, is_in_place, IsPlaced, IsFilledWithin, IsDocument}
+use Rattle.schemars_types.specs.Edges.{numbers_at}
+use Rattle.schemars_documents.specs.Describes.{IsAnswered, IsContent, Describes, without_options_within, without_options}
+use Rattle.schemars_build.specs.Placed.{is_pending, pending_in, is_in_place, IsFilledWithin, IsDocument}
 use Rattle.schemars_build.proofs.Placing.{Answers}
-use Rattle.schemars_build.specs.Missing.{row_asked}
 use Rattle.schemars_build.proofs.Asked.{option_edges}
 use Rattle.schemars_headline.proofs.AskedRows.{own_asked}
-use Rattle.schemars_build.specs.Registry.{Registry, Refers, basis_of_plan}
-use Rattle.schemars_build.specs.Parts.{IsSubschema}
-use Rattle.schemars_build.specs.Reached.{IsReached, by_reference, by_definition}
-use Rattle.schemars_meaning.proofs.ReferencesKept.{references-root}
-use Rattle.schemars_headline.specs.State.{State, state_plan, registry_of}
-use Rattle.schemars_headline.specs.Headline.{Edge, HasNoCycle, IsInlined, IsRootOf, with_definitions}
+use Rattle.schemars_build.specs.Reached.{by_reference, by_definition}
+use Rattle.schemars_headline.specs.Headline.{Edge, HasNoCycle, IsInlined}
 use Rattle.schemars_headline.proofs.Resolving.{all_pass, described_resolved}
 
 -- ---- walks that end at a row

@@ -1,17 +1,8 @@
 -- The keys of members, and those of definitions.
 use Rattle.std.proofs.Common.{◌≡◌, ◌⊎◌, inl, inr, ◌∷◌, [], Some, None, true, false, Ordering, Less, Equal, Greater, nat_cmp, refl, sym, ap, ◌∙◌, true≢false}
-use Rattle.std.specs.Prelude.{codes}
-use Rattle.std.specs.Ordering.{match_ordering}
-use Rattle.std.specs.Cmp.Lexicographic.{slice_cmp}
-use Rattle.std.proofs.lemmas.Map.Lookups.{exact_bytes}
-use Rattle.serde_json.specs.Data.{Data, Members, no_members, member}
-use Rattle.serde_json.specs.Find.{get_member}
-use Rattle.schemars_schema.specs.Json.{Text}
-use Rattle.schemars_text.specs.OrderedText.{is_listed}
+use Rattle.schemars_headline.proofs.Words.{codes, match_ordering, slice_cmp, exact_bytes, Data, Members, no_members, member, get_member, Text, is_listed, HasKeysOnce, IsKey}
 use Rattle.schemars_schema.specs.Annotations.{is_annotation}
 use Rattle.schemars_schema.proofs.Objects.{annotation-not_listed}
-use Rattle.schemars_definitions.specs.Keys.{HasKeysOnce}
-use Rattle.schemars_build.specs.Registry.{IsKey}
 use Rattle.schemars_text.proofs.Members.{get_member-here}
 
 -- ---- which keys there are

@@ -1,36 +1,20 @@
 -- Where the references of a table's documents lead: to the root, or to the definition of their row.
 use Rattle.std.proofs.Common.{◌≡◌, ◌⊎◌, inl, inr, ℕ, suc, ◌+◌, ◌*◌, ◌<◌, ◌≤◌, List, [], ◌∷◌, ◌++◌, map, Option, Some, None, true, Contains, length, refl, sym, ap, ◌∙◌, arith, subst}
-use Rattle.std.specs.Prelude.{codes, is_some}
-use Rattle.std.specs.Str.{IsUtf8}
+use Rattle.schemars_headline.proofs.Words.{codes, is_some, IsUtf8, Data, object, Members, no_members, member, depth, get_member, members_len, Text, IsSchema, lookup, Patterns, Judge, judge, draft2020_12, count_of_definitions, context2020_12, Shape, Flattened, Entry, Payload, Variant, struct_payload, Row, entry_at, rank, IsChecked, IsWritten, Describes, IsPlainUnder, IsOneToOne, name_of, Plan, Registry, IsKey, reference_to, basis_of_plan, AcceptsItsValues, describes-wider, described}
 use Rattle.std.proofs.Math.Nat.{mul-le-mul_left}
 use Rattle.std.proofs.lemmas.List.Elements.{Contains-append_left, Contains-append_right}
-use Rattle.serde_json.specs.Data.{Data, object, Members, no_members, member, depth}
-use Rattle.serde_json.specs.Find.{get_member}
-use Rattle.serde_json.specs.Events.{members_len}
-use Rattle.schemars_schema.specs.Json.{Text}
-use Rattle.schemars_schema.specs.SchemaData.{IsSchema}
-use Rattle.schemars_schema.specs.Encoding.{lookup}
 use Rattle.schemars_schema.specs.Lookup.{resolved}
-use Rattle.schemars_schema.specs.Acceptance.{Patterns, Judge, judge, draft2020_12, count_of_definitions}
 use Rattle.schemars_schema.proofs.Encodings.{lookup-encoded}
-use Rattle.schemars_builders.specs.NullLaw.{context2020_12}
 use Rattle.schemars_shapes.specs.Shape as shape
-use Rattle.schemars_shapes.specs.Shape.{Shape, Flattened, Entry, Tagging, Payload, Variant, struct_payload, payload_flattened, payload_same, payload_same_by, of_variants, same_value_numbers}
-use Rattle.schemars_types.specs.Rows.{Row, entry_at}
-use Rattle.schemars_types.specs.Edges.{rank}
-use Rattle.schemars_types.specs.Faults.{IsChecked}
+use Rattle.schemars_shapes.specs.Shape.{Tagging, payload_flattened, payload_same, payload_same_by, of_variants, same_value_numbers}
 use Rattle.schemars_types.proofs.Asked.{asked, entry_low}
-use Rattle.schemars_documents.specs.Describes.{IsWritten, Describes}
-use Rattle.schemars_documents.specs.PlainTable.{IsPlainUnder, parts_in, payload_parts, variant_parts}
-use Rattle.schemars_build.specs.Naming.{Naming, IsOneToOne, name_of}
-use Rattle.schemars_build.specs.Registry.{Plan, Registry, IsKey, reference_to, basis_of_plan}
-use Rattle.schemars_headline.specs.Headline.{AcceptsItsValues}
+use Rattle.schemars_documents.specs.PlainTable.{parts_in, payload_parts, variant_parts}
+use Rattle.schemars_build.specs.Naming.{Naming}
 use Rattle.schemars_headline.proofs.Keys.{key_here, key_later, key_cases}
-use Rattle.schemars_meaning.proofs.Mapping.{describes-wider, written_map}
+use Rattle.schemars_meaning.proofs.Mapping.{written_map}
 use Rattle.schemars_meaning.proofs.Enums.{IsNewtypeIn}
 use Rattle.schemars_meaning.proofs.Meanings.{IsSame}
 use Rattle.schemars_meaning.proofs.Following.{References, InList, Setting, written_says}
-use Rattle.schemars_meaning.proofs.Schemas.{described}
 use Rattle.schemars_build.proofs.Settled.{settled}
 use Rattle.schemars_headline.proofs.Standing.{MayRefer, AllStand}
 use Rattle.schemars_laws.proofs.Paths.{is-schema}

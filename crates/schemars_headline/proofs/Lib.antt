@@ -1,3 +1,4 @@
+pub mod Words
 pub mod Keys
 pub mod Standing
 pub mod Floats

@@ -1,17 +1,9 @@
 -- Each reference in a definition names a key.
 use Rattle.std.proofs.Common.{◌≡◌, ◌⊎◌, inl, inr, ℕ, Bool, true, false, None, true≢false, refl, sym, ap}
-use Rattle.std.specs.Prelude.{◌||◌, bytes_eq}
-use Rattle.std.specs.Option.{option_map_or}
-use Rattle.std.proofs.lemmas.Slice.Eq.{bytes_eq-Decides}
-use Rattle.serde_json.specs.Data.{Data, string, Members, no_members, member}
+use Rattle.schemars_headline.proofs.Words.{◌||◌, bytes_eq, option_map_or, bytes_eq-Decides, Data, string, Members, no_members, member, Text, references, HasPlainNotesThroughout, IsKey, Refers, reference_to, basis_of_plan, State, state_plan, registry_of, HasOwnDefinitions, document_describes}
 use Rattle.serde_json.specs.Find.{as_str}
-use Rattle.schemars_schema.specs.Json.{Text}
-use Rattle.schemars_schema.specs.References.{references}
-use Rattle.schemars_documents.specs.PlainTable.{HasPlainNotesThroughout}
-use Rattle.schemars_build.specs.Registry.{IsKey, Refers, reference_to, basis_of_plan}
-use Rattle.schemars_headline.specs.State.{State, state_plan, registry_of, HasOwnDefinitions, ReferencesNameKeys}
+use Rattle.schemars_headline.specs.State.{ReferencesNameKeys}
 use Rattle.schemars_headline.proofs.Keys.{key_here, key_later, key_cases}
-use Rattle.schemars_build.proofs.Placing.{document_describes}
 use Rattle.schemars_headline.proofs.Resolving.{resolve-each, described_resolved}
 
 -- whether this is the reference of one of these keys

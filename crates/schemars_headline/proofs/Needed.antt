@@ -1,23 +1,7 @@
 -- Each definition of a root document is reached from it, where there were none before.
 use Rattle.std.proofs.Common.{◌≡◌, inl, inr, ℕ, List, [], true, Some, None, sym, ap, ◌∙◌, subst}
-use Rattle.serde_json.specs.Data.{Data, object, Members, no_members, put}
-use Rattle.serde_json.specs.Find.{get_member, pointer}
-use Rattle.serde_json.proofs.Views.{get_member-put}
-use Rattle.schemars_schema.specs.Json.{Text}
-use Rattle.schemars_schema.specs.Edits.{without}
-use Rattle.schemars_schema.specs.SchemaData.{members_in}
-use Rattle.schemars_schema.specs.References.{references}
-use Rattle.schemars_types.specs.Rows.{name_at}
-use Rattle.schemars_documents.specs.Documents.{root_document}
-use Rattle.schemars_documents.specs.PlainTable.{IsPlainTable}
-use Rattle.schemars_meaning.proofs.Referring.{plain_rows}
-use Rattle.schemars_meaning.proofs.ReferencesKept.{references-root}
-use Rattle.schemars_build.specs.Registry.{Plan, Registry, Refers, IsKey, basis_of_plan}
-use Rattle.schemars_build.specs.Reached.{IsReached}
+use Rattle.schemars_headline.proofs.Words.{Data, object, Members, no_members, put, get_member, pointer, get_member-put, Text, without, members_in, references, name_at, root_document, IsPlainTable, plain_rows, references-root, Plan, Registry, Refers, IsKey, basis_of_plan, IsReached, document_describes, State, path_of, state_plan, IsRootOf, IsDraftPath}
 use Rattle.schemars_definitions.proofs.Members.{without-put}
-use Rattle.schemars_build.proofs.Placing.{document_describes}
-use Rattle.schemars_headline.specs.State.{State, path_of, state_plan}
-use Rattle.schemars_headline.specs.Headline.{IsRootOf, IsDraftPath}
 use Rattle.schemars_headline.specs.Needed.{key_of, references_outside, DefinitionsAreReached, NeedsItsDefinitions}
 use Rattle.schemars_headline.proofs.Keys.{IsDefinitionsKey}
 use Rattle.schemars_headline.proofs.OwnKeys.{no_definitions_in}

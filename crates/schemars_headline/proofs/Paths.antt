@@ -1,8 +1,7 @@
 -- Paths without what is stripped.
 use Rattle.std.proofs.Common.{◌≡◌, ◌≢◌, ◌++◌, [], ◌∷◌, Bool, true, false, refl, ap}
-use Rattle.std.specs.Prelude.{◌==◌, if◌then◌else◌}
+use Rattle.schemars_headline.proofs.Words.{◌==◌, if◌then◌else◌, Text}
 use Rattle.std.proofs.lemmas.Bool.{eqb-true}
-use Rattle.schemars_schema.specs.Json.{Text}
 use Rattle.schemars_headline.specs.State.{without_hash, without_slash}
 
 pub hash_gone : (path rest : Text) → path ≡ 35 ∷ rest → without_hash path ≡ rest

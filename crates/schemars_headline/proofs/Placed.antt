@@ -1,16 +1,10 @@
 -- Documents with definitions at a path: how they are placed, and found again.
 use Rattle.std.proofs.Common.{◌≡◌, ◌⊎◌, inl, inr, [], ◌∷◌, Some, None, refl, sym, ap, ◌∙◌, subst, arith}
-use Rattle.std.specs.Prelude.{codes}
-use Rattle.serde_json.specs.Data.{Data, object, Members, no_members, member, put}
-use Rattle.serde_json.specs.Find.{get_member, pointer, walk, unescape}
-use Rattle.serde_json.proofs.Views.{get_member-put}
-use Rattle.schemars_schema.specs.Json.{Text}
-use Rattle.schemars_schema.specs.SchemaData.{members_in}
-use Rattle.schemars_schema.specs.Encoding.{lookup}
-use Rattle.schemars_schema.specs.Acceptance.{count_of_definitions}
-use Rattle.schemars_schema.specs.Placing.{placed, placed_at}
+use Rattle.schemars_headline.proofs.Words.{codes, Data, object, Members, no_members, member, put, get_member, pointer, get_member-put, Text, members_in, lookup, count_of_definitions, placed_at, IsDraftPath, with_definitions}
+use Rattle.serde_json.specs.Find.{walk, unescape}
+use Rattle.schemars_schema.specs.Placing.{placed}
 use Rattle.schemars_schema.proofs.Encodings.{lookup-ascii}
-use Rattle.schemars_headline.specs.Headline.{IsDraftPath, IsKnownPath, IsHolding, with_definitions}
+use Rattle.schemars_headline.specs.Headline.{IsKnownPath, IsHolding}
 use Rattle.schemars_headline.proofs.Keys.{IsDefinitionsKey}
 use Rattle.schemars_headline.proofs.Leading.{HoldsDefinitions, holds_at}
 

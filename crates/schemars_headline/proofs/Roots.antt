@@ -1,40 +1,19 @@
 -- Root documents mean their types, and so do subschemas beside their definitions.
 use Rattle.std.proofs.Common.{[], ◌≡◌, inl, inr, ℕ, List, Option, Some, None, Bool, true, refl, sym, ap, ◌∙◌, subst, arith}
-use Rattle.std.specs.Prelude.{is_some}
-use Rattle.serde_json.specs.Data.{Data, object, Members}
-use Rattle.serde_json.specs.Find.{get_member}
-use Rattle.schemars_schema.specs.Json.{Text}
-use Rattle.schemars_schema.specs.SchemaData.{IsSchema, members_in}
-use Rattle.schemars_schema.specs.Lookup.{resolved}
-use Rattle.schemars_schema.specs.References.{references, resolves}
-use Rattle.schemars_schema.specs.Acceptance.{Dialect, Patterns, Judge, judge, draft2020_12, follow}
-use Rattle.schemars_schema.proofs.Objects.{IsSilent, judge-put}
-use Rattle.schemars_builders.specs.NullLaw.{context2020_12, IsDraft, AcceptsNullToo}
-use Rattle.schemars_shapes.specs.Shape.{Entry, Shape, Field, Flattened}
-use Rattle.schemars_types.specs.Rows.{Row, name_at, entry_at}
+use Rattle.schemars_headline.proofs.Words.{is_some, Data, object, Members, get_member, Text, IsSchema, members_in, resolved, references, resolves, Dialect, Patterns, Judge, judge, draft2020_12, follow, IsSilent, context2020_12, Entry, Shape, Field, Flattened, Row, name_at, entry_at, IsChecked, root_document, IsWritten, Describes, HasPlainLiteral, IsPlainUnder, IsPlainTable, IsNotedEntry, HasPlainNotes, HasPlainNotesThroughout, plain_under, IsOneToOne, Plan, Registry, Refers, basis_of_plan, allow_null, State, state_plan, registry_of, HasOwnDefinitions, IsRootOf, MeansItsType, IsDraftPath, with_definitions, HasKeysOnce, describes-wider, IsSubschema, document_describes, described, under_rows}
+use Rattle.schemars_schema.proofs.Objects.{judge-put}
+use Rattle.schemars_builders.specs.NullLaw.{IsDraft, AcceptsNullToo}
 use Rattle.schemars_types.specs.Effective.{expanded_shape, flattened_in, part_enums}
 use Rattle.schemars_types.specs.declared.contract.Contract.{Contract}
-use Rattle.schemars_types.specs.Faults.{IsChecked}
-use Rattle.schemars_documents.specs.Documents.{root_document}
-use Rattle.schemars_documents.specs.Describes.{IsWritten, Describes}
 use Rattle.schemars_shapes.specs.Shape as shape
-use Rattle.schemars_documents.specs.PlainTable.{IsPlainShape, HasPlainLiteral, IsEntryUnder, IsPlainUnder, IsPlainTable, IsNotedEntry, HasPlainNotes, HasPlainNotesThroughout}
-use Rattle.schemars_documents.proofs.OpenStructs.{plain_under}
-use Rattle.schemars_build.specs.Naming.{IsOneToOne}
-use Rattle.schemars_build.specs.Registry.{Plan, Registry, Refers, basis_of_plan}
-use Rattle.schemars_builders.specs.AllowNull.{allow_null}
+use Rattle.schemars_documents.specs.PlainTable.{IsPlainShape, IsEntryUnder}
 use Rattle.schemars_meaning.proofs.FieldsDescribed.{written_or_null}
-use Rattle.schemars_headline.specs.State.{State, state_plan, registry_of, HasOwnDefinitions}
-use Rattle.schemars_headline.specs.Headline.{IsRootOf, MeansItsType, MeansItsTypeIn, SubschemaHeadline, IsDraftPath, with_definitions}
+use Rattle.schemars_headline.specs.Headline.{MeansItsTypeIn, SubschemaHeadline}
 use Rattle.schemars_meaning.proofs.Notes.{judge-root}
-use Rattle.schemars_definitions.specs.Keys.{HasKeysOnce}
 use Rattle.schemars_headline.proofs.Keys.{all_members, IsDefinitionsKey}
 use Rattle.schemars_headline.proofs.OwnKeys.{no_definitions_in}
-use Rattle.schemars_meaning.proofs.Mapping.{describes-wider, written_map}
-use Rattle.schemars_build.specs.Parts.{IsSubschema}
-use Rattle.schemars_build.proofs.Placing.{document_describes, placed_written}
-use Rattle.schemars_meaning.proofs.Schemas.{described}
-use Rattle.schemars_meaning.proofs.Referring.{under_rows}
+use Rattle.schemars_meaning.proofs.Mapping.{written_map}
+use Rattle.schemars_build.proofs.Placing.{placed_written}
 use Rattle.schemars_headline.proofs.Resolving.{all_pass-resolve, Resolve, AllResolve, described_resolved, written_resolved, root_resolved, placed_resolved}
 use Rattle.schemars_headline.proofs.Standing.{MayRefer, AllStand, stands_now, refers_may}
 use Rattle.schemars_headline.proofs.Leading.{HoldsDefinitions, IsItsRoot, refers_resolve, written_accepts}

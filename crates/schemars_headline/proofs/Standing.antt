@@ -1,14 +1,7 @@
 -- The definitions of a document, and how they may refer to others.
 use Rattle.std.proofs.Common.{◌≡◌, ◌⊎◌, inl, inr, ℕ, Some, None, Bool, true, false, refl, arith}
-use Rattle.std.specs.Str.{IsUtf8}
-use Rattle.serde_json.specs.Data.{Data}
-use Rattle.serde_json.specs.Find.{get_member}
-use Rattle.schemars_schema.specs.Json.{Text}
-use Rattle.schemars_documents.specs.Describes.{Describes}
-use Rattle.schemars_build.specs.Naming.{name_of}
-use Rattle.schemars_build.specs.Registry.{Plan, Registry, Refers, IsDefinition, basis_of_plan}
-use Rattle.schemars_meaning.proofs.Mapping.{describes-wider}
-use Rattle.schemars_build.proofs.Placing.{document_describes}
+use Rattle.schemars_headline.proofs.Words.{IsUtf8, Data, get_member, Text, Describes, name_of, Plan, Registry, Refers, basis_of_plan, describes-wider, document_describes}
+use Rattle.schemars_build.specs.Registry.{IsDefinition}
 
 -- with `#` free there are more references
 pub free_refers : (plan : Plan) (w : Registry) (free : Bool) (j : ℕ) (r : Text) → Refers plan free w j r → Refers plan true w j r

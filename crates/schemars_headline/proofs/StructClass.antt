@@ -1,35 +1,20 @@
 -- In a table that is plain under its contract the document of each row is one that the law of 2019-09 speaks of, those of structs with
 -- flattened enums too.
 use Rattle.std.proofs.Common.{◌≡◌, ℕ, zero, inr, List, [], ◌∷◌, Option, Some, None, Bool, true, false, codes, refl, sym, ap, ◌∙◌, subst, arith}
-use Rattle.std.proofs.lemmas.Slice.Eq.{bytes_eq-Decides}
-use Rattle.std.specs.Prelude.{bytes_eq, if◌then◌else◌}
-use Rattle.serde_json.specs.Data.{Data, null, array, object, Members, no_members, member}
-use Rattle.serde_json.specs.Find.{get_member}
-use Rattle.serde_json.specs.View.{items_of}
-use Rattle.schemars_schema.specs.Json.{Text}
-use Rattle.schemars_text.specs.OrderedText.{is_listed}
-use Rattle.schemars_schema.specs.References.{NoSchemas, OneSchema, SchemaList, place_under, with_same_object, with_same_objects}
-use Rattle.schemars_schema.specs.Acceptance.{Context, Judge, draft2020_12, follow}
-use Rattle.schemars_builders.specs.NullLaw.{context2020_12}
+use Rattle.schemars_headline.proofs.Words.{bytes_eq-Decides, bytes_eq, if◌then◌else◌, Data, null, array, object, Members, no_members, member, get_member, items_of, Text, is_listed, NoSchemas, OneSchema, SchemaList, place_under, Judge, draft2020_12, follow, context2020_12, flattened, Everywhere, demanded, asked_of_items, asked_of_keywords, AreSchemas, IsSchemaList, IsTextWith, AreSomeTypes, absent-once, Field, Flattened, Fields, Entry, Row, entry_at, Keyword, required_names, AreNoted, IsNotedThroughout, Basis, Ask, part, members_of, Template, asks_of, filled, with_flattened, struct_template, Describes, Fit, under_rows}
+use Rattle.schemars_schema.specs.References.{with_same_object, with_same_objects}
+use Rattle.schemars_schema.specs.Acceptance.{Context}
 use Rattle.schemars_text.proofs.Members.{get_member-here, get_member-later}
-use Rattle.schemars_flatten.specs.Flatten.{flattened}
 use Rattle.schemars_flatten.proofs.Kept as kept
-use Rattle.schemars_laws.specs.Everywhere.{Everywhere, asked, demanded, asked_of_items, asked_of_keywords}
+use Rattle.schemars_laws.specs.Everywhere.{asked}
 use Rattle.schemars_laws.specs.Names.{IsNoObject}
-use Rattle.schemars_laws.specs.Classes.{AreSchemas, IsSchemaList, IsNoList}
-use Rattle.schemars_laws.specs.Stages.{IsTextWith, AreSomeTypes}
-use Rattle.schemars_laws.proofs.Editing.{absent-once}
-use Rattle.schemars_shapes.specs.Shape.{Field, Flattened, Fields, Entry}
-use Rattle.schemars_types.specs.Rows.{Row, entry_at}
+use Rattle.schemars_laws.specs.Classes.{IsNoList}
 use Rattle.schemars_types.specs.declared.contract.Contract.{Contract}
 use Rattle.schemars_types.specs.Meaning.{VariantMatch, is_required}
-use Rattle.schemars_documents.specs.Documents.{Keyword, required_names}
-use Rattle.schemars_documents.specs.PlainTable.{AreNoted, ArePartsUnder, IsEntryUnder, IsNotedThroughout}
-use Rattle.schemars_documents.specs.Basis.{Basis}
-use Rattle.schemars_documents.specs.Template.{Ask, part, members_of, Template, asked as asked_for, with_keywords, asks_of, filled, first}
-use Rattle.schemars_documents.specs.OfShape.{fields_template, with_flattened, struct_template}
-use Rattle.schemars_documents.specs.Describes.{Describes}
-use Rattle.schemars_meaning.proofs.Filling.{Fit, parted}
+use Rattle.schemars_documents.specs.PlainTable.{ArePartsUnder, IsEntryUnder}
+use Rattle.schemars_documents.specs.Template.{asked as asked_for, with_keywords, first}
+use Rattle.schemars_documents.specs.OfShape.{fields_template}
+use Rattle.schemars_meaning.proofs.Filling.{parted}
 use Rattle.schemars_meaning.proofs.Flattened.{map_fills}
 use Rattle.schemars_meaning.proofs.Spread.{field_keywords}
 use Rattle.schemars_schema.proofs.SortedMembers.{IsSorted, get_member-above}
@@ -41,7 +26,6 @@ use Rattle.schemars_meaning.proofs.Items.{IsItem, AllItems, PartsAre, OneIs}
 use Rattle.schemars_meaning.proofs.StructDocuments.{IsStruct}
 use Rattle.schemars_meaning.proofs.PartsDescribed.{under_apart}
 use Rattle.schemars_meaning.proofs.ShapesCounted.{struct_stands, tell_inside}
-use Rattle.schemars_meaning.proofs.Referring.{under_rows}
 use Rattle.schemars_headline.proofs.Changes.{Demand, with_rest, Class, class-of, nothing, are-put, IsGood, good}
 use Rattle.schemars_headline.proofs.Documents.{map-good, fields-named}
 use Rattle.schemars_headline.proofs.Held.{by_listed, by_place, Holds, HoldsList, HoldsEach, HoldsAt, holds-everywhere, held-members, flattened-holds, part-holds}

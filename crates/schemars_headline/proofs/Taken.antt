@@ -1,32 +1,15 @@
 -- Definitions that are taken for OpenAPI mean the types of their names.
 use Rattle.std.proofs.Common.{◌≡◌, inl, inr, ◌+◌, ◌*◌, ◌≤◌, ◌∷◌, ◌++◌, ℕ, Option, Some, None, true, refl, sym, ap, ◌∙◌, subst}
-use Rattle.std.specs.Prelude.{is_some}
-use Rattle.std.specs.Str.{IsUtf8}
-use Rattle.serde_json.specs.Data.{Data, string, Members, depth}
-use Rattle.serde_json.specs.Find.{get_member, pointer}
-use Rattle.serde_json.specs.Events.{members_len}
-use Rattle.schemars_schema.specs.Json.{Text}
+use Rattle.schemars_headline.proofs.Words.{is_some, IsUtf8, Data, string, Members, depth, get_member, pointer, members_len, Text, IsSchema, resolved, references, resolves, all_resolve, draft2020_12, accepts, count_of_definitions, IsChecked, IsPlainTable, IsOneToOne, Plan, Registry, basis_of_plan, Refers, plain_under, described, State, path_of, state_plan, registry_of, HasOwnDefinitions, AcceptsItsValues, Stands, IsForOpenApi, weaker}
 use Rattle.schemars_schema.specs.Encoding.{encoded}
-use Rattle.schemars_schema.specs.SchemaData.{IsSchema}
-use Rattle.schemars_schema.specs.Lookup.{resolved}
-use Rattle.schemars_schema.specs.References.{references, resolves, all_resolve}
-use Rattle.schemars_schema.specs.Acceptance.{draft2020_12, openapi3, accepts, count_of_definitions}
+use Rattle.schemars_schema.specs.Acceptance.{openapi3}
 use Rattle.schemars_schema.proofs.Placings.{plain-components, resolved-definition, count-place}
-use Rattle.schemars_types.specs.Faults.{IsChecked}
-use Rattle.schemars_documents.specs.PlainTable.{IsPlainTable}
-use Rattle.schemars_build.specs.Naming.{IsOneToOne}
-use Rattle.schemars_build.specs.Registry.{Plan, Registry, basis_of_plan, Refers}
-use Rattle.schemars_documents.proofs.OpenStructs.{plain_under}
-use Rattle.schemars_meaning.proofs.Schemas.{described}
-use Rattle.schemars_headline.specs.State.{State, path_of, state_plan, registry_of, HasOwnDefinitions}
-use Rattle.schemars_headline.specs.Headline.{AcceptsItsValues}
 use Rattle.schemars_headline.proofs.Standing.{MayRefer, AllStand, stands_now}
 use Rattle.schemars_headline.proofs.Placed.{held}
 use Rattle.schemars_headline.proofs.Leading.{HoldsDefinitions, IsItsRoot, written_accepts}
 use Rattle.schemars_laws.specs.Paths.{IsDefinitionAt, EachEverywhere, components, components_of}
-use Rattle.schemars_laws.specs.Stages.{Stands, IsForOpenApi, Anything}
+use Rattle.schemars_laws.specs.Stages.{Anything}
 use Rattle.schemars_laws.specs.Laws.{for_openapi3}
-use Rattle.schemars_laws.proofs.Preserved.{weaker}
 use Rattle.schemars_laws.proofs.Chain.{components-found, openapi-law, names-at_end, all_seven, schema-at_end, len-at_end, found-at_end, missing-at_end, seven-each}
 use Rattle.schemars_headline.specs.Taken.{MeansItsRow, MeanTheirRows, OpenApiHeadline}
 use Rattle.schemars_headline.proofs.ReferencesKept.{RefersOnce}

@@ -1,27 +1,10 @@
 -- What the document of an enum says whose values have name and content under two keys.
 use Rattle.std.proofs.Common.{◌≡◌, ℕ, zero, suc, ◌<◌, List, [], ◌∷◌, ◌++◌, map, Some, None, Bool, true, false, refl, sym, ap, ◌∙◌, subst, true≢false}
-use Rattle.std.specs.Prelude.{bytes_eq, if◌then◌else◌, is_some, ◌&&◌, not}
-use Rattle.std.specs.List.{list_any}
-use Rattle.std.specs.Option.{option_map_or}
-use Rattle.std.proofs.lemmas.Bool.{and_parts}
-use Rattle.std.proofs.lemmas.Slice.Eq.{bytes_eq-Decides}
-use Rattle.serde_json.specs.Data.{Data, null, object, no_members, depth}
-use Rattle.serde_json.specs.Find.{get_member}
-use Rattle.schemars_schema.specs.Json.{Text, IsJson}
-use Rattle.schemars_schema.specs.SchemaData.{IsSchema}
-use Rattle.schemars_schema.specs.Verdict.{verdict}
-use Rattle.schemars_schema.specs.Acceptance.{Context, judge, read_data}
-use Rattle.schemars_text.proofs.Members.{flipped}
-use Rattle.schemars_builders.specs.Variants.{unit_variant}
-use Rattle.schemars_shapes.specs.Shape.{Field, Flattened, Payload, Variant, no_payload, newtype_payload, tuple_payload, struct_payload, needed}
+use Rattle.schemars_meaning.proofs.Words.{bytes_eq, if◌then◌else◌, is_some, ◌&&◌, not, list_any, option_map_or, and_parts, bytes_eq-Decides, Data, null, object, no_members, depth, get_member, Text, IsJson, IsSchema, verdict, Context, judge, flipped, unit_variant, Field, Flattened, Payload, Variant, no_payload, newtype_payload, tuple_payload, struct_payload, needed, VariantMatch, every_member, member_fits, tagged_fits, has_required, has_fields, has_payload, has_tagged, expanded_payload, expanded_variant, AreDistinctVariants, Keyword, Ask, Template, asks_of, asks_in, filled, filled_in, templates_of, payload_template, said, whole_template, adjacent_payload, adjacent_item, adjacent_template}
+use Rattle.schemars_schema.specs.Acceptance.{read_data}
 use Rattle.schemars_types.specs.declared.contract.Contract.{Contract}
 use Rattle.schemars_types.specs.declared.contract.Contract.TheVariants.{Deserialize}
-use Rattle.schemars_types.specs.Meaning.{VariantMatch, is_text, every_member, member_fits, tagged_fits, adjacent_fits, has_required, has_fields, has_payload, has_tagged, has_beside, has_adjacent}
-use Rattle.schemars_types.specs.Effective.{expanded_payload, expanded_variant}
-use Rattle.schemars_documents.specs.PlainTable.{AreDistinctVariants}
-use Rattle.schemars_documents.specs.Documents.{Keyword}
-use Rattle.schemars_documents.specs.Template.{Ask, Template, asks_of, asks_in, filled, filled_in}
-use Rattle.schemars_documents.specs.OfShape.{templates_of, payload_template, said, whole_template, adjacent_payload, adjacent_item, adjacent_template}
+use Rattle.schemars_types.specs.Meaning.{is_text, adjacent_fits, has_beside, has_adjacent}
 use Rattle.schemars_meaning.proofs.MapDocument.{map_document}
 use Rattle.schemars_meaning.proofs.MapKeywords.{keywords}
 use Rattle.schemars_meaning.proofs.Filling.{Fit, without_end, parted}

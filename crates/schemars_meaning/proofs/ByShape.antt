@@ -1,24 +1,10 @@
 -- What fills the template of a shape is the shape's document, shape by shape.
 use Rattle.std.proofs.Common.{◌≡◌, ℕ, zero, suc, List, [], ◌∷◌, ◌++◌, Bool, true, false, length, map, refl, sym, ap, ◌∙◌, subst, append-nil}
-use Rattle.std.specs.Prelude.{codes}
-use Rattle.serde_json.specs.Data.{Data, boolean, array, Items, no_items, item}
-use Rattle.serde_json.specs.View.{items_of}
-use Rattle.schemars_schema.specs.Json.{Text}
-use Rattle.schemars_schema.specs.SchemaData.{object_of}
-use Rattle.schemars_builders.specs.AllowNull.{allow_null}
-use Rattle.schemars_builders.specs.NullLaw.{text_items}
-use Rattle.schemars_builders.specs.Variants.{unit_variant}
+use Rattle.schemars_meaning.proofs.Words.{codes, Data, boolean, array, Items, no_items, item, items_of, Text, object_of, allow_null, text_items, unit_variant, Shape, Field, Flattened, Entry, key_options, effective, Keyword, typed, type_alone, int_document, non_zero_document, bytes_document, required_names, annotated, parts_in, ArePlainParts, Basis, Ask, part, row, asks_of, asks_in, filled, filled_in, templates_of, tuple_template, template_of, entry_template, values_template, Fills}
 use Rattle.schemars_shapes.specs.Shape as shape
-use Rattle.schemars_shapes.specs.Shape.{Shape, Field, Flattened, Entry}
 use Rattle.schemars_types.specs.declared.contract.Contract.{Contract}
-use Rattle.schemars_types.specs.KeyOptions.{key_options}
-use Rattle.schemars_types.specs.Effective.{effective}
-use Rattle.schemars_documents.specs.Documents.{Keyword, typed, type_alone, int_document, non_zero_document, char_document, formatted_document, count_at, empty_list_document, bytes_document, schema_document, required_names, annotated}
-use Rattle.schemars_documents.specs.PlainTable.{parts_in, ArePlainParts}
-use Rattle.schemars_documents.specs.Basis.{Basis}
-use Rattle.schemars_documents.specs.Template.{Ask, part, row, asks_of, asks_in, filled, filled_in}
-use Rattle.schemars_documents.specs.OfShape.{templates_of, tuple_template, template_of, entry_template, literal_document, values_template, enum_template}
-use Rattle.schemars_documents.specs.Describes.{Fills}
+use Rattle.schemars_documents.specs.Documents.{char_document, formatted_document, count_at, empty_list_document, schema_document}
+use Rattle.schemars_documents.specs.OfShape.{literal_document, enum_template}
 use Rattle.schemars_meaning.proofs.MapDocument.{map_document}
 use Rattle.schemars_meaning.proofs.Spread.{field_keywords, IsFieldsDocument, AnswersFields}
 use Rattle.schemars_meaning.proofs.Filling.{ArePartsWritten, Fit, rows_asked, parts_answered}

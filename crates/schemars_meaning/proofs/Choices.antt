@@ -1,26 +1,14 @@
 -- What a choice of documents says under 2020-12, and the documents of maps with members that have to be there.
 use Rattle.std.proofs.Common.{◌≡◌, ℕ, ◌<◌, List, [], ◌∷◌, map, Some, None, Bool, true, false, refl, ap, ◌∙◌}
-use Rattle.std.specs.Prelude.{codes, ◌||◌, bytes_eq}
-use Rattle.serde_json.specs.Data.{Data, null, boolean, number, string, array, object, depth}
-use Rattle.schemars_schema.specs.Verdict.{verdict, opposite, none_of, one_of}
-use Rattle.serde_json.specs.Find.{as_str}
-use Rattle.std.specs.List.{list_any}
-use Rattle.schemars_builders.specs.NullLaw.{text_items, context2020_12}
-use Rattle.schemars_schema.specs.Json.{Text, IsJson, json_eq, alike, is_among}
-use Rattle.schemars_schema.specs.SchemaData.{IsSchema}
-use Rattle.schemars_schema.specs.Acceptance.{Patterns, Judge, Context, judge, read_data, read_items, all_keywords}
-use Rattle.schemars_schema.proofs.Verdicts.{both-yes}
-use Rattle.schemars_schema.proofs.Objects.{schema-judge}
-use Rattle.schemars_builders.specs.Variants.{unit_variant}
+use Rattle.schemars_meaning.proofs.Words.{codes, ◌||◌, bytes_eq, Data, null, boolean, number, string, array, object, depth, verdict, opposite, one_of, as_str, list_any, text_items, context2020_12, Text, IsJson, IsSchema, Patterns, Judge, Context, judge, read_items, both-yes, schema-judge, unit_variant, needed, has_shape, has_fields, exactly_one, none, items_of, key_options, Basis}
+use Rattle.schemars_schema.specs.Verdict.{none_of}
+use Rattle.schemars_schema.specs.Json.{alike, is_among}
+use Rattle.schemars_schema.specs.Acceptance.{read_data, all_keywords}
 use Rattle.schemars_shapes.specs.Shape as shape
-use Rattle.schemars_shapes.specs.Shape.{Shape, needed}
 use Rattle.schemars_types.specs.declared.contract.Contract.{Contract}
 use Rattle.schemars_types.specs.declared.contract.Contract.TheVariants.{Deserialize, Serialize}
-use Rattle.schemars_types.specs.Meaning.{has_shape, has_fields, exactly_one, none, is_text}
+use Rattle.schemars_types.specs.Meaning.{is_text}
 use Rattle.schemars_types.specs.OpenStructs.{no_choices}
-use Rattle.serde_json.specs.View.{items_of}
-use Rattle.schemars_types.specs.KeyOptions.{key_options}
-use Rattle.schemars_documents.specs.Basis.{Basis}
 use Rattle.schemars_meaning.proofs.ByShape.{one_of_document, any_of_document, units_document, member_document, range_document, result_document, bound_document, either_document}
 use Rattle.schemars_meaning.proofs.Verdicts.{none_verdict, one_verdict}
 use Rattle.schemars_meaning.proofs.Structs.{struct_says}

@@ -1,21 +1,10 @@
 -- Null can be added to the documents of enums, and what those of untagged enums say under 2020-12.
 use Rattle.std.proofs.Common.{◌≡◌, ◌⊎◌, inl, inr, ℕ, List, [], ◌∷◌, ◌++◌, map, Bool, true, false, refl, ap, ◌∙◌, subst, sym}
-use Rattle.std.specs.List.{list_any}
-use Rattle.serde_json.specs.Data.{Data, Members}
-use Rattle.schemars_schema.specs.Verdict.{verdict}
-use Rattle.schemars_schema.specs.Json.{Text}
-use Rattle.schemars_schema.specs.SchemaData.{IsSchema}
-use Rattle.schemars_schema.specs.Acceptance.{Patterns, Judge, Context, judge, read_data}
-use Rattle.schemars_schema.specs.Annotations.{AreNotes}
-use Rattle.schemars_builders.specs.NullLaw.{context2020_12}
-use Rattle.schemars_builders.proofs.Nulls.{IsReady, AreReady}
-use Rattle.schemars_shapes.specs.Shape.{Field, Flattened, Fields, Payload, Variant, no_payload, newtype_payload, tuple_payload, struct_payload}
-use Rattle.schemars_types.specs.Effective.{expanded_variant}
+use Rattle.schemars_meaning.proofs.Words.{list_any, Data, Members, verdict, Text, IsSchema, Patterns, Judge, Context, judge, AreNotes, context2020_12, IsReady, Field, Flattened, Fields, Payload, Variant, no_payload, newtype_payload, tuple_payload, struct_payload, expanded_variant, ArePlainVariants, payload_parts, variant_parts, Basis, Ask, part, Template, noted, Templates, asks_of, asks_in, filled, filled_in, templates_of, payload_template, bare_units, other_items, choice_of, external_template, payload_item, untagged_template, titled, struct_template, internal_item, internal_template, adjacent_item, adjacent_template}
+use Rattle.schemars_schema.specs.Acceptance.{read_data}
+use Rattle.schemars_builders.proofs.Nulls.{AreReady}
 use Rattle.schemars_types.specs.declared.contract.Contract.{Contract}
-use Rattle.schemars_documents.specs.PlainTable.{ArePlainVariants, payload_parts, variant_parts}
-use Rattle.schemars_documents.specs.Basis.{Basis}
-use Rattle.schemars_documents.specs.Template.{Ask, part, Template, noted, Templates, asks_of, asks_in, filled, filled_in}
-use Rattle.schemars_documents.specs.OfShape.{templates_of, any_of_template, payload_template, bare_units, other_items, units_template, choice_of, external_template, payload_item, untagged_template, titled, title_alone, struct_template, internal_item, internal_template, adjacent_item, adjacent_template}
+use Rattle.schemars_documents.specs.OfShape.{any_of_template, units_template, title_alone}
 use Rattle.schemars_meaning.proofs.Filling.{Fit, without_end, parted}
 use Rattle.schemars_meaning.proofs.ByShape.{tuple_fills}
 use Rattle.schemars_meaning.proofs.Ready.{tuple_ready, one_of_ready, any_of_ready, units_ready}

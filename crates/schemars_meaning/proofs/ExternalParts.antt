@@ -1,21 +1,7 @@
 -- An enum whose variants have their names as keys, where it is flattened: units without notes, and any others.
 use Rattle.std.proofs.Common.{◌≡◌, ℕ, ◌<◌, List, [], ◌∷◌, ◌++◌, Bool, true, false, map, refl, sym, subst, append-nil}
-use Rattle.std.specs.Prelude.{if◌then◌else◌}
-use Rattle.serde_json.specs.Data.{Data, Members, depth}
-use Rattle.schemars_schema.specs.Json.{Text, IsJson}
-use Rattle.schemars_schema.specs.SchemaData.{IsSchema}
-use Rattle.schemars_schema.specs.Annotations.{AreNotes}
-use Rattle.schemars_schema.specs.Verdict.{verdict}
-use Rattle.schemars_schema.specs.Acceptance.{Context, judge, is_null}
-use Rattle.schemars_builders.specs.AllowNull.{null_schema}
-use Rattle.schemars_flatten.specs.Parts.{flattened_part}
-use Rattle.schemars_shapes.specs.Shape.{Payload, Variant, no_payload, newtype_payload, tuple_payload, struct_payload}
-use Rattle.schemars_shapes.specs.Units.{is_bare_unit}
+use Rattle.schemars_meaning.proofs.Words.{if◌then◌else◌, Data, Members, depth, Text, IsJson, IsSchema, AreNotes, verdict, Context, judge, is_null, null_schema, flattened_part, Payload, Variant, no_payload, newtype_payload, tuple_payload, struct_payload, is_bare_unit, annotated, Ask, Template, noted, asks_of, asks_in, filled, filled_in, templates_of, member_template, payload_template, named_template, bare_units, other_items, choice_of, external_template, VariantMatch, member_choice}
 use Rattle.schemars_types.specs.declared.contract.Contract.{Contract}
-use Rattle.schemars_documents.specs.Documents.{annotated}
-use Rattle.schemars_documents.specs.Template.{Ask, Template, noted, asks_of, asks_in, filled, filled_in}
-use Rattle.schemars_documents.specs.OfShape.{templates_of, member_template, payload_template, named_template, bare_units, other_items, choice_of, external_template}
-use Rattle.schemars_types.specs.Meaning.{VariantMatch, member_choice}
 use Rattle.schemars_meaning.proofs.Filling.{Fit, without_end, parted}
 use Rattle.schemars_meaning.proofs.Items.{IsItem, AnyItems, member_item}
 use Rattle.schemars_meaning.proofs.StructDocuments.{IsPart}

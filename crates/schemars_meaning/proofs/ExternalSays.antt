@@ -1,29 +1,12 @@
 -- What the document of an enum says whose variants have their names as keys, and whose payloads may have enums among their members.
 use Rattle.std.proofs.Common.{◌≡◌, ℕ, ◌<◌, List, [], ◌∷◌, ◌++◌, map, Option, Some, None, Bool, true, false, refl, sym, ap, ◌∙◌, subst, true≢false}
-use Rattle.std.specs.Prelude.{bytes_eq, if◌then◌else◌, is_some, ◌&&◌, ◌||◌}
-use Rattle.std.specs.List.{list_any}
-use Rattle.std.specs.Option.{option_map_or}
-use Rattle.std.proofs.Math.Bool.{and_comm, and-true}
-use Rattle.std.proofs.lemmas.Bool.{and_parts}
-use Rattle.std.proofs.lemmas.Slice.Eq.{bytes_eq-Decides}
+use Rattle.schemars_meaning.proofs.Words.{bytes_eq, if◌then◌else◌, is_some, ◌&&◌, ◌||◌, list_any, option_map_or, and_comm, and-true, and_parts, bytes_eq-Decides, Data, null, string, object, Members, no_members, member, depth, get_member, Text, IsJson, IsSchema, AreNotes, verdict, Context, judge, unit_variant, Field, Flattened, Payload, Variant, no_payload, newtype_payload, tuple_payload, struct_payload, needed, is_bare_unit, every_member, member_fits, has_required, none, exactly_one, VariantMatch, has_fields, has_payload, AreDistinctVariants, Ask, Template, noted, asks_of, asks_in, filled, filled_in, templates_of, member_template, payload_template, named_template, bare_units, other_items, choice_of, external_template, expanded_payload, expanded_variant}
 use Rattle.std.proofs.lemmas.Option.{same_Some}
-use Rattle.serde_json.specs.Data.{Data, null, string, object, Members, no_members, member, depth}
-use Rattle.serde_json.specs.Find.{get_member}
-use Rattle.schemars_schema.specs.Json.{Text, IsJson}
-use Rattle.schemars_schema.specs.SchemaData.{IsSchema}
-use Rattle.schemars_schema.specs.Annotations.{AreNotes}
-use Rattle.schemars_schema.specs.Verdict.{verdict}
-use Rattle.schemars_schema.specs.Acceptance.{Context, judge, read_data}
-use Rattle.schemars_builders.specs.Variants.{unit_variant}
-use Rattle.schemars_shapes.specs.Shape.{Field, Flattened, Payload, Variant, no_payload, newtype_payload, tuple_payload, struct_payload, needed}
-use Rattle.schemars_shapes.specs.Units.{is_bare_unit}
+use Rattle.schemars_schema.specs.Acceptance.{read_data}
 use Rattle.schemars_types.specs.declared.contract.Contract.{Contract}
 use Rattle.schemars_types.specs.declared.contract.Contract.TheVariants.{Deserialize}
-use Rattle.schemars_types.specs.Meaning.{is_map_of, is_text, every_member, member_fits, has_required, none, exactly_one, VariantMatch, has_fields, has_payload, has_external}
-use Rattle.schemars_documents.specs.PlainTable.{IsNoVariant, AreDistinctVariants}
-use Rattle.schemars_documents.specs.Template.{Ask, Template, noted, asks_of, asks_in, filled, filled_in}
-use Rattle.schemars_documents.specs.OfShape.{templates_of, member_template, payload_template, named_template, bare_units, other_items, choice_of, external_template}
-use Rattle.schemars_types.specs.Effective.{expanded_payload, expanded_variant}
+use Rattle.schemars_types.specs.Meaning.{is_map_of, is_text, has_external}
+use Rattle.schemars_documents.specs.PlainTable.{IsNoVariant}
 use Rattle.schemars_meaning.proofs.MapDocument.{map_document}
 use Rattle.schemars_meaning.proofs.MapKeywords.{keywords}
 use Rattle.schemars_meaning.proofs.Filling.{Fit, without_end, parted}

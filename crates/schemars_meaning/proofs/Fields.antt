@@ -1,19 +1,7 @@
 -- A field's schema is found at its name.
 use Rattle.std.proofs.Common.{◌≡◌, ℕ, List, [], ◌∷◌, Option, Some, None, Bool, true, false, refl, sym, ◌∙◌, true≢false}
-use Rattle.std.specs.Prelude.{bytes_eq, ◌&&◌, ◌||◌, not, is_some, if◌then◌else◌}
-use Rattle.std.proofs.lemmas.Slice.Eq.{bytes_eq-Decides}
-use Rattle.serde_json.specs.Data.{Data, Members, put}
-use Rattle.serde_json.specs.Find.{get_member}
-use Rattle.serde_json.proofs.Views.{get_member-put, get_member-put_other}
-use Rattle.schemars_schema.specs.Json.{Text}
-use Rattle.schemars_schema.specs.SchemaData.{IsSchema, put_all}
-use Rattle.schemars_schema.specs.Acceptance.{have_all}
-use Rattle.schemars_schema.specs.Annotations.{AreNotes}
-use Rattle.schemars_shapes.specs.Shape.{Field}
+use Rattle.schemars_meaning.proofs.Words.{bytes_eq, ◌&&◌, ◌||◌, not, is_some, if◌then◌else◌, bytes_eq-Decides, Data, Members, put, get_member, get_member-put, get_member-put_other, Text, IsSchema, put_all, have_all, AreNotes, Field, is_required, field_named, has_required, IsNoName, AreDistinct, AreNoted, annotated, required_names}
 use Rattle.schemars_types.specs.declared.contract.Contract.{Contract}
-use Rattle.schemars_types.specs.Meaning.{is_required, field_named, has_required}
-use Rattle.schemars_documents.specs.PlainTable.{IsNoName, AreDistinct, AreNoted}
-use Rattle.schemars_documents.specs.Documents.{annotated, required_names}
 use Rattle.schemars_meaning.proofs.Spread.{field_keywords, AreWritten}
 use Rattle.schemars_meaning.proofs.Notes.{annotated-schema}
 use Rattle.schemars_meaning.proofs.Named.{AreEntries}

@@ -1,25 +1,13 @@
 -- In a plain table a flattened struct has the document of a map with its fields, and null can be added to each document.
 use Rattle.std.proofs.Common.{◌≡◌, inl, inr, ℕ, zero, suc, List, [], ◌∷◌, Option, Some, None, Bool, false, refl, sym, ap, ◌∙◌, subst, arith}
-use Rattle.std.specs.Prelude.{is_some, ◌&&◌}
-use Rattle.std.specs.Option.{option_map_or}
-use Rattle.serde_json.specs.Data.{Data}
-use Rattle.schemars_schema.specs.Json.{Text}
-use Rattle.schemars_schema.specs.Acceptance.{Dialect}
-use Rattle.schemars_builders.specs.AllowNull.{allow_null}
+use Rattle.schemars_meaning.proofs.Words.{is_some, ◌&&◌, option_map_or, Data, Text, Dialect, allow_null, IsReady, Field, Flattened, Fields, Shape, Entry, entry_at, effective, flattened_in, part_enums, shape_fields, flattened_part, annotated, required_names, ArePlainParts, IsPlainEntry, Basis, Ask, asks_of, filled, struct_template, IsOwnDocument, IsAnswered, IsWritten}
 use Rattle.schemars_builders.specs.NullLaw.{IsDraft, AcceptsNullToo}
-use Rattle.schemars_builders.proofs.Nulls.{IsReady, ready-law}
-use Rattle.schemars_shapes.specs.Shape.{Field, Flattened, Fields, Shape, Entry}
-use Rattle.schemars_types.specs.Rows.{entry_at}
+use Rattle.schemars_builders.proofs.Nulls.{ready-law}
 use Rattle.schemars_types.specs.Edges.{option_at}
-use Rattle.schemars_types.specs.Effective.{effective, part_fields, flattened_in, part_enums, shape_fields, fields_within}
-use Rattle.schemars_flatten.specs.Parts.{flattened_part}
-use Rattle.schemars_documents.specs.Documents.{annotated, required_names}
-use Rattle.schemars_documents.specs.PlainTable.{IsOpenStruct, ArePlainParts, IsPlainEntry, IsPlainTable}
+use Rattle.schemars_types.specs.Effective.{part_fields, fields_within}
+use Rattle.schemars_documents.specs.PlainTable.{IsOpenStruct, IsPlainTable}
 use Rattle.schemars_documents.proofs.OpenStructs.{bare, part_same, parts_apart}
-use Rattle.schemars_documents.specs.Basis.{Basis}
-use Rattle.schemars_documents.specs.Template.{Ask, asks_of, filled}
-use Rattle.schemars_documents.specs.OfShape.{struct_template}
-use Rattle.schemars_documents.specs.Describes.{IsOwnDocument, IsAnswered, IsWritten, Describes}
+use Rattle.schemars_documents.specs.Describes.{Describes}
 use Rattle.schemars_meaning.proofs.Spread.{field_keywords, IsFieldsDocument, AnswersFields}
 use Rattle.schemars_meaning.proofs.Flattening.{part-stays}
 use Rattle.schemars_meaning.proofs.Filling.{Fit}

@@ -1,28 +1,14 @@
 -- A document accepts just what belongs to its row, through references and rows that lead back to themselves.
 use Rattle.std.proofs.Common.{◌≡◌, ◌⊎◌, inl, inr, ℕ, zero, suc, ◌+◌, ◌*◌, ◌<◌, ◌≤◌, List, [], ◌∷◌, Option, Some, None, Bool, true, false, refl, ap, ◌∙◌, arith, add-one}
-use Rattle.std.specs.Prelude.{nat_lt, if◌then◌else◌, length}
+use Rattle.schemars_meaning.proofs.Words.{if◌then◌else◌, Data, depth, verdict, Text, IsJson, Patterns, Judge, draft2020_12, judge, follow, both-yes, context2020_12, IsReady, ready-schema, Entry, Row, entry_at, key_options, expanded_shape_in, VariantMatch, has_shape, choices_within, reference, IsEntryUnder, parts_in, Basis, Ask, filled, template_of, Fills, IsOwnDocument, IsAnswered, IsWritten}
+use Rattle.std.specs.Prelude.{nat_lt, length}
 use Rattle.std.proofs.Math.Nat.{mul-le-mul_right}
 use Rattle.std.proofs.lemmas.Bool.Decides.{nat_tests}
-use Rattle.serde_json.specs.Data.{Data, depth}
-use Rattle.schemars_schema.specs.Verdict.{verdict}
-use Rattle.schemars_schema.specs.Json.{Text, IsJson}
 use Rattle.schemars_schema.specs.Lookup.{resolved}
-use Rattle.schemars_schema.specs.Acceptance.{Patterns, Judge, draft2020_12, judge, read_data, all_keywords, follow}
-use Rattle.schemars_schema.proofs.Verdicts.{both-yes}
-use Rattle.schemars_builders.specs.NullLaw.{context2020_12}
-use Rattle.schemars_builders.proofs.Nulls.{IsReady, ready-schema}
-use Rattle.schemars_shapes.specs.Shape.{Entry}
-use Rattle.schemars_types.specs.Rows.{Row, entry_at}
-use Rattle.schemars_types.specs.KeyOptions.{key_options}
-use Rattle.schemars_types.specs.Effective.{expanded_shape_in}
+use Rattle.schemars_schema.specs.Acceptance.{read_data, all_keywords}
 use Rattle.schemars_types.specs.declared.contract.Contract.{Contract}
-use Rattle.schemars_types.specs.Meaning.{VariantMatch, has_shape, belongs_within, choices_within}
-use Rattle.schemars_documents.specs.Documents.{reference}
-use Rattle.schemars_documents.specs.PlainTable.{IsEntryUnder, parts_in}
-use Rattle.schemars_documents.specs.Basis.{Basis}
-use Rattle.schemars_documents.specs.Template.{Ask, filled}
-use Rattle.schemars_documents.specs.OfShape.{template_of}
-use Rattle.schemars_documents.specs.Describes.{Fills, IsOwnDocument, IsAnswered, IsWritten, Describes}
+use Rattle.schemars_types.specs.Meaning.{belongs_within}
+use Rattle.schemars_documents.specs.Describes.{Describes}
 use Rattle.schemars_meaning.proofs.Notes.{judge-annotated}
 use Rattle.schemars_meaning.proofs.Meanings.{IsSame, Inside}
 use Rattle.schemars_meaning.proofs.Heights as heights

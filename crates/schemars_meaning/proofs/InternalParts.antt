@@ -1,19 +1,9 @@
 -- An enum that is tagged inside its maps, where it is flattened.
 use Rattle.std.proofs.Common.{◌≡◌, ℕ, ◌<◌, List, [], ◌∷◌, Bool, true, map, refl, sym, subst}
-use Rattle.serde_json.specs.Data.{Data, Members, depth}
-use Rattle.schemars_schema.specs.Json.{Text, IsJson}
-use Rattle.schemars_schema.specs.SchemaData.{IsSchema}
-use Rattle.schemars_schema.specs.Annotations.{AreNotes}
-use Rattle.schemars_schema.specs.Verdict.{verdict}
-use Rattle.schemars_schema.specs.Acceptance.{Context, judge}
-use Rattle.schemars_builders.specs.Variants.{unit_variant}
-use Rattle.schemars_shapes.specs.Shape.{Field, Fields, Payload, Variant, no_payload, newtype_payload, tuple_payload, struct_payload}
+use Rattle.schemars_meaning.proofs.Words.{Data, Members, depth, Text, IsJson, IsSchema, AreNotes, verdict, Context, judge, unit_variant, Field, Fields, Payload, Variant, no_payload, newtype_payload, tuple_payload, struct_payload, VariantMatch, AreDistinct, AreNoted, annotated, Ask, part, asks_of, asks_in, filled, filled_in, templates_of, struct_template, content_template, internal_item, internal_template}
 use Rattle.schemars_types.specs.declared.contract.Contract.{Contract}
-use Rattle.schemars_types.specs.Meaning.{is_text, VariantMatch, internal_choice}
-use Rattle.schemars_documents.specs.PlainTable.{AreDistinct, AreNoted}
-use Rattle.schemars_documents.specs.Documents.{annotated}
-use Rattle.schemars_documents.specs.Template.{Ask, part, tagged, asks_of, asks_in, filled, filled_in}
-use Rattle.schemars_documents.specs.OfShape.{templates_of, struct_template, content_template, internal_item, internal_template}
+use Rattle.schemars_types.specs.Meaning.{is_text, internal_choice}
+use Rattle.schemars_documents.specs.Template.{tagged}
 use Rattle.schemars_meaning.proofs.Filling.{Fit, without_end, parted}
 use Rattle.schemars_meaning.proofs.Offers.{one_object}
 use Rattle.schemars_meaning.proofs.Items.{IsItem, AnyItems}

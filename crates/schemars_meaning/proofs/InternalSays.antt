@@ -1,31 +1,14 @@
 -- What the document of an enum says that is tagged inside its maps, whose structs may have enums among their members.
 use Rattle.std.proofs.Common.{◌≡◌, ℕ, ◌<◌, List, [], ◌∷◌, map, Option, Some, None, Bool, true, false, refl, sym, ap, ◌∙◌, subst, true≢false, Ordering, Less, Equal, Greater, nat_cmp, is_eq}
-use Rattle.std.specs.Prelude.{bytes_eq, if◌then◌else◌, is_some, ◌&&◌, ◌||◌, option_and_then, codes}
-use Rattle.std.specs.List.{list_any}
-use Rattle.std.specs.Ordering.{match_ordering}
-use Rattle.std.specs.Cmp.Lexicographic.{slice_cmp}
-use Rattle.std.proofs.lemmas.Bool.{and_parts}
-use Rattle.std.proofs.lemmas.Slice.Eq.{bytes_eq-Decides}
+use Rattle.schemars_meaning.proofs.Words.{bytes_eq, if◌then◌else◌, is_some, ◌&&◌, ◌||◌, option_and_then, codes, list_any, match_ordering, slice_cmp, and_parts, bytes_eq-Decides, Data, null, object, Members, no_members, member, depth, get_member, as_str, Text, IsJson, IsSchema, AreNotes, without, verdict, Context, judge, unit_variant, internally_tagged_variant, Field, Fields, Flattened, Payload, Variant, no_payload, newtype_payload, tuple_payload, struct_payload, holds, every_member, member_fits, tagged_fits, has_required, none, exactly_one, VariantMatch, every_part, excludes_key, matches_of, has_tagged, AreDistinctVariants, AreDistinct, AreNoted, type_alone, Ask, part, asks_of, asks_in, filled, filled_in, templates_of, struct_template, content_template, internal_item, internal_template, expanded_variant, effective, flattened_enums, enum_at}
 use Rattle.std.proofs.lemmas.Map.Text.{is_eq-slice_cmp}
 use Rattle.std.proofs.lemmas.Option.{same_Some}
-use Rattle.serde_json.specs.Data.{Data, null, object, Members, no_members, member, depth}
-use Rattle.serde_json.specs.Find.{get_member, as_object, as_str}
-use Rattle.schemars_schema.specs.Json.{Text, IsJson}
-use Rattle.schemars_schema.specs.SchemaData.{IsSchema}
-use Rattle.schemars_schema.specs.Annotations.{AreNotes}
-use Rattle.schemars_schema.specs.Edits.{without}
-use Rattle.schemars_schema.specs.Verdict.{verdict}
-use Rattle.schemars_schema.specs.Acceptance.{Context, judge, read_data}
-use Rattle.schemars_builders.specs.Variants.{unit_variant}
-use Rattle.schemars_builders.specs.Properties.{internally_tagged_variant}
-use Rattle.schemars_shapes.specs.Shape.{Field, Fields, Flattened, Payload, Variant, no_payload, newtype_payload, tuple_payload, struct_payload}
+use Rattle.serde_json.specs.Find.{as_object}
+use Rattle.schemars_schema.specs.Acceptance.{read_data}
 use Rattle.schemars_types.specs.declared.contract.Contract.{Contract}
-use Rattle.schemars_types.specs.Meaning.{holds, is_text, every_member, member_fits, tagged_fits, has_required, has_content, none, exactly_one, VariantMatch, every_part, excludes_key, matches_of, has_tagged, has_internal}
-use Rattle.schemars_documents.specs.PlainTable.{IsNoVariant, AreDistinctVariants, AreDistinct, AreNoted}
-use Rattle.schemars_documents.specs.Documents.{type_alone}
-use Rattle.schemars_documents.specs.Template.{Ask, part, tagged, asks_of, asks_in, filled, filled_in}
-use Rattle.schemars_documents.specs.OfShape.{templates_of, struct_template, content_template, internal_item, internal_template}
-use Rattle.schemars_types.specs.Effective.{expanded_variant, effective, flattened_enums, enum_at}
+use Rattle.schemars_types.specs.Meaning.{is_text, has_content, has_internal}
+use Rattle.schemars_documents.specs.PlainTable.{IsNoVariant}
+use Rattle.schemars_documents.specs.Template.{tagged}
 use Rattle.schemars_meaning.proofs.MapDocument.{map_document}
 use Rattle.schemars_meaning.proofs.Filling.{Fit, without_end, parted}
 use Rattle.schemars_meaning.proofs.Notes.{annotated-schema, annotated_fits}

@@ -1,22 +1,8 @@
 -- The schemas of an enum's variants where the enum is flattened: maps that let further members in.
 use Rattle.std.proofs.Common.{◌≡◌, ℕ, ◌<◌, List, [], ◌∷◌, ◌++◌, map, Option, Some, None, Bool, true, false, refl, sym, ap, ◌∙◌, subst, true≢false}
-use Rattle.std.proofs.Math.Bool.{and_comm, and-true}
-use Rattle.std.proofs.lemmas.Slice.Eq.{bytes_eq-Decides}
-use Rattle.std.specs.Prelude.{codes, bytes_eq, if◌then◌else◌, is_some, ◌&&◌, ◌||◌, not}
-use Rattle.std.specs.Option.{option_map_or}
-use Rattle.serde_json.specs.Data.{Data, null, object, string, Members, no_members, member, put, depth}
-use Rattle.serde_json.specs.Find.{get_member}
-use Rattle.serde_json.proofs.Views.{get_member-put, get_member-put_other}
-use Rattle.schemars_schema.specs.Json.{Text, IsJson}
-use Rattle.schemars_schema.specs.SchemaData.{IsSchema, put_all}
-use Rattle.schemars_schema.specs.Annotations.{AreNotes}
-use Rattle.schemars_schema.specs.Verdict.{verdict}
-use Rattle.schemars_schema.specs.Acceptance.{Context, judge}
-use Rattle.schemars_flatten.specs.Opening.{opened}
-use Rattle.schemars_shapes.specs.Shape.{Field, needed}
+use Rattle.schemars_meaning.proofs.Words.{and_comm, and-true, bytes_eq-Decides, codes, bytes_eq, if◌then◌else◌, is_some, ◌&&◌, ◌||◌, not, option_map_or, Data, null, object, string, Members, no_members, member, put, depth, get_member, get_member-put, get_member-put_other, Text, IsJson, IsSchema, put_all, AreNotes, verdict, Context, judge, opened, Field, needed, every_member, member_fits, has_required, VariantMatch, has_fields, member_choice, Keyword, annotated}
 use Rattle.schemars_types.specs.declared.contract.Contract.TheVariants.{Deserialize}
-use Rattle.schemars_types.specs.Meaning.{every_member, member_fits, has_required, VariantMatch, has_fields, has_member, member_choice}
-use Rattle.schemars_documents.specs.Documents.{Keyword, annotated}
+use Rattle.schemars_types.specs.Meaning.{has_member}
 use Rattle.schemars_meaning.proofs.MapDocument.{map_document}
 use Rattle.schemars_meaning.proofs.MapKeywords.{noted, noted_by-object, keywords, closed_there}
 use Rattle.schemars_meaning.proofs.Named.{AreEntries}

@@ -1,17 +1,10 @@
 -- Keywords put in one after another where both sides may have choices.
 use Rattle.std.proofs.Common.{◌≡◌, Option, Some, None, Bool, true, false, refl, sym, ap, ◌∙◌, subst}
-use Rattle.std.proofs.lemmas.Slice.Eq.{bytes_eq-Decides}
-use Rattle.std.specs.Prelude.{codes, bytes_eq, if◌then◌else◌}
-use Rattle.serde_json.specs.Data.{Data, Members, no_members, member, put}
-use Rattle.serde_json.specs.Find.{get_member}
-use Rattle.serde_json.proofs.Views.{get_member-put, get_member-put_other}
-use Rattle.schemars_schema.specs.Json.{Text, IsAbove}
-use Rattle.schemars_schema.specs.Edits.{without}
-use Rattle.schemars_text.proofs.Members.{get_member-later, differ, flipped, get_member-here}
-use Rattle.schemars_schema.proofs.Members.{get_member-without}
-use Rattle.schemars_schema.proofs.SortedMembers.{IsSorted, above-trans, get_member-above}
+use Rattle.schemars_meaning.proofs.Words.{bytes_eq-Decides, codes, bytes_eq, if◌then◌else◌, Data, Members, no_members, member, put, get_member, get_member-put, get_member-put_other, Text, without, get_member-later, differ, flipped, get_member-here, get_member-without, IsSorted, united_option, united_none}
+use Rattle.schemars_schema.specs.Json.{IsAbove}
+use Rattle.schemars_schema.proofs.SortedMembers.{above-trans, get_member-above}
 use Rattle.schemars_flatten.specs.Flatten.{is_choice, with_united, with_choice, both_choices, with_keyword, with_keywords}
-use Rattle.schemars_flatten.proofs.Lookups.{united_option, united_none, united_here, united_beside}
+use Rattle.schemars_flatten.proofs.Lookups.{united_here, united_beside}
 use Rattle.schemars_meaning.proofs.MapKeywords.{lacks-first, lacks-later, sorted-with_keywords}
 
 -- ---- a keyword that is taken out

@@ -1,3 +1,4 @@
+pub mod Words
 pub mod MapDocument
 pub mod Mapping
 pub mod Spread

@@ -1,13 +1,7 @@
 -- What an object with the keywords of a map says, with choices beside them, in each dialect that reads `unevaluatedProperties`.
 use Rattle.std.proofs.Common.{◌≡◌, Option, Some, None, Bool, true, false, option_map, refl, sym, ap, ◌∙◌, true≢false}
-use Rattle.std.proofs.Math.Bool.{or-false}
-use Rattle.std.specs.Prelude.{codes, bytes_eq, if◌then◌else◌, ◌&&◌, ◌||◌, not}
-use Rattle.serde_json.specs.Data.{Data, string, object, Members}
-use Rattle.serde_json.specs.Find.{get_member}
-use Rattle.schemars_schema.specs.Json.{Text}
-use Rattle.schemars_schema.specs.Verdict.{Verdict, both, verdict, all_of, one_of}
-use Rattle.schemars_schema.specs.Acceptance.{Context, Judge, Raw, Reading, judge, read_data, all_keywords, is_covered, type_says, required_says, properties_say, additional_properties_say, each_says, unevaluated_properties_say, judged_by_list, has_schema, judged_beside}
-use Rattle.schemars_schema.proofs.Verdicts.{both-yes}
+use Rattle.schemars_meaning.proofs.Words.{or-false, codes, bytes_eq, if◌then◌else◌, ◌&&◌, ◌||◌, not, Data, string, object, Members, get_member, Text, Verdict, both, verdict, all_of, one_of, Context, Judge, Reading, judge, read_data, is_covered, type_says, required_says, properties_say, additional_properties_say, each_says, judged_by_list, both-yes}
+use Rattle.schemars_schema.specs.Acceptance.{Raw, all_keywords, unevaluated_properties_say, has_schema, judged_beside}
 use Rattle.schemars_schema.proofs.Objects.{says, judge-object, says-agree, IsKeyword}
 use Rattle.schemars_schema.proofs.Silent.{items_none, const_none}
 

@@ -1,14 +1,9 @@
 -- What describes a row where there are more answers to what its template asks.
 use Rattle.std.proofs.Common.{inl, inr, ◌≤◌, ℕ, zero, suc, List, [], ◌∷◌, Option, Some, None, Bool, true, false, ◌≡◌, ◌⊎◌, arith}
-use Rattle.serde_json.specs.Data.{Data}
-use Rattle.schemars_schema.specs.Json.{Text}
-use Rattle.schemars_shapes.specs.Shape.{Field, Entry}
+use Rattle.schemars_meaning.proofs.Words.{Data, Text, Field, Entry, Row, entry_at, opened_inside, Basis, Template, Ask, part, members_of, content, asks_of, AreAnswered, Fills, IsOwnDocument, IsAnswered, IsWritten}
 use Rattle.schemars_types.specs.declared.contract.Contract.{Contract}
-use Rattle.schemars_types.specs.Rows.{Row, entry_at}
-use Rattle.schemars_flatten.specs.Opening.{opened_inside, must_be_in_place}
-use Rattle.schemars_documents.specs.Basis.{Basis}
-use Rattle.schemars_documents.specs.Template.{Template, Ask, part, members_of, content, asks_of}
-use Rattle.schemars_documents.specs.Describes.{AreAnswered, Fills, IsOwnDocument, IsContent, IsAnswered, IsWritten, Describes}
+use Rattle.schemars_flatten.specs.Opening.{must_be_in_place}
+use Rattle.schemars_documents.specs.Describes.{IsContent, Describes}
 use Rattle.schemars_meaning.proofs.Spread.{AreWritten, IsFieldsDocument}
 
 -- ---- other answers

@@ -1,17 +1,8 @@
 -- What the document of a map with named members says under 2020-12.
 use Rattle.std.proofs.Common.{◌≡◌, List, [], ◌∷◌, Option, Some, None, Bool, true, false, refl, sym, ap, ◌∙◌}
-use Rattle.std.specs.Prelude.{codes, if◌then◌else◌, is_some}
-use Rattle.serde_json.specs.Data.{Data, null, boolean, number, string, array, object, Members, no_members}
-use Rattle.schemars_schema.specs.Verdict.{Verdict, Yes, No, both, verdict}
-use Rattle.schemars_schema.specs.Json.{Text}
-use Rattle.schemars_schema.specs.SchemaData.{object_of, put_all}
-use Rattle.schemars_schema.specs.Acceptance.{Patterns, Judge, Context, Reading, judge, read_data, all_keywords, schema_named, each_member, where_some, have_all, type_says, required_says, properties_say, additional_properties_say, is_covered}
-use Rattle.schemars_schema.proofs.Verdicts.{both-yes, each_agree}
-use Rattle.schemars_schema.proofs.Silent.{silent}
-use Rattle.schemars_builders.specs.NullLaw.{context2020_12, text_items}
+use Rattle.schemars_meaning.proofs.Words.{codes, if◌then◌else◌, is_some, Data, null, boolean, number, string, array, object, Members, no_members, Verdict, Yes, No, both, verdict, Text, object_of, put_all, Patterns, Judge, Context, Reading, judge, schema_named, each_member, where_some, have_all, type_says, required_says, properties_say, additional_properties_say, is_covered, both-yes, each_agree, silent, context2020_12, text_items, or-false, Keyword}
+use Rattle.schemars_schema.specs.Acceptance.{read_data, all_keywords}
 use Rattle.schemars_builders.proofs.NullKeywords.{texts_in-text_items}
-use Rattle.std.proofs.Math.Bool.{or-false}
-use Rattle.schemars_documents.specs.Documents.{Keyword}
 use Rattle.schemars_meaning.proofs.MapDocument.{map_document}
 use Rattle.schemars_meaning.proofs.Named.{judges_in, all_named-schemas, AreEntries, AreSchemas-put_all, each_yes, IsNoMap}
 

@@ -1,34 +1,20 @@
 -- The documents of shapes into which nothing is flattened say what the shapes mean, and null can be added to each document.
 use Rattle.std.proofs.Common.{◌≡◌, ◌⊎◌, ℕ, zero, suc, ◌<◌, inl, inr, List, [], ◌∷◌, ◌++◌, Bool, true, false, refl, ◌∙◌}
-use Rattle.serde_json.specs.Data.{Data, depth}
-use Rattle.schemars_schema.specs.Verdict.{verdict}
-use Rattle.schemars_schema.specs.Json.{Text, IsJson}
-use Rattle.schemars_schema.specs.SchemaData.{IsSchema}
-use Rattle.schemars_schema.specs.Acceptance.{draft2020_12, Patterns, Judge, Context, judge}
-use Rattle.schemars_builders.specs.NullLaw.{context2020_12}
-use Rattle.schemars_builders.proofs.Nulls.{IsReady, ready-schema, ready-law, ready-allow_null}
-use Rattle.schemars_types.specs.KeyOptions.{key_options}
+use Rattle.schemars_meaning.proofs.Words.{Data, depth, verdict, Text, IsJson, IsSchema, draft2020_12, Patterns, Judge, Context, judge, context2020_12, IsReady, ready-schema, key_options, Shape, Field, Flattened, Fields, VariantMatch, has_shape, Basis, unit_variant, IsPlainShape, parts_in, effective, Ask, part, asks_of, filled, struct_template, codes}
+use Rattle.schemars_builders.proofs.Nulls.{ready-law, ready-allow_null}
 use Rattle.schemars_meaning.proofs.Ready.{int_ready, non_zero_ready, bytes_ready, map_ready, tuple_ready, one_of_ready, fields_ready}
 use Rattle.schemars_meaning.proofs.Enums.{IsNewtypeIn, external_ready, untagged_ready, internal_ready, adjacent_ready}
 use Rattle.schemars_meaning.proofs.Keyed.{values_ready, values_say}
 use Rattle.schemars_shapes.specs.Shape as shape
-use Rattle.schemars_shapes.specs.Shape.{Shape, Field, Flattened, Fields}
 use Rattle.schemars_types.specs.declared.contract.Contract.{Contract}
-use Rattle.schemars_types.specs.Meaning.{VariantMatch, has_shape}
-use Rattle.schemars_documents.specs.Basis.{Basis}
-use Rattle.schemars_builders.specs.Variants.{unit_variant}
 use Rattle.schemars_meaning.proofs.ByShape.{IsDocument, member_document}
-use Rattle.schemars_documents.specs.PlainTable.{IsPlainShape, parts_in}
-use Rattle.schemars_types.specs.Effective.{effective, expanded_shape}
-use Rattle.schemars_documents.specs.Template.{Ask, part, asks_of, filled}
-use Rattle.schemars_documents.specs.OfShape.{struct_template}
+use Rattle.schemars_types.specs.Effective.{expanded_shape}
 use Rattle.schemars_meaning.proofs.Filling.{Fit}
 use Rattle.schemars_meaning.proofs.EachShape.{bytes_say, schema_says, null_says, bool_says, number_says, text_says, formatted_says, char_says, any_says, seq_says, set_says, array_says, up_to_says, tuple_says, int_says, non_zero_says}
 use Rattle.schemars_schema.proofs.Literals.{literal_is_schema, literal_judged}
 use Rattle.schemars_builders.proofs.LiteralNulls.{literal_ready}
 use Rattle.schemars_documents.proofs.Literals.{literal_document-schema}
 use Rattle.schemars_meaning.proofs.Choices.{result_says, bound_says, range_says, either_says}
-use Rattle.std.specs.Prelude.{codes}
 
 -- ---- null can be added to each document
 

@@ -1,17 +1,8 @@
 -- Schemas under names, and the judges that they make.
 use Rattle.std.proofs.Common.{◌≡◌, List, [], ◌∷◌, Option, Some, Bool, Ordering, Less, Equal, Greater, nat_cmp, is_eq, refl, ◌∙◌, option_map}
-use Rattle.std.specs.Prelude.{bytes_eq, if◌then◌else◌}
-use Rattle.std.specs.Ordering.{match_ordering}
-use Rattle.std.specs.Cmp.Lexicographic.{slice_cmp}
+use Rattle.schemars_meaning.proofs.Words.{bytes_eq, if◌then◌else◌, match_ordering, slice_cmp, Data, object, Members, no_members, member, put, get_member, Yes, Text, IsSchema, put_all, Judge, Context, judge, schema_named, each_member, schema-judge, Keyword}
 use Rattle.std.proofs.lemmas.Map.Text.{is_eq-slice_cmp}
-use Rattle.serde_json.specs.Data.{Data, object, Members, no_members, member, put}
-use Rattle.serde_json.specs.Find.{get_member}
-use Rattle.schemars_schema.specs.Verdict.{Yes}
-use Rattle.schemars_schema.specs.Json.{Text}
-use Rattle.schemars_schema.specs.SchemaData.{IsSchema, put_all}
-use Rattle.schemars_schema.specs.Acceptance.{Judge, Context, judge, read_data, read_members, all_named, schema_named, each_member}
-use Rattle.schemars_schema.proofs.Objects.{schema-judge}
-use Rattle.schemars_documents.specs.Documents.{Keyword}
+use Rattle.schemars_schema.specs.Acceptance.{read_data, read_members, all_named}
 
 -- ---- the judges under names
 

@@ -1,25 +1,16 @@
 -- Notes say nothing of a value, and leave a schema one to which null can be added.
 use Rattle.std.proofs.Common.{◌≡◌, inl, inr, List, [], ◌∷◌, Option, Some, None, Bool, true, false, refl, sym, ap, ◌∙◌, true≢false}
-use Rattle.std.specs.Prelude.{codes, is_some, bytes_eq, option_and_then, if◌then◌else◌}
-use Rattle.std.proofs.lemmas.Slice.Eq.{bytes_eq-Decides}
-use Rattle.serde_json.specs.Data.{Data, boolean, string, object, Members, no_members, member, put}
-use Rattle.serde_json.specs.Find.{get_member, as_str}
-use Rattle.serde_json.proofs.Views.{get_member-put}
-use Rattle.schemars_schema.specs.Json.{Text}
-use Rattle.schemars_schema.specs.SchemaData.{put_members, IsSchema, members_in}
-use Rattle.schemars_schema.specs.Acceptance.{Context, Patterns, Judge, judge, read_data, all_keywords}
-use Rattle.schemars_schema.specs.Verdict.{verdict}
-use Rattle.schemars_schema.specs.Annotations.{is_annotation, AreNotes}
+use Rattle.schemars_meaning.proofs.Words.{codes, is_some, bytes_eq, option_and_then, if◌then◌else◌, bytes_eq-Decides, Data, boolean, string, object, Members, no_members, member, put, get_member, as_str, get_member-put, Text, put_members, IsSchema, members_in, Context, Patterns, Judge, judge, verdict, is_annotation, AreNotes, without, context2020_12, IsReady, annotated}
+use Rattle.schemars_schema.specs.Acceptance.{read_data, all_keywords}
 use Rattle.schemars_schema.proofs.Objects.{judge-put}
 use Rattle.schemars_schema.proofs.Literals.{judge-put_members}
 use Rattle.schemars_schema.proofs.Members.{without-put}
 use Rattle.schemars_schema.proofs.Silent.{items_none, const_none, unevaluated_none}
-use Rattle.schemars_schema.specs.Edits.{without, is_text}
+use Rattle.schemars_schema.specs.Edits.{is_text}
 use Rattle.schemars_builders.specs.AllowNull.{is_null_choice}
-use Rattle.schemars_builders.specs.NullLaw.{context2020_12, HasPlainValues}
+use Rattle.schemars_builders.specs.NullLaw.{HasPlainValues}
 use Rattle.schemars_builders.proofs.NullMembers.{choice_key}
-use Rattle.schemars_builders.proofs.Nulls.{IsReady}
-use Rattle.schemars_documents.specs.Documents.{annotated, with_title, with_meta_schema, root_document}
+use Rattle.schemars_documents.specs.Documents.{with_title, with_meta_schema, root_document}
 use Rattle.schemars_meaning.proofs.MapDocument.{noted_by, AllNotes}
 use Rattle.schemars_meaning.proofs.MapKeywords.{put_members-beside}
 

@@ -1,20 +1,9 @@
 -- What choices of schemas say, and which members they judge.
 use Rattle.std.proofs.Common.{◌≡◌, List, [], ◌∷◌, map, Option, Some, None, Bool, true, false, refl, sym, ap, ◌∙◌, subst}
-use Rattle.std.proofs.Math.Bool.{or-false}
-use Rattle.std.proofs.lemmas.Slice.Eq.{bytes_eq-Decides}
-use Rattle.std.specs.Prelude.{codes, bytes_eq, if◌then◌else◌, ◌&&◌, ◌||◌}
-use Rattle.serde_json.specs.Data.{Data, array, no_members, member}
-use Rattle.serde_json.specs.Find.{get_member}
-use Rattle.serde_json.specs.View.{items_of}
-use Rattle.schemars_schema.specs.Json.{Text}
-use Rattle.schemars_schema.specs.SchemaData.{IsSchema}
-use Rattle.schemars_schema.specs.Verdict.{verdict, one_of, is_yes}
-use Rattle.schemars_schema.specs.Acceptance.{Context, Judge, judge, read_data, read_items, judged_by, judged_by_some, judged_by_list, each_says}
-use Rattle.schemars_schema.proofs.Verdicts.{both-yes}
-use Rattle.schemars_schema.proofs.Objects.{schema-judge}
-use Rattle.schemars_text.proofs.Members.{get_member-later}
+use Rattle.schemars_meaning.proofs.Words.{or-false, bytes_eq-Decides, codes, bytes_eq, if◌then◌else◌, ◌&&◌, ◌||◌, Data, array, no_members, member, get_member, items_of, Text, IsSchema, verdict, one_of, Context, Judge, judge, read_items, judged_by_list, each_says, both-yes, schema-judge, get_member-later, exactly_one, VariantMatch, claimed_by}
+use Rattle.schemars_schema.specs.Verdict.{is_yes}
+use Rattle.schemars_schema.specs.Acceptance.{read_data, judged_by, judged_by_some}
 use Rattle.schemars_flatten.specs.Flatten.{alone}
-use Rattle.schemars_types.specs.Meaning.{exactly_one, VariantMatch, claimed_by}
 use Rattle.schemars_meaning.proofs.Verdicts.{one_verdict}
 use Rattle.schemars_meaning.proofs.MapForm.{Keywords, look_up, HasKeywords, object-says, says-fits, says-judges, no_type}
 

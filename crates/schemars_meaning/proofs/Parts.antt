@@ -1,18 +1,10 @@
 -- What holds of every answer in a template, and of every document of a row.
 use Rattle.std.proofs.Common.{◌≡◌, ◌⊎◌, inl, inr, ℕ, zero, suc, List, [], ◌∷◌, Option, Some, None, refl, sym, subst}
-use Rattle.std.specs.Prelude.{Bool, true, false, if◌then◌else◌}
-use Rattle.std.specs.List.{AllByRecursion}
-use Rattle.serde_json.specs.Data.{Data, boolean}
-use Rattle.schemars_schema.specs.Json.{Text}
-use Rattle.schemars_flatten.specs.Opening.{opened_inside, must_be_in_place}
-use Rattle.schemars_flatten.specs.Parts.{flattened_part}
-use Rattle.schemars_shapes.specs.Shape.{Entry}
-use Rattle.schemars_types.specs.Rows.{Row, entry_at}
-use Rattle.schemars_documents.specs.Documents.{reference}
-use Rattle.schemars_documents.specs.Basis.{Basis}
-use Rattle.schemars_documents.specs.Template.{Template, Ask, part, members_of, content, finished, asked, list, members, nullable, noted, with_keywords, tagged, Templates, no_templates, template, first, behind, left, left_in, filled}
-use Rattle.schemars_documents.specs.OfShape.{entry_template}
-use Rattle.schemars_documents.specs.Describes.{AreAnswered, IsOwnDocument, IsContent, IsAnswered, IsWritten, Describes}
+use Rattle.schemars_meaning.proofs.Words.{if◌then◌else◌, AllByRecursion, Data, boolean, Text, opened_inside, flattened_part, Entry, Row, entry_at, reference, Basis, Template, Ask, part, members_of, content, finished, asked, list, members, nullable, noted, Templates, no_templates, template, first, left, left_in, filled, entry_template, AreAnswered, IsOwnDocument, IsAnswered, IsWritten}
+use Rattle.std.specs.Prelude.{Bool, true, false}
+use Rattle.schemars_flatten.specs.Opening.{must_be_in_place}
+use Rattle.schemars_documents.specs.Template.{with_keywords, tagged, behind}
+use Rattle.schemars_documents.specs.Describes.{IsContent, Describes}
 
 module _ (P : Data → Type 0) where
   pub either : (b : Bool) (d e : Data) → P d → P e → P (if b then d else e)

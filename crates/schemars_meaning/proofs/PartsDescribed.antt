@@ -1,30 +1,15 @@
 -- What rows of a table that is plain under the contract answer where they are flattened, as far as the documents go down.
 use Rattle.std.proofs.Common.{◌≡◌, ℕ, zero, suc, ◌<◌, List, [], ◌∷◌, ◌++◌, Option, Some, None, Bool, true, false, map, refl, sym, ap, ◌∙◌, subst, length, arith}
-use Rattle.std.specs.Prelude.{is_some, ◌&&◌, not, if◌then◌else◌}
-use Rattle.std.proofs.lemmas.List.{map-append}
-use Rattle.serde_json.specs.Data.{Data, Members, depth}
-use Rattle.schemars_schema.specs.Json.{Text, IsJson}
-use Rattle.schemars_schema.specs.SchemaData.{IsSchema}
-use Rattle.schemars_schema.specs.Annotations.{AreNotes}
-use Rattle.schemars_schema.specs.Verdict.{verdict}
-use Rattle.schemars_schema.specs.Acceptance.{Context, judge, is_null, Patterns}
-use Rattle.schemars_builders.specs.AllowNull.{null_schema}
-use Rattle.schemars_builders.specs.Variants.{unit_variant}
+use Rattle.schemars_meaning.proofs.Words.{is_some, ◌&&◌, not, if◌then◌else◌, map-append, Data, Members, depth, Text, IsJson, IsSchema, AreNotes, verdict, Context, judge, is_null, Patterns, null_schema, unit_variant, Field, Flattened, Fields, Shape, Entry, Payload, Variant, no_payload, newtype_payload, tuple_payload, struct_payload, Row, entry_at, is_required, VariantMatch, member_choice, matches_of, has_payload, belongs_within, parts_in, payload_parts, variant_parts, ArePartsUnder, IsEntryUnder, IsPlainShape, IsPlainPayload, ArePlainVariants, IsTagged, AreTagged, annotated, required_names, flattened_part, Basis, Ask, members_of, noted, asks_of, filled, struct_template, external_template, internal_template, payload_template, template_of, Fills, IsOwnDocument, IsAnswered, IsWritten, effective, flattened_in, shape_fields, flattened_enums, part_enums, enums_within, enum_at, expanded_payload, expanded_variant, expanded_shape_in}
 use Rattle.schemars_shapes.specs.Shape as shape
-use Rattle.schemars_shapes.specs.Shape.{Field, Flattened, Required, Fields, Shape, Entry, Payload, Variant, no_payload, newtype_payload, tuple_payload, struct_payload}
-use Rattle.schemars_types.specs.Rows.{Row, entry_at}
+use Rattle.schemars_shapes.specs.Shape.{Required}
 use Rattle.schemars_types.specs.Edges.{option_at}
 use Rattle.schemars_types.specs.declared.contract.Contract.{Contract}
 use Rattle.schemars_types.specs.declared.contract.Contract.TheVariants.{Deserialize, Serialize}
-use Rattle.schemars_types.specs.Meaning.{is_required, is_text, VariantMatch, member_choice, matches_of, has_payload, external_choice, internal_choice, shape_choices, belongs_within, choices_within}
-use Rattle.schemars_documents.specs.PlainTable.{parts_in, payload_parts, variant_parts, IsPartUnder, IsPartEntry, IsPartShape, ArePartsUnder, IsEntryUnder, IsPlainShape, may_miss, HasNoEnums, IsPlainPayload, ArePlainVariants, IsTagged, AreTagged, IsBare, HasBareUnits, VariantsHaveNoEnums}
-use Rattle.schemars_documents.specs.Documents.{annotated, required_names}
-use Rattle.schemars_flatten.specs.Parts.{flattened_part}
-use Rattle.schemars_documents.specs.Basis.{Basis}
-use Rattle.schemars_documents.specs.Template.{Ask, members_of, noted, asks_of, filled}
-use Rattle.schemars_documents.specs.OfShape.{struct_template, external_template, internal_template, payload_template, template_of}
-use Rattle.schemars_documents.specs.Describes.{Fills, IsOwnDocument, IsAnswered, IsWritten, Describes, without_options, are_optional}
-use Rattle.schemars_types.specs.Effective.{effective, required_only_if, row_fields, flattened_in, shape_fields, flattened_enums, part_enums, enums_within, shape_enums, enum_at, expanded_payload, expanded_variant, expanded_shape_in}
+use Rattle.schemars_types.specs.Meaning.{is_text, external_choice, internal_choice, shape_choices, choices_within}
+use Rattle.schemars_documents.specs.PlainTable.{IsPartUnder, IsPartEntry, IsPartShape, may_miss, HasNoEnums, IsBare, HasBareUnits, VariantsHaveNoEnums}
+use Rattle.schemars_documents.specs.Describes.{Describes, without_options, are_optional}
+use Rattle.schemars_types.specs.Effective.{required_only_if, row_fields, shape_enums}
 use Rattle.schemars_meaning.proofs.Schemas.{written_schema}
 use Rattle.schemars_meaning.proofs.Filling.{Fit}
 use Rattle.schemars_meaning.proofs.Spread.{field_keywords, AreWritten}

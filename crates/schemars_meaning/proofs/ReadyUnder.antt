@@ -1,19 +1,8 @@
 -- Null can be added to each document of a table that is plain under its contract.
 use Rattle.std.proofs.Common.{inl, inr, ℕ, zero, suc, ◌<◌, List, Option, Some, None, refl, sym, subst, arith}
-use Rattle.serde_json.specs.Data.{Data, null}
-use Rattle.schemars_schema.specs.Json.{Text}
-use Rattle.schemars_schema.specs.Acceptance.{Patterns, Judge}
-use Rattle.schemars_builders.specs.NullLaw.{context2020_12}
-use Rattle.schemars_builders.proofs.Nulls.{IsReady}
+use Rattle.schemars_meaning.proofs.Words.{Data, null, Text, Patterns, Judge, context2020_12, IsReady, Fields, Shape, Entry, entry_at, flattened_in, part_enums, expanded_shape_in, IsPlainShape, ArePartsUnder, IsEntryUnder, parts_in, Basis, Ask, asks_of, filled, struct_template, template_of, Fills, IsOwnDocument, IsAnswered, IsWritten}
 use Rattle.schemars_shapes.specs.Shape as shape
-use Rattle.schemars_shapes.specs.Shape.{Fields, Shape, Entry}
-use Rattle.schemars_types.specs.Rows.{entry_at}
-use Rattle.schemars_types.specs.Effective.{flattened_in, part_enums, expanded_shape_in}
-use Rattle.schemars_documents.specs.PlainTable.{IsPlainShape, ArePartsUnder, IsEntryUnder, parts_in}
-use Rattle.schemars_documents.specs.Basis.{Basis}
-use Rattle.schemars_documents.specs.Template.{Ask, asks_of, filled}
-use Rattle.schemars_documents.specs.OfShape.{struct_template, template_of}
-use Rattle.schemars_documents.specs.Describes.{Fills, IsOwnDocument, IsAnswered, IsWritten, Describes}
+use Rattle.schemars_documents.specs.Describes.{Describes}
 use Rattle.schemars_meaning.proofs.Filling.{Fit}
 use Rattle.schemars_meaning.proofs.Notes.{ready-annotated}
 use Rattle.schemars_meaning.proofs.ByShape.{others_fill}

@@ -1,41 +1,28 @@
 -- The references of the document of each shape are those of its answers.
 use Rattle.std.proofs.Common.{◌≡◌, ℕ, zero, suc, List, [], ◌∷◌, ◌++◌, map, Bool, true, false, Option, Some, None, refl, sym, ap, ◌∙◌, subst, Contains, append-nil, ℤ, pos}
-use Rattle.std.specs.List.{All, AllByRecursion}
-use Rattle.std.specs.Prelude.{codes, bytes_eq, not, if◌then◌else◌}
-use Rattle.std.proofs.lemmas.List.{map-append}
+use Rattle.schemars_meaning.proofs.Words.{All, AllByRecursion, codes, bytes_eq, not, if◌then◌else◌, map-append, Data, Items, no_items, item, Text, IsSchema, object_of, references, text_items, Shape, Field, Flattened, Fields, Entry, Payload, Variant, no_payload, newtype_payload, tuple_payload, struct_payload, is_bare_unit, Row, is_required, flattened_fields, effective, flattened_in, part_enums, expanded_payload, expanded_variant, expanded_shape_in, KeyOptions, keys, key_options, required_names, bytes_document, AreDistinct, AreNoted, IsPlainShape, IsPlainEntry, IsPlainPayload, ArePlainVariants, AreTagged, IsTagged, payload_parts, variant_parts, parts_in, ArePlainParts, Basis, Template, Ask, members_of, asked, row, noted, Templates, asks_of, filled, KeywordTemplate, templates_of, property, map_template, template_of, entry_template, member_template, payload_template, named_template, bare_units, other_items, choice_of, payload_item, titled, fields_template, with_flattened, struct_template, content_template, values_of, all_patterns, tuple_template, pattern_properties_at, properties_at, values_template, untagged_template, internal_item, internal_template, said, whole_template, adjacent_payload, adjacent_item, adjacent_template, AreAnswered, references_of, flipped, unit_variant}
 use Rattle.std.proofs.lemmas.List.Elements.{All-contains, All-contains_itself}
-use Rattle.serde_json.specs.Data.{Data, Items, no_items, item}
-use Rattle.schemars_schema.specs.Json.{Text}
-use Rattle.schemars_schema.specs.SchemaData.{IsSchema, object_of}
-use Rattle.schemars_schema.specs.References.{found_in, references}
+use Rattle.schemars_schema.specs.References.{found_in}
 use Rattle.schemars_schema.proofs.Literals.{literal_is_schema, literal_refers_nowhere}
-use Rattle.schemars_builders.specs.NullLaw.{zero_schema, text_items}
+use Rattle.schemars_builders.specs.NullLaw.{zero_schema}
 use Rattle.schemars_shapes.specs.Shape as shape
-use Rattle.schemars_shapes.specs.Shape.{Shape, Field, Flattened, Fields, Entry, Payload, Variant, no_payload, newtype_payload, tuple_payload, struct_payload}
 use Rattle.schemars_shapes.specs.IntKind.{format_of}
-use Rattle.schemars_shapes.specs.Units.{is_bare_unit}
 use Rattle.schemars_shapes.specs.declared.shape.IntegerKeys.{IntegerKeys}
 use Rattle.schemars_shapes.specs.IntegerKeys.{pattern_of}
-use Rattle.schemars_types.specs.Rows.{Row}
 use Rattle.schemars_types.specs.declared.contract.Contract.{Contract}
 use Rattle.schemars_types.specs.declared.contract.Contract.TheVariants.{Deserialize, Serialize}
-use Rattle.schemars_types.specs.Meaning.{least_of, greatest_of, is_required}
-use Rattle.schemars_types.specs.Effective.{flattened_fields, effective, flattened_in, part_enums, expanded_payload, expanded_variant, expanded_shape_in}
-use Rattle.schemars_types.specs.KeyOptions.{KeyOptions, keys, or_any_text, all_options, key_options, distinct_options, once}
-use Rattle.schemars_documents.specs.Documents.{int_keywords, is_signed, required_names, bytes_document}
-use Rattle.schemars_documents.specs.PlainTable.{AreDistinct, AreNoted, IsPlainShape, IsPlainEntry, IsPlainPayload, AreNotedVariants, ArePlainVariants, AreTagged, IsTagged, payload_parts, variant_parts, parts_in, IsNotedShape, ArePlainParts, IsNotedPayload, IsNotedThroughout}
-use Rattle.schemars_documents.specs.Basis.{Basis}
-use Rattle.schemars_documents.specs.Template.{Template, Ask, members_of, asked, row, noted, with_keywords, tagged, Templates, asks_of, filled}
-use Rattle.schemars_documents.specs.OfShape.{KeywordTemplate, templates_of, object_with, property, map_template, template_of, entry_template, member_template, payload_template, named_template, bare_units, other_items, choice_of, payload_item, titled, fields_template, with_flattened, struct_template, content_template, typed_template, values_of, all_patterns, tuple_template, pattern_properties_at, properties_at, other_values, values_template, untagged_template, internal_item, internal_template, said, whole_template, adjacent_payload, adjacent_item, adjacent_template}
-use Rattle.schemars_documents.specs.Describes.{AreAnswered, references_of}
+use Rattle.schemars_types.specs.Meaning.{least_of, greatest_of}
+use Rattle.schemars_types.specs.KeyOptions.{or_any_text, all_options, distinct_options, once}
+use Rattle.schemars_documents.specs.Documents.{int_keywords, is_signed}
+use Rattle.schemars_documents.specs.PlainTable.{AreNotedVariants, IsNotedShape, IsNotedPayload, IsNotedThroughout}
+use Rattle.schemars_documents.specs.Template.{with_keywords, tagged}
+use Rattle.schemars_documents.specs.OfShape.{object_with, typed_template, other_values}
 use Rattle.schemars_documents.proofs.Literals.{literal_document-schema}
 use Rattle.schemars_meaning.proofs.Spread.{AnswersFields}
 use Rattle.schemars_meaning.proofs.ReferencesKept.{Among, among_left, among_right, IsNoKey, AreApart, apart-filter, others_apart}
 use Rattle.schemars_meaning.proofs.Schemas.{AreSchemas}
 use Rattle.schemars_meaning.proofs.SpreadMaps.{answered_left, IsMapAt, map_keeps, map_holds, part_holds, tag_holds, struct_holds, names_in, more_names, names_apart, tag_apart, apart-first}
 use Rattle.schemars_meaning.proofs.NodeReferences.{AsSchema, AsNamed, AreItems, AreNamed, refers_schema, kept_schema}
-use Rattle.schemars_text.proofs.Members.{flipped}
-use Rattle.schemars_builders.specs.Variants.{unit_variant}
 
 -- ---- each shape
 

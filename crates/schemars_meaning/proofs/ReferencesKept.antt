@@ -1,23 +1,12 @@
 -- Which references stay as members are put in, as a schema is given notes and as null is allowed.
 use Rattle.std.proofs.Common.{◌≡◌, inl, inr, List, [], ◌∷◌, ◌++◌, Bool, true, false, Option, Some, None, Ordering, Less, Equal, Greater, nat_cmp, refl, sym, ap, ◌∙◌, subst, Contains, append_assoc, append-nil, true≢false}
-use Rattle.std.specs.Prelude.{codes, bytes_eq, is_some, filter, not, if◌then◌else◌}
-use Rattle.std.specs.Ordering.{match_ordering}
-use Rattle.std.specs.Cmp.Lexicographic.{slice_cmp}
-use Rattle.std.proofs.lemmas.Map.Lookups.{exact_bytes}
-use Rattle.std.proofs.lemmas.Slice.Eq.{bytes_eq-Decides}
+use Rattle.schemars_meaning.proofs.Words.{codes, bytes_eq, is_some, not, if◌then◌else◌, match_ordering, slice_cmp, exact_bytes, bytes_eq-Decides, Data, null, boolean, number, string, array, object, no_items, item, Members, no_members, member, put, get_member, get_member-put_other, Text, IsSchema, put_members, members_in, AreNotes, without, is_null, found_in_members, found_in_keywords, references, found_under, allow_null, annotated}
+use Rattle.std.specs.Prelude.{filter}
 use Rattle.std.proofs.lemmas.List.Elements.{Contains-append_left, Contains-append_right, Contains-append_cases}
-use Rattle.serde_json.specs.Data.{Data, null, boolean, number, string, array, object, no_items, item, Members, no_members, member, put}
-use Rattle.serde_json.specs.Find.{get_member}
-use Rattle.serde_json.proofs.Views.{get_member-put_other}
-use Rattle.schemars_schema.specs.Json.{Text}
-use Rattle.schemars_schema.specs.SchemaData.{IsSchema, put_members, members_in}
-use Rattle.schemars_schema.specs.Annotations.{AreNotes}
-use Rattle.schemars_schema.specs.Edits.{without}
-use Rattle.schemars_schema.specs.Acceptance.{is_null}
-use Rattle.schemars_schema.specs.References.{found_in, found_in_members, found_in_keywords, references}
-use Rattle.schemars_schema.proofs.Contents.{found_under, found_under-annotation}
-use Rattle.schemars_builders.specs.AllowNull.{is_null_choice, is_combined, or_null, allow_null, type_with_null, null_in_type, enum_with_null, null_in_enum, const_or_null, null_in_const, null_in_values}
-use Rattle.schemars_documents.specs.Documents.{annotated, with_title, with_meta_schema, root_document}
+use Rattle.schemars_schema.specs.References.{found_in}
+use Rattle.schemars_schema.proofs.Contents.{found_under-annotation}
+use Rattle.schemars_builders.specs.AllowNull.{is_null_choice, is_combined, or_null, type_with_null, null_in_type, enum_with_null, null_in_enum, const_or_null, null_in_const, null_in_values}
+use Rattle.schemars_documents.specs.Documents.{with_title, with_meta_schema, root_document}
 
 -- ---- references among others
 

@@ -1,23 +1,10 @@
 -- What holds of each reference to a row holds of those of what describes a row.
 use Rattle.std.proofs.Common.{◌≡◌, ℕ, List, [], ◌∷◌, Bool, Option, Some, None, subst}
-use Rattle.std.specs.List.{All, AllByRecursion}
-use Rattle.std.proofs.lemmas.List.Elements.{All-nil, All-cons}
-use Rattle.serde_json.specs.Data.{Data, string}
-use Rattle.schemars_schema.specs.Json.{Text}
-use Rattle.schemars_schema.specs.SchemaData.{IsSchema}
-use Rattle.schemars_schema.specs.References.{found_in, references}
-use Rattle.schemars_flatten.specs.Opening.{opened_inside}
-use Rattle.schemars_flatten.specs.Parts.{flattened_part}
+use Rattle.schemars_meaning.proofs.Words.{All, AllByRecursion, All-nil, All-cons, Data, string, Text, IsSchema, references, opened_inside, flattened_part, Entry, Row, entry_at, reference, IsPlainEntry, IsEntryUnder, IsPlainUnder, Basis, Ask, filled, entry_template, IsAnswered, IsWritten, Describes}
+use Rattle.schemars_schema.specs.References.{found_in}
 use Rattle.schemars_flatten.proofs.Schemas.{flattened_part-schema, opened_inside-schema}
-use Rattle.schemars_shapes.specs.Shape.{Entry}
-use Rattle.schemars_types.specs.Rows.{Row, entry_at}
-use Rattle.schemars_documents.specs.Documents.{reference}
 use Rattle.schemars_types.specs.declared.contract.Contract.{Contract}
-use Rattle.schemars_documents.specs.PlainTable.{IsPlainEntry, IsPlainTable, IsEntryUnder, IsPlainUnder, IsNotedThroughout, HasPlainNotesThroughout}
-use Rattle.schemars_documents.specs.Basis.{Basis}
-use Rattle.schemars_documents.specs.Template.{Ask, filled}
-use Rattle.schemars_documents.specs.OfShape.{entry_template}
-use Rattle.schemars_documents.specs.Describes.{IsAnswered, IsWritten, Describes}
+use Rattle.schemars_documents.specs.PlainTable.{IsPlainTable, IsNotedThroughout, HasPlainNotesThroughout}
 use Rattle.schemars_meaning.proofs.Parts.{answer_holds, described_holds, written_holds}
 use Rattle.schemars_flatten.proofs.References.{flattened_part-refers, opened_inside-refers}
 use Rattle.schemars_meaning.proofs.References.{plain-shape_noted, all_refer}

@@ -1,21 +1,10 @@
 -- What holds of the references of schemas holds of those of an object that they are put into.
 use Rattle.std.proofs.Common.{◌≡◌, List, [], ◌∷◌, ◌++◌, Bool, true, false, Option, Some, None, Ordering, Less, Equal, Greater, nat_cmp, refl, sym, subst}
-use Rattle.std.specs.List.{All}
-use Rattle.std.specs.Prelude.{◌&&◌, codes, bytes_eq, is_some, if◌then◌else◌}
-use Rattle.std.specs.Ordering.{match_ordering}
-use Rattle.std.specs.Cmp.Lexicographic.{slice_cmp}
-use Rattle.std.proofs.lemmas.List.Elements.{All-nil, All-cons, All-head, All-tail, All-append}
-use Rattle.std.proofs.lemmas.Map.Lookups.{exact_bytes}
-use Rattle.std.proofs.lemmas.Slice.Eq.{bytes_eq-Decides}
-use Rattle.serde_json.specs.Data.{Data, boolean, string, array, object, no_items, Members, no_members, member, put}
-use Rattle.serde_json.specs.Find.{get_member}
-use Rattle.schemars_schema.specs.Json.{Text}
-use Rattle.schemars_schema.specs.SchemaData.{members_in}
-use Rattle.schemars_schema.specs.Edits.{replaced, put_missing, with_member, with_first, changed_at}
-use Rattle.schemars_schema.specs.References.{found_in, found_in_members, found_in_keywords, references}
-use Rattle.schemars_schema.proofs.Contents.{found_under}
-use Rattle.schemars_builders.specs.Variants.{unit_variant}
-use Rattle.schemars_builders.specs.Properties.{with_property, has_null_type, tagged, internally_tagged_variant}
+use Rattle.schemars_meaning.proofs.Words.{All, ◌&&◌, codes, bytes_eq, is_some, if◌then◌else◌, match_ordering, slice_cmp, All-nil, All-cons, All-append, exact_bytes, bytes_eq-Decides, Data, boolean, string, array, object, no_items, Members, no_members, member, put, get_member, Text, members_in, replaced, with_member, with_first, found_in_members, found_in_keywords, references, found_under, unit_variant, with_property, has_null_type, internally_tagged_variant}
+use Rattle.std.proofs.lemmas.List.Elements.{All-head, All-tail}
+use Rattle.schemars_schema.specs.Edits.{put_missing, changed_at}
+use Rattle.schemars_schema.specs.References.{found_in}
+use Rattle.schemars_builders.specs.Properties.{tagged}
 use Rattle.schemars_meaning.proofs.ReferencesKept.{references-members_in}
 
 module _ (P : Data → Type 0) where

@@ -1,20 +1,11 @@
 -- What is asked in a shape's template is of the rows of the shape.
 use Rattle.std.proofs.Common.{ℕ, zero, suc, List, [], ◌∷◌, Bool, true, false, map, refl, arith, All, Contains, ◌++◌}
-use Rattle.std.specs.Prelude.{if◌then◌else◌}
-use Rattle.std.proofs.lemmas.List.Elements.{All-nil, All-cons, All-append, Contains-append_left, Contains-append_right}
-use Rattle.schemars_schema.specs.Json.{Text}
-use Rattle.schemars_builders.specs.NullLaw.{text_items}
+use Rattle.schemars_meaning.proofs.Words.{if◌then◌else◌, All-nil, All-cons, All-append, Text, text_items, Shape, Field, Flattened, Fields, Payload, Variant, no_payload, newtype_payload, tuple_payload, struct_payload, is_bare_unit, is_required, KeyOptions, keys, key_options, required_names, Basis, Template, Ask, part, members_of, content, asked, row, noted, asks_of, asks_in, templates_of, property, map_template, fields_template, with_flattened, tuple_template, struct_template, template_of, payload_template, content_template, named_template, bare_units, other_items, choice_of, KeywordTemplate, values_template, values_of, all_patterns, pattern_properties_at, properties_at, payload_item, titled, untagged_template, internal_item, internal_template, said, whole_template, adjacent_payload, adjacent_item, adjacent_template, unit_variant}
+use Rattle.std.proofs.lemmas.List.Elements.{Contains-append_left, Contains-append_right}
 use Rattle.schemars_shapes.specs.Shape as shape
-use Rattle.schemars_shapes.specs.Shape.{Shape, Field, Flattened, Fields, Payload, Variant, no_payload, newtype_payload, tuple_payload, struct_payload, enum, by_tag, numbers_of, flattened_numbers, flattened_rows, fields_numbers, payload_numbers, payload_flattened, variant_numbers, of_variants}
-use Rattle.schemars_shapes.specs.Units.{is_bare_unit}
+use Rattle.schemars_shapes.specs.Shape.{enum, by_tag, numbers_of, flattened_numbers, flattened_rows, fields_numbers, payload_numbers, payload_flattened, variant_numbers, of_variants}
 use Rattle.schemars_types.specs.declared.contract.Contract.{Contract}
-use Rattle.schemars_types.specs.Meaning.{is_required}
-use Rattle.schemars_types.specs.KeyOptions.{KeyOptions, keys, key_options}
-use Rattle.schemars_documents.specs.Documents.{required_names}
-use Rattle.schemars_documents.specs.Basis.{Basis}
-use Rattle.schemars_documents.specs.Template.{Template, Ask, part, members_of, content, asked, row, noted, with_keywords, asks_of, asks_in}
-use Rattle.schemars_documents.specs.OfShape.{templates_of, property, map_template, fields_template, with_flattened, tuple_template, struct_template, template_of, payload_template, content_template, named_template, bare_units, other_items, choice_of, KeywordTemplate, values_template, values_of, all_patterns, pattern_properties_at, properties_at, payload_item, titled, untagged_template, internal_item, internal_template, said, whole_template, adjacent_payload, adjacent_item, adjacent_template}
-use Rattle.schemars_builders.specs.Variants.{unit_variant}
+use Rattle.schemars_documents.specs.Template.{with_keywords}
 
 abbrev pub asks_at : List Field → List Ask
 asks_at xs = asks_in (templates_of (map (λ e. e.1) (map property xs)))

@@ -1,21 +1,12 @@
 -- What is filled with schemas is a schema, and so is what describes a row.
 use Rattle.std.proofs.Common.{ℕ, zero, suc, List, [], ◌∷◌, Bool, true, false}
-use Rattle.std.specs.List.{AllByRecursion}
-use Rattle.std.specs.Prelude.{if◌then◌else◌}
-use Rattle.serde_json.specs.Data.{Data, boolean}
-use Rattle.schemars_schema.specs.Json.{Text}
-use Rattle.schemars_schema.specs.SchemaData.{IsSchema}
+use Rattle.schemars_meaning.proofs.Words.{AllByRecursion, if◌then◌else◌, Data, boolean, Text, IsSchema, Shape, Flattened, Entry, Variant, is_required, KeyOptions, keys, key_options, Basis, Template, members_of, finished, asked, list, members, nullable, noted, left, filled, template_of, entry_template, values_template, with_flattened, fields_template, bare_units, other_items, choice_of, untagged_template, internal_template, adjacent_template, IsWritten, Describes}
 use Rattle.schemars_flatten.proofs.Schemas.{flattened-schema, flattened_part-schema, opened_inside-schema}
 use Rattle.schemars_shapes.specs.Shape as shape
-use Rattle.schemars_shapes.specs.Shape.{Shape, Flattened, Entry, Variant}
 use Rattle.schemars_types.specs.declared.contract.Contract.{Contract}
-use Rattle.schemars_types.specs.Meaning.{is_required}
-use Rattle.schemars_types.specs.KeyOptions.{KeyOptions, keys, key_options}
 use Rattle.schemars_documents.specs.Documents.{is_signed}
-use Rattle.schemars_documents.specs.Basis.{Basis}
-use Rattle.schemars_documents.specs.Template.{Template, members_of, finished, asked, list, members, nullable, noted, with_keywords, tagged, left, filled}
-use Rattle.schemars_documents.specs.OfShape.{template_of, entry_template, values_template, with_flattened, fields_template, bare_units, other_items, choice_of, untagged_template, internal_template, literal_document, adjacent_template}
-use Rattle.schemars_documents.specs.Describes.{IsWritten, Describes}
+use Rattle.schemars_documents.specs.Template.{with_keywords, tagged}
+use Rattle.schemars_documents.specs.OfShape.{literal_document}
 use Rattle.schemars_meaning.proofs.Notes.{annotated-schema}
 use Rattle.schemars_meaning.proofs.Parts.{first_all, described_holds, written_holds}
 use Rattle.schemars_meaning.proofs.ReferencesKept.{allow_null-schema}

@@ -1,10 +1,7 @@
 -- Tables that are plain under a contract, in which each row has the fields and enums of its shape.
 use Rattle.std.proofs.Common.{◌≡◌, ℕ, length, Some}
-use Rattle.schemars_shapes.specs.Shape.{Entry}
-use Rattle.schemars_types.specs.Rows.{entry_at}
-use Rattle.schemars_types.specs.Effective.{row_fields, shape_fields, flattened_in, enums_within, shape_enums, part_enums}
-use Rattle.schemars_documents.specs.Basis.{Basis}
-use Rattle.schemars_documents.specs.PlainTable.{IsPlainUnder}
+use Rattle.schemars_meaning.proofs.Words.{Entry, entry_at, shape_fields, flattened_in, enums_within, part_enums, Basis, IsPlainUnder}
+use Rattle.schemars_types.specs.Effective.{row_fields, shape_enums}
 
 pub record IsSettled (basis : Basis) : Type 0 where
   pub plain : IsPlainUnder basis.contract basis.rows

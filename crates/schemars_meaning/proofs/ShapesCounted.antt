@@ -2,28 +2,12 @@
 -- steps counted down, where those of smaller values do.
 use Rattle.std.proofs.Common.{◌≡◌, ◌⊎◌, inl, inr, ℕ, zero, suc, ◌+◌, ◌*◌, ◌<◌, ◌≤◌, List, [], ◌∷◌, Bool, map, refl, sym, ap, ◌∙◌, subst, arith, ◌++◌}
 use Rattle.std.proofs.Math.Nat.{mul-le-mul_right}
-use Rattle.std.specs.Prelude.{◌||◌}
-use Rattle.std.specs.List.{list_any}
-use Rattle.serde_json.specs.Data.{Data, depth}
-use Rattle.schemars_schema.specs.Json.{Text, IsJson}
-use Rattle.schemars_schema.specs.SchemaData.{IsSchema}
-use Rattle.schemars_schema.specs.Verdict.{verdict}
-use Rattle.schemars_schema.specs.Acceptance.{Context, Judge, Patterns, judge}
-use Rattle.schemars_builders.specs.NullLaw.{context2020_12}
-use Rattle.schemars_builders.proofs.Nulls.{ready-schema, IsReady}
+use Rattle.schemars_meaning.proofs.Words.{◌||◌, list_any, Data, depth, Text, IsJson, IsSchema, verdict, Context, Judge, Patterns, judge, context2020_12, ready-schema, IsReady, Field, Fields, Flattened, Payload, no_payload, newtype_payload, tuple_payload, struct_payload, Shape, Variant, Row, effective, flattened_in, flattened_enums, part_enums, enum_at, expanded_payload, expanded_variant, expanded_shape_in, VariantMatch, is_required, matches_of, has_payload, belongs_within, choices_within, has_shape, key_options, IsPlainPayload, ArePartsUnder, payload_parts, ArePlainVariants, IsTagged, AreTagged, IsPlainShape, parts_in, variant_parts, Basis, Ask, Template, members_of, asked, asks_of, filled, first, left, struct_template, payload_template, fields_template, with_flattened, template_of, IsAnswered, IsWritten, Describes, Fills}
 use Rattle.schemars_shapes.specs.Shape as shape
-use Rattle.schemars_shapes.specs.Shape.{Field, Fields, Flattened, Payload, no_payload, newtype_payload, tuple_payload, struct_payload, Shape, Variant}
-use Rattle.schemars_types.specs.Rows.{Row}
-use Rattle.schemars_types.specs.Effective.{effective, flattened_in, flattened_enums, part_enums, enum_at, expanded_payload, expanded_variant, expanded_shape_in}
 use Rattle.schemars_types.specs.declared.contract.Contract.{Contract}
-use Rattle.schemars_types.specs.Meaning.{VariantMatch, is_required, matches_of, has_payload, belongs_within, choices_within, has_shape}
-use Rattle.schemars_types.specs.KeyOptions.{key_options}
 use Rattle.schemars_flatten.proofs.Schemas.{flattened-schema}
-use Rattle.schemars_documents.specs.PlainTable.{IsPlainPayload, IsPartUnder, ArePartsUnder, payload_parts, ArePlainVariants, IsTagged, AreTagged, IsPlainShape, parts_in, variant_parts}
-use Rattle.schemars_documents.specs.Basis.{Basis}
-use Rattle.schemars_documents.specs.Template.{Ask, Template, members_of, asked, with_keywords, asks_of, filled, first, left}
-use Rattle.schemars_documents.specs.OfShape.{struct_template, payload_template, fields_template, with_flattened, template_of}
-use Rattle.schemars_documents.specs.Describes.{IsAnswered, IsWritten, Describes, Fills}
+use Rattle.schemars_documents.specs.PlainTable.{IsPartUnder}
+use Rattle.schemars_documents.specs.Template.{with_keywords}
 use Rattle.schemars_meaning.proofs.Filling.{Fit}
 use Rattle.schemars_meaning.proofs.ByShape.{tuple_fills, tuple_document, others_fill}
 use Rattle.schemars_meaning.proofs.EachShape.{null_says, tuple_says}

@@ -1,12 +1,7 @@
 -- The document of a map with fields, with notes on it; that of a struct has the fields of flattened rows among its own.
 use Rattle.std.proofs.Common.{◌≡◌, ℕ, List, [], ◌∷◌, Bool, true, false}
-use Rattle.serde_json.specs.Data.{Data, Members}
-use Rattle.schemars_shapes.specs.Shape.{Field, Flattened}
-use Rattle.schemars_types.specs.Rows.{Row}
+use Rattle.schemars_meaning.proofs.Words.{Data, Members, Field, Flattened, Row, Keyword, required_names, annotated, IsPlainPart, Ask, part, members_of}
 use Rattle.schemars_types.specs.declared.contract.Contract.{Contract}
-use Rattle.schemars_documents.specs.Documents.{Keyword, required_names, annotated}
-use Rattle.schemars_documents.specs.PlainTable.{IsPlainPart}
-use Rattle.schemars_documents.specs.Template.{Ask, part, members_of}
 use Rattle.schemars_meaning.proofs.MapDocument.{map_document, noted_by, AllNotes}
 
 -- the fields' schemas under their names, each with its notes

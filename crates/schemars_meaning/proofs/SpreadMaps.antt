@@ -1,28 +1,10 @@
 -- The references of maps that fill templates, with the fields of flattened rows among their own.
 use Rattle.std.proofs.Common.{◌≡◌, List, [], ◌∷◌, ◌++◌, map, Bool, true, false, refl, sym, ap, ◌∙◌, subst, Contains, append_assoc, append-nil}
-use Rattle.std.specs.List.{All}
-use Rattle.std.specs.Prelude.{bytes_eq}
-use Rattle.std.proofs.lemmas.List.{map-append}
-use Rattle.std.proofs.lemmas.List.Elements.{All-nil, All-contains, All-contains_itself}
-use Rattle.serde_json.specs.Data.{Data, Members, no_members, put}
-use Rattle.schemars_schema.specs.Json.{Text}
-use Rattle.schemars_schema.specs.SchemaData.{put_all}
-use Rattle.schemars_schema.specs.References.{found_in, found_in_members, references}
-use Rattle.schemars_text.proofs.Members.{flipped}
-use Rattle.schemars_builders.specs.NullLaw.{text_items}
-use Rattle.schemars_builders.specs.Variants.{unit_variant}
-use Rattle.schemars_builders.specs.Properties.{internally_tagged_variant}
-use Rattle.schemars_flatten.specs.Flatten.{flattened}
-use Rattle.schemars_shapes.specs.Shape.{Field, Flattened, Fields}
-use Rattle.schemars_types.specs.Rows.{Row}
+use Rattle.schemars_meaning.proofs.Words.{All, bytes_eq, map-append, All-nil, Data, Members, no_members, put, Text, put_all, found_in_members, references, flipped, text_items, unit_variant, internally_tagged_variant, flattened, Field, Flattened, Fields, Row, is_required, flattened_fields, effective, flattened_in, Keyword, required_names, annotated, IsNoName, AreDistinct, AreNoted, IsPlainPart, ArePlainParts, Template, Ask, part, members_of, finished, asked, list, members, nullable, noted, Templates, no_templates, template, asks_of, asks_in, first, left, left_in, keyed, filled, filled_in, templates_of, property, map_template, fields_template, with_flattened, struct_template, AreAnswered, references_of}
+use Rattle.std.proofs.lemmas.List.Elements.{All-contains, All-contains_itself}
+use Rattle.schemars_schema.specs.References.{found_in}
 use Rattle.schemars_types.specs.declared.contract.Contract.{Contract}
-use Rattle.schemars_types.specs.Meaning.{is_required}
-use Rattle.schemars_types.specs.Effective.{flattened_fields, effective, flattened_in}
-use Rattle.schemars_documents.specs.Documents.{Keyword, required_names, annotated}
-use Rattle.schemars_documents.specs.PlainTable.{IsNoName, AreDistinct, AreNoted, IsPlainPart, ArePlainParts}
-use Rattle.schemars_documents.specs.Template.{Template, Ask, part, members_of, finished, asked, list, members, nullable, noted, with_keywords, tagged, Templates, no_templates, template, asks_of, asks_in, first, behind, left, left_in, keyed, filled, filled_in}
-use Rattle.schemars_documents.specs.OfShape.{templates_of, property, map_template, fields_template, with_flattened, struct_template}
-use Rattle.schemars_documents.specs.Describes.{AreAnswered, references_of}
+use Rattle.schemars_documents.specs.Template.{with_keywords, tagged, behind}
 use Rattle.schemars_meaning.proofs.Rows.{asks_at}
 use Rattle.schemars_meaning.proofs.MapDocument.{map_document, noted_by, AllNotes}
 use Rattle.schemars_meaning.proofs.Flattened.{noted_by-append, AllNotes-append, must_be_present}

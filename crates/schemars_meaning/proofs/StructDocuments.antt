@@ -1,25 +1,10 @@
 -- The documents of structs with flattened enums, put into one another, and what they mean.
 use Rattle.std.proofs.Common.{◌≡◌, ℕ, ◌<◌, List, [], ◌∷◌, ◌++◌, Option, Some, None, Bool, true, false, refl, sym, ap, ◌∙◌, subst}
-use Rattle.std.specs.Prelude.{codes, bytes_eq, if◌then◌else◌, ◌&&◌, ◌||◌, not, option_and_then}
-use Rattle.serde_json.specs.Data.{Data, null, array, object, Items, Members, no_members, member, depth}
-use Rattle.serde_json.specs.Find.{get_member, as_str}
-use Rattle.serde_json.specs.View.{items_of}
-use Rattle.schemars_schema.specs.Json.{Text, IsJson}
-use Rattle.schemars_schema.specs.SchemaData.{IsSchema}
-use Rattle.schemars_schema.specs.Edits.{replaced, is_text, on_list}
-use Rattle.schemars_schema.specs.Annotations.{AreNotes}
-use Rattle.schemars_schema.specs.Verdict.{verdict}
-use Rattle.schemars_schema.specs.Acceptance.{Context, judge}
-use Rattle.schemars_text.proofs.Members.{get_member-later, get_member-here}
-use Rattle.std.proofs.lemmas.Slice.Eq.{bytes_eq-Decides}
-use Rattle.schemars_flatten.specs.Flatten.{flattened, united_all, appended}
-use Rattle.schemars_flatten.specs.Opening.{opened, has_type}
-use Rattle.schemars_flatten.specs.Parts.{flattened_part, first_units, behind_first, first_as_objects, list_changed_at, units_as_objects}
-use Rattle.schemars_shapes.specs.Shape.{Field}
+use Rattle.schemars_meaning.proofs.Words.{codes, bytes_eq, if◌then◌else◌, ◌&&◌, ◌||◌, not, option_and_then, Data, null, array, object, Items, Members, no_members, member, depth, get_member, as_str, items_of, Text, IsJson, IsSchema, replaced, on_list, AreNotes, verdict, Context, judge, get_member-later, get_member-here, bytes_eq-Decides, flattened, united_all, appended, opened, flattened_part, first_as_objects, list_changed_at, units_as_objects, Field, every_member, member_fits, has_required, VariantMatch, every_part, is_key_of_match, excludes_key, has_fields, AreDistinct, AreNoted, Keyword, annotated, required_names}
+use Rattle.schemars_schema.specs.Edits.{is_text}
+use Rattle.schemars_flatten.specs.Opening.{has_type}
+use Rattle.schemars_flatten.specs.Parts.{first_units, behind_first}
 use Rattle.schemars_types.specs.declared.contract.Contract.{Contract}
-use Rattle.schemars_types.specs.Meaning.{every_member, member_fits, has_required, VariantMatch, every_part, is_key_of_match, excludes_key, has_fields}
-use Rattle.schemars_documents.specs.PlainTable.{AreDistinct, AreNoted}
-use Rattle.schemars_documents.specs.Documents.{Keyword, annotated, required_names}
 use Rattle.schemars_meaning.proofs.MapKeywords.{noted, noted_by-object, noted-beside, sorted-noted, closed_there}
 use Rattle.schemars_meaning.proofs.Flattening.{no_texts}
 use Rattle.schemars_meaning.proofs.StructForm.{Part, Parts, choices_in, any_keywords, struct_keywords, one_there, every_part-append, claims-append}

@@ -1,19 +1,12 @@
 -- What the document of a struct says, with the enums that are flattened into it: several of them are under `allOf`, and one
 -- may be under `oneOf`. Where it is closed, `unevaluatedProperties` refuses just the keys that belong to nothing.
 use Rattle.std.proofs.Common.{◌≡◌, List, [], ◌∷◌, ◌++◌, map, Option, Some, None, Bool, true, false, option_map, refl, sym, ap, ◌∙◌, true≢false}
-use Rattle.std.proofs.Math.Bool.{and-true, and-false, or-true, or-false, and_assoc, or_assoc, not-not}
-use Rattle.std.specs.Prelude.{codes, if◌then◌else◌, is_some, ◌&&◌, ◌||◌, not}
-use Rattle.serde_json.specs.Data.{Data, boolean, string, array, object, Members, no_members, member}
-use Rattle.serde_json.specs.View.{items_of}
-use Rattle.schemars_schema.specs.Json.{Text}
-use Rattle.schemars_schema.specs.SchemaData.{put_all}
-use Rattle.schemars_schema.specs.Verdict.{Verdict, Yes, No, Open, both, verdict, all_of, one_of, is_yes}
-use Rattle.schemars_schema.specs.Acceptance.{Context, Judge, judge, read_data, read_items, judged_by_some, judged_by_list, each_says, each_member, where_some, have_all, schema_named, is_covered, required_says, properties_say, additional_properties_say, unevaluated_properties_say}
-use Rattle.schemars_schema.proofs.Verdicts.{both-yes, both-verdict, each_agree}
+use Rattle.schemars_meaning.proofs.Words.{and-true, or-false, codes, if◌then◌else◌, is_some, ◌&&◌, ◌||◌, not, Data, boolean, string, array, object, Members, no_members, member, items_of, Text, put_all, Verdict, Yes, No, both, verdict, all_of, one_of, Context, Judge, judge, read_items, judged_by_list, each_says, each_member, where_some, have_all, schema_named, is_covered, required_says, properties_say, additional_properties_say, both-yes, both-verdict, each_agree, exactly_one, VariantMatch, every_part, claimed_by, is_key_of_match, excludes_key, Keyword}
+use Rattle.std.proofs.Math.Bool.{and-false, or-true, and_assoc, or_assoc, not-not}
+use Rattle.schemars_schema.specs.Verdict.{Open, is_yes}
+use Rattle.schemars_schema.specs.Acceptance.{read_data, judged_by_some, unevaluated_properties_say}
 use Rattle.schemars_schema.proofs.Objects.{says}
 use Rattle.schemars_builders.proofs.NullKeywords.{texts_in-text_items}
-use Rattle.schemars_types.specs.Meaning.{exactly_one, VariantMatch, every_part, claimed_by, is_key_of_match, excludes_key}
-use Rattle.schemars_documents.specs.Documents.{Keyword}
 use Rattle.schemars_meaning.proofs.MapKeywords.{properties_there, required_there, closed_there}
 use Rattle.schemars_meaning.proofs.Named.{judges_in, all_named-schemas, AreSchemas-put_all, AreEntries, each_yes}
 use Rattle.schemars_meaning.proofs.MapForm.{Keywords, look_up, covered, beside, says-fits, object_type}

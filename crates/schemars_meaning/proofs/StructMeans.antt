@@ -1,20 +1,10 @@
 -- The document of a struct with flattened enums says what the struct means.
 use Rattle.std.proofs.Common.{◌≡◌, ℕ, ◌<◌, ◌≤◌, List, [], Option, Some, None, Bool, true, false, option_map, refl, sym, ap, ◌∙◌, arith, subst}
-use Rattle.std.proofs.Math.Bool.{or-false}
-use Rattle.std.specs.Prelude.{if◌then◌else◌, is_some, ◌&&◌, ◌||◌, not}
-use Rattle.std.specs.Option.{option_map_or}
-use Rattle.serde_json.specs.Data.{Data, null, boolean, number, string, array, object, Members, no_members, member, depth, members_depth}
-use Rattle.serde_json.specs.Find.{get_member}
-use Rattle.schemars_schema.specs.Json.{Text, IsJson, AreJsonMembers}
-use Rattle.schemars_schema.specs.SchemaData.{IsSchema, put_all}
-use Rattle.schemars_schema.specs.Verdict.{Verdict, Yes, No, both, verdict, all_of, one_of}
-use Rattle.schemars_schema.specs.Acceptance.{Context, Judge, judge, read_data, each_member, each_says, where_some, have_all, schema_named}
-use Rattle.schemars_schema.proofs.Verdicts.{both-yes, both-verdict, both-swap, both-assoc, both-middle}
-use Rattle.schemars_schema.proofs.Silent.{silent}
-use Rattle.schemars_shapes.specs.Shape.{Field}
+use Rattle.schemars_meaning.proofs.Words.{or-false, if◌then◌else◌, is_some, ◌&&◌, ◌||◌, not, option_map_or, Data, null, boolean, number, string, array, object, Members, no_members, member, depth, get_member, Text, IsJson, IsSchema, put_all, Verdict, Yes, No, both, verdict, all_of, one_of, Context, Judge, judge, read_data, each_member, each_says, where_some, have_all, schema_named, both-yes, both-verdict, silent, Field, field_named, member_fits, every_member, has_required, every_part, excludes_key, has_fields, Keyword, annotated}
+use Rattle.serde_json.specs.Data.{members_depth}
+use Rattle.schemars_schema.specs.Json.{AreJsonMembers}
+use Rattle.schemars_schema.proofs.Verdicts.{both-swap, both-assoc, both-middle}
 use Rattle.schemars_types.specs.declared.contract.Contract.{Contract}
-use Rattle.schemars_types.specs.Meaning.{field_named, member_fits, every_member, has_required, every_part, excludes_key, has_fields}
-use Rattle.schemars_documents.specs.Documents.{Keyword, annotated}
 use Rattle.schemars_meaning.proofs.Notes.{annotated_fits}
 use Rattle.schemars_meaning.proofs.MapKeywords.{closed_there}
 use Rattle.schemars_meaning.proofs.Named.{schema_named-judges_in, AreEntries, IsNoMap}

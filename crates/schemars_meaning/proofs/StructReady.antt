@@ -1,19 +1,11 @@
 -- Null can be added to the document of a map with fields, and with enums among its members.
 use Rattle.std.proofs.Common.{◌≡◌, ℕ, inl, inr, List, Bool, true, false, refl, sym, ap, ◌∙◌, true≢false, subst}
-use Rattle.std.specs.Prelude.{codes, ◌&&◌, option_and_then}
+use Rattle.schemars_meaning.proofs.Words.{codes, ◌&&◌, option_and_then, Data, object, Members, get_member, as_str, Text, Context, Dialect, IsReady, Field, VariantMatch, Keyword, required_names}
 use Rattle.std.proofs.Math.Bool.{and-false}
-use Rattle.serde_json.specs.Data.{Data, object, Members}
-use Rattle.serde_json.specs.Find.{get_member, as_str}
-use Rattle.schemars_schema.specs.Json.{Text}
-use Rattle.schemars_schema.specs.Acceptance.{Context, Dialect}
 use Rattle.schemars_schema.specs.Edits.{is_text, has_one_member}
 use Rattle.schemars_builders.specs.AllowNull.{is_combined, offers_null}
 use Rattle.schemars_builders.specs.NullLaw.{IsChoice, HasTypeForm, IsPlain}
-use Rattle.schemars_builders.proofs.Nulls.{IsReady}
-use Rattle.schemars_shapes.specs.Shape.{Field}
 use Rattle.schemars_types.specs.declared.contract.Contract.{Contract}
-use Rattle.schemars_types.specs.Meaning.{VariantMatch}
-use Rattle.schemars_documents.specs.Documents.{Keyword, required_names}
 use Rattle.schemars_meaning.proofs.Spread.{field_keywords}
 use Rattle.schemars_meaning.proofs.StructForm.{Parts, struct_keywords}
 use Rattle.schemars_meaning.proofs.Uniting.{IsForm, has_parts}

@@ -1,16 +1,7 @@
 -- What the document of a struct says under 2020-12 into which nothing is flattened.
 use Rattle.std.proofs.Common.{◌≡◌, ℕ, ◌<◌, List, [], Bool, refl}
-use Rattle.serde_json.specs.Data.{Data, no_members, depth}
-use Rattle.schemars_schema.specs.Verdict.{verdict}
-use Rattle.schemars_schema.specs.Json.{Text, IsJson}
-use Rattle.schemars_schema.specs.SchemaData.{IsSchema}
-use Rattle.schemars_schema.specs.Acceptance.{Patterns, Judge, Context, judge}
-use Rattle.schemars_builders.specs.NullLaw.{context2020_12}
-use Rattle.schemars_shapes.specs.Shape.{Field}
+use Rattle.schemars_meaning.proofs.Words.{Data, no_members, depth, verdict, Text, IsJson, IsSchema, Patterns, Judge, Context, judge, context2020_12, Field, has_fields, AreDistinct, AreNoted, required_names}
 use Rattle.schemars_types.specs.declared.contract.Contract.{Contract}
-use Rattle.schemars_types.specs.Meaning.{has_fields}
-use Rattle.schemars_documents.specs.PlainTable.{AreDistinct, AreNoted}
-use Rattle.schemars_documents.specs.Documents.{required_names}
 use Rattle.schemars_meaning.proofs.MapKeywords.{keywords}
 use Rattle.schemars_meaning.proofs.Spread.{field_keywords, struct_document, AreWritten}
 use Rattle.schemars_meaning.proofs.Fields.{field_found, entries, required_same}

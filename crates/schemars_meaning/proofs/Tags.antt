@@ -1,27 +1,11 @@
 -- A tag among the properties of a struct, with or without enums.
 use Rattle.std.proofs.Common.{◌≡◌, ℕ, zero, suc, ◌<◌, List, [], ◌∷◌, ◌++◌, map, Option, Some, None, Bool, true, false, refl, sym, ap, ◌∙◌, subst, true≢false}
-use Rattle.std.specs.Prelude.{codes, bytes_eq, if◌then◌else◌, not, is_some, ◌&&◌, ◌||◌, option_and_then}
-use Rattle.std.specs.Option.{option_map_or}
-use Rattle.std.proofs.lemmas.Slice.Eq.{bytes_eq-Decides}
-use Rattle.serde_json.specs.Data.{Data, null, string, array, object, no_items, Members, no_members, member, put, depth}
-use Rattle.serde_json.specs.Find.{get_member, as_str}
-use Rattle.serde_json.proofs.Views.{get_member-put, get_member-put_other}
-use Rattle.schemars_schema.specs.Json.{Text, IsJson}
-use Rattle.schemars_schema.specs.SchemaData.{IsSchema, put_all}
-use Rattle.schemars_schema.specs.Annotations.{is_annotation, AreNotes}
-use Rattle.schemars_schema.specs.Verdict.{verdict}
-use Rattle.schemars_schema.specs.Acceptance.{Context, judge, have_all}
-use Rattle.schemars_text.proofs.Members.{differ}
-use Rattle.schemars_schema.proofs.SortedMembers.{sorted-put}
-use Rattle.schemars_schema.specs.Edits.{is_text as is_name, with_member, with_first}
-use Rattle.schemars_builders.specs.Variants.{unit_variant}
-use Rattle.schemars_builders.specs.Properties.{with_property, tagged, has_null_type, closed_where, internally_tagged_variant}
-use Rattle.schemars_shapes.specs.Shape.{Field, needed}
+use Rattle.schemars_meaning.proofs.Words.{codes, bytes_eq, if◌then◌else◌, not, is_some, ◌&&◌, ◌||◌, option_and_then, option_map_or, bytes_eq-Decides, Data, null, string, array, object, no_items, Members, no_members, member, put, depth, get_member, as_str, get_member-put, get_member-put_other, Text, IsJson, IsSchema, put_all, is_annotation, AreNotes, verdict, Context, judge, have_all, differ, sorted-put, with_member, with_first, unit_variant, with_property, has_null_type, internally_tagged_variant, Field, needed, every_member, member_fits, tagged_fits, has_required, is_required, field_named, VariantMatch, every_part, excludes_key, has_fields, has_tagged, IsNoName, AreDistinct, AreNoted, Keyword, annotated, required_names, type_alone}
+use Rattle.schemars_schema.specs.Edits.{is_text as is_name}
+use Rattle.schemars_builders.specs.Properties.{tagged, closed_where}
 use Rattle.schemars_types.specs.declared.contract.Contract.{Contract}
 use Rattle.schemars_types.specs.declared.contract.Contract.TheVariants.{Deserialize, Serialize}
-use Rattle.schemars_types.specs.Meaning.{is_text, every_member, member_fits, tagged_fits, has_required, is_required, field_named, VariantMatch, every_part, excludes_key, has_fields, has_tagged}
-use Rattle.schemars_documents.specs.PlainTable.{IsNoName, AreDistinct, AreNoted}
-use Rattle.schemars_documents.specs.Documents.{Keyword, annotated, required_names, type_alone}
+use Rattle.schemars_types.specs.Meaning.{is_text}
 use Rattle.schemars_meaning.proofs.MapDocument.{map_document}
 use Rattle.schemars_meaning.proofs.MapKeywords.{put_all-append, properties_there, required_there, value_or, changed_at-here, changed_at-beside, sorted-changed_at, noted, noted_by-object, noted-beside, sorted-noted, keywords}
 use Rattle.schemars_meaning.proofs.Named.{AreEntries}

@@ -1,28 +1,12 @@
 -- An enum whose variants have their names as keys, flattened with units among its variants: these become maps behind the others.
 use Rattle.std.proofs.Common.{◌≡◌, ℕ, List, [], ◌∷◌, ◌++◌, Option, Some, None, Bool, true, false, map, refl, sym, ap, ◌∙◌, subst}
-use Rattle.std.proofs.lemmas.Slice.Eq.{bytes_eq-Decides}
-use Rattle.std.specs.Prelude.{if◌then◌else◌, bytes_eq, ◌&&◌, ◌||◌, not, codes, option_map, option_and_then}
-use Rattle.serde_json.specs.Data.{Data, string, array, object, Items, item, Members, no_members, member, put}
-use Rattle.serde_json.specs.Find.{get, get_member, as_str, as_array}
-use Rattle.serde_json.specs.View.{items_of}
-use Rattle.serde_json.proofs.Views.{get_member-put, get_member-put_other}
-use Rattle.schemars_schema.specs.Json.{Text, IsJson}
-use Rattle.schemars_schema.specs.Edits.{without, removed, replaced, is_text, on_list}
-use Rattle.schemars_schema.specs.Annotations.{is_annotation, AreNotes}
-use Rattle.schemars_schema.specs.Verdict.{verdict}
-use Rattle.schemars_schema.specs.Acceptance.{Context, judge, is_null}
-use Rattle.schemars_text.proofs.Members.{get_member-later, differ}
-use Rattle.schemars_schema.proofs.Members.{get_member-replaced, get_member-replaced_other, get_member-without}
-use Rattle.schemars_schema.proofs.SortedMembers.{IsSorted, sorted-put, sorted-replaced, sorted-without}
-use Rattle.schemars_builders.specs.AllowNull.{null_schema}
-use Rattle.schemars_builders.specs.NullLaw.{text_items}
-use Rattle.schemars_flatten.specs.Flatten.{appended}
-use Rattle.schemars_flatten.specs.Opening.{opened}
-use Rattle.schemars_flatten.specs.Parts.{unit_object, unit_objects, with_items, with_units, first_as_objects, list_changed_at, units_as_objects, flattened_part}
-use Rattle.schemars_shapes.specs.Shape.{Variant}
+use Rattle.schemars_meaning.proofs.Words.{bytes_eq-Decides, if◌then◌else◌, bytes_eq, ◌&&◌, ◌||◌, not, codes, option_and_then, Data, string, array, object, Items, item, Members, no_members, member, put, get, get_member, as_str, as_array, items_of, get_member-put, get_member-put_other, Text, IsJson, without, removed, replaced, on_list, is_annotation, AreNotes, verdict, Context, judge, is_null, get_member-later, differ, get_member-without, IsSorted, sorted-put, sorted-without, null_schema, text_items, appended, opened, unit_objects, first_as_objects, list_changed_at, units_as_objects, flattened_part, Variant, exactly_one, none, VariantMatch, claimed_by, member_choice, annotated}
+use Rattle.std.specs.Prelude.{option_map}
+use Rattle.schemars_schema.specs.Edits.{is_text}
+use Rattle.schemars_schema.proofs.Members.{get_member-replaced, get_member-replaced_other}
+use Rattle.schemars_schema.proofs.SortedMembers.{sorted-replaced}
+use Rattle.schemars_flatten.specs.Parts.{unit_object, with_items, with_units}
 use Rattle.schemars_types.specs.declared.contract.Contract.{Contract}
-use Rattle.schemars_types.specs.Meaning.{exactly_one, none, VariantMatch, claimed_by, member_choice}
-use Rattle.schemars_documents.specs.Documents.{annotated}
 use Rattle.schemars_meaning.proofs.MapKeywords.{noted, noted_by-object, noted-beside, sorted-noted, closed_there, properties_there, required_there}
 use Rattle.schemars_meaning.proofs.MapForm.{Keywords, look_up}
 use Rattle.schemars_meaning.proofs.Offers.{one_object}

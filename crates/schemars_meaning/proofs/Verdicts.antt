@@ -1,8 +1,7 @@
 -- Verdicts together.
 use Rattle.std.proofs.Common.{◌≡◌, List, [], ◌∷◌, map, Bool, true, false, refl}
-use Rattle.std.specs.Prelude.{◌&&◌, not}
-use Rattle.schemars_schema.specs.Verdict.{both, verdict, opposite, none_of, one_of}
-use Rattle.schemars_types.specs.Meaning.{exactly_one, none}
+use Rattle.schemars_meaning.proofs.Words.{◌&&◌, not, both, verdict, opposite, one_of, exactly_one, none}
+use Rattle.schemars_schema.specs.Verdict.{none_of}
 
 pub none_verdict : (bs : List Bool) → none_of (map verdict bs) ≡ verdict (none bs)
 none_verdict [] = refl

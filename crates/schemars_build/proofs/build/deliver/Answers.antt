@@ -1,8 +1,7 @@
 use Rattle.std.proofs.Common.{◌≡◌, ◌-◌, ◌<◌, ℕ, List, [], ◌∷◌, length, reverse, Some, None, rules, refl, sym, ◌∙◌, subst, slice_set, slice_index_or, arith}
 use Rattle.std.specs.Vec.{vec_len}
-use Rattle.serde_json.specs.Data.{Data}
+use Rattle.schemars_build.proofs.Words.{Data, IsTaken, HasAnswered}
 use Rattle.schemars_build.specs.declared.build.Document.{Document}
-use Rattle.schemars_build.specs.Making.{IsTaken, HasAnswered}
 use Rattle.schemars_build.proofs.Innermost.{last_got, last_set, none_reversed}
 use Rattle.schemars_build.proofs.build.deliver.Goals as goal
 

@@ -1,21 +1,10 @@
 use Rattle.std.proofs.Common.{◌≡◌, ◌<◌, ◌≤◌, false, Some, refl, ap, sym, ◌∙◌, subst, arith, rules, string_bytes, reverse}
-use Rattle.std.specs.Prelude.{◌||◌}
-use Rattle.serde_json.specs.Data.{boolean}
-use Rattle.serde_json.specs.Find.{get_member}
-use Rattle.schemars_documents.specs.Documents.{reference}
-use Rattle.schemars_types.specs.Edges.{is_inline_at}
-use Rattle.schemars_documents.specs.Template.{part}
-use Rattle.schemars_build.specs.Registry.{reference_to}
-use Rattle.schemars_build.specs.Plans.{plan_of}
-use Rattle.schemars_build.specs.Making.{asked, IsBegun}
+use Rattle.schemars_build.proofs.Words.{◌||◌, boolean, get_member, reference, is_inline_at, part, reference_to, plan_of, IsBegun, IfOk-weaker, get_member-put, missing, document_rank, measure_of_part}
+use Rattle.schemars_build.specs.Making.{asked}
 use Rattle.schemars_build.specs.declared.build.Purpose.TheVariants as purpose
 use Rattle.std.proofs.lemmas.Str.{IsUtf8-string_bytes}
-use Rattle.std.proofs.lemmas.Result.{IfOk-weaker}
 use Rattle.schemars_build.proofs.Making.{filled_made, closes_own, closes_members, closes_content, closes_referred, closes_definition}
 use Rattle.schemars_build.proofs.Steps.{finished_with}
-use Rattle.serde_json.proofs.Views.{get_member-put}
-use Rattle.schemars_build.specs.Missing.{missing}
-use Rattle.schemars_build.specs.Measure.{document_rank, measure_of_part}
 use Rattle.schemars_build.proofs.Descending.{content_to_part}
 use Rattle.schemars_build.proofs.Ending.{closing_replies, closing_less, left_fewer, finished_fewer, replied_fewer}
 use Rattle.schemars_build.proofs.build.finish_document.Goals as goal

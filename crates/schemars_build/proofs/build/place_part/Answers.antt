@@ -1,27 +1,14 @@
 use Rattle.std.proofs.Common.{◌≡◌, ◌≢◌, ◌≤◌, ℕ, Option, Bool, false, true, inl, Some, None, refl, ap, sym, ◌∙◌, subst, arith, string_bytes, not, is_some, eqb, true≢false, reverse}
-use Rattle.std.specs.Prelude.{◌||◌, ◌&&◌, codes}
-use Rattle.serde_json.specs.Data.{Data}
-use Rattle.serde_json.specs.Find.{get_member}
-use Rattle.schemars_documents.specs.Documents.{reference}
-use Rattle.schemars_schema.specs.References.{references}
-use Rattle.schemars_types.specs.Edges.{is_inline_at}
-use Rattle.schemars_documents.specs.Template.{part}
-use Rattle.schemars_build.specs.Placed.{is_in_place, pending_in, is_pending}
-use Rattle.schemars_build.specs.Registry.{Registry, Step, rolled_back, reference_to}
-use Rattle.schemars_build.specs.Parts.{IsPart, IsMade}
-use Rattle.schemars_build.specs.Plans.{plan_of}
-use Rattle.schemars_build.specs.Reached.{AreReached}
-use Rattle.schemars_build.specs.Making.{own, defined, asked, ComesFrom, IsRepliedBy, HasReplied, answer, document}
+use Rattle.schemars_build.proofs.Words.{◌||◌, ◌&&◌, Data, get_member, reference, references, is_inline_at, part, is_in_place, pending_in, is_pending, Registry, Step, rolled_back, reference_to, IsPart, plan_of, AreReached, own, ComesFrom, IsRepliedBy, HasReplied, answer, document, IfOk-weaker, eqb-true, nat_tests, measure_of_own_document, measure_of_part, IsWithin}
+use Rattle.std.specs.Prelude.{codes}
+use Rattle.schemars_build.specs.Parts.{IsMade}
+use Rattle.schemars_build.specs.Making.{defined, asked}
 use Rattle.schemars_build.specs.declared.build.Purpose.TheVariants as purpose
 use Rattle.std.specs.Option.{option_eq}
-use Rattle.std.proofs.lemmas.Result.{IfOk-weaker}
-use Rattle.std.proofs.lemmas.Bool.{eqb-true}
-use Rattle.std.proofs.lemmas.Bool.Decides.{nat_tests}
 use Rattle.schemars_build.proofs.Building.{part_answer}
 use Rattle.schemars_build.proofs.Reaching.{reached_root, nothing_added}
 use Rattle.schemars_build.proofs.Steps.{begun_with, rolled_back-begun, key-found, step_refl, step_meet, step_names}
 use Rattle.schemars_build.proofs.Making.{leads_in_place, leads_defined, opened_reply, replied_from, replied_through}
-use Rattle.schemars_build.specs.Measure.{measure_of_own_document, measure_of_part, IsWithin}
 use Rattle.schemars_build.proofs.Descending.{to_own}
 use Rattle.schemars_build.proofs.Ending.{opened_within, within_more, definition_within}
 use Rattle.schemars_build.proofs.build.place_part.Goals.{In_ok-begin_new, After-enter}

@@ -1,17 +1,11 @@
 use Rattle.std.proofs.Common.{◌≡◌, ◌<◌, ◌≤◌, ℕ, Bool, length, reverse, Option, refl, sym, subst, arith, rules}
 use Rattle.std.specs.Result.{IfOk}
-use Rattle.serde_json.specs.Data.{Data}
-use Rattle.std.proofs.lemmas.Result.{IfOk-weaker}
-use Rattle.schemars_documents.specs.Template.{Ask, members_of, content}
-use Rattle.schemars_documents.specs.View.{ask_of}
-use Rattle.schemars_documents.specs.Describes.{are_optional}
-use Rattle.schemars_build.specs.Plans.{plan_of}
-use Rattle.schemars_build.specs.Making.{flattened, asked, ComesFrom, document, HasReplied}
+use Rattle.schemars_build.proofs.Words.{Data, IfOk-weaker, Ask, members_of, content, ask_of, are_optional, plan_of, ComesFrom, document, HasReplied, row_asked, measure_of_asked, measure_of_filled, IsWithin}
+use Rattle.schemars_build.specs.Making.{flattened, asked}
 use Rattle.schemars_build.specs.declared.build.Purpose.TheVariants as purpose
-use Rattle.schemars_build.specs.Missing.{row_asked}
 use Rattle.schemars_build.proofs.Asked.{inner_known}
 use Rattle.schemars_build.proofs.Making.{leads_at_once, opened_reply, leads_members}
-use Rattle.schemars_build.specs.Measure.{measure_of_asked, measure_of_members, measure_of_content, measure_of_filled, IsWithin}
+use Rattle.schemars_build.specs.Measure.{measure_of_members, measure_of_content}
 use Rattle.schemars_build.proofs.Descending.{members_to_filled}
 use Rattle.schemars_build.proofs.Ending.{opened_within}
 use Rattle.schemars_build.proofs.build.reply_to.Goals as goal

@@ -1,7 +1,6 @@
 use Rattle.std.proofs.Common.{reverse}
-use Rattle.schemars_build.specs.Making.{GoesOn, wanted}
-use Rattle.schemars_build.specs.Measure.{measure_of_turn}
-use Rattle.schemars_build.specs.Plans.{plan_of}
+use Rattle.schemars_build.proofs.Words.{wanted, measure_of_turn, plan_of}
+use Rattle.schemars_build.specs.Making.{GoesOn}
 use Rattle.schemars_build.proofs.build.run.Given as goal
 
 abbrev pub invariant-going : goal.invariant-going

@@ -1,10 +1,7 @@
 use Rattle.std.proofs.Common.{Option, reverse, sym, subst}
 use Rattle.std.specs.Result.{IfOk}
-use Rattle.std.proofs.lemmas.Result.{IfOk-weaker}
-use Rattle.serde_json.specs.Data.{Data}
-use Rattle.schemars_documents.specs.View.{ask_of}
-use Rattle.schemars_build.specs.Plans.{plan_of}
-use Rattle.schemars_build.specs.Making.{Wanted, own, asked, wanted, HasReplied}
+use Rattle.schemars_build.proofs.Words.{IfOk-weaker, Data, ask_of, plan_of, Wanted, own, wanted, HasReplied}
+use Rattle.schemars_build.specs.Making.{asked}
 use Rattle.schemars_build.proofs.Making.{leads_at_once, replied_through}
 use Rattle.schemars_build.proofs.build.start.Goals as goal
 

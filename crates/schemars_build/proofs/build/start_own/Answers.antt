@@ -1,7 +1,5 @@
 use Rattle.std.proofs.Common.{◌≡◌, ◌≤◌, length, reverse, refl, ap, ◌∙◌, arith, rules}
-use Rattle.schemars_build.specs.Plans.{plan_of}
-use Rattle.schemars_build.specs.Making.{own, IsInMaking, IsOpened, answer, document}
-use Rattle.schemars_build.specs.Measure.{measure_of_own_document}
+use Rattle.schemars_build.proofs.Words.{plan_of, own, IsInMaking, IsOpened, answer, document, measure_of_own_document}
 use Rattle.schemars_build.specs.declared.build.Document.{Document}
 use Rattle.schemars_build.specs.declared.build.Purpose.TheVariants as purpose
 use Rattle.schemars_build.proofs.Innermost.{reverse_added}

@@ -1,8 +1,6 @@
 use Rattle.std.proofs.Common.{◌∙◌, ap, sym, subst, take}
-use Rattle.schemars_types.specs.Faults.{IsChecked}
+use Rattle.schemars_generate.proofs.Words.{IsChecked, err_told, IsTypeRefusal}
 use Rattle.schemars_types.proofs.Registered.{place_of-below}
-use Rattle.schemars_headline.proofs.Calls.{err_told}
-use Rattle.schemars_generate.specs.ByType.{IsTypeRefusal}
 use Rattle.schemars_generate.proofs.ByType.{begins, registered, type_refusal, check_refusal}
 use Rattle.schemars_generate.proofs.by_type.join.Goals as goal
 

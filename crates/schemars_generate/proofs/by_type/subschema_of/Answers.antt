@@ -1,11 +1,7 @@
 use Rattle.std.proofs.Common.{refl, subst}
-use Rattle.schemars_build.specs.Registry.{Registry}
-use Rattle.schemars_documents.specs.Template.{part}
-use Rattle.schemars_generate.specs.Answers.{IsAnswerFor}
-use Rattle.schemars_generate.specs.Generator.{state_of}
+use Rattle.schemars_generate.proofs.Words.{Registry, part, IsAnswerFor, state_of, more_types_own}
 use Rattle.schemars_generate.proofs.ByType.{subschema_in_table, subschema_joined}
 use Rattle.schemars_generate.proofs.Answered.{keeps_answer}
-use Rattle.schemars_headline.proofs.Larger.{more_types_own}
 use Rattle.schemars_generate.proofs.by_type.subschema_of.Goals as goal
 
 pub returns-clause-subschema : goal.returns-clause-subschema

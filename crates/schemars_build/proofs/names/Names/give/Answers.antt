@@ -1,6 +1,5 @@
 use Rattle.std.proofs.Common.{◌<◌, ◌+◌, ◌^◌, sym, subst, arith, string_bytes}
-use Rattle.schemars_build.specs.Naming.{NamedRow, Naming}
-use Rattle.schemars_build.specs.Owners.{AreUsed}
+use Rattle.schemars_build.proofs.Words.{NamedRow, Naming, AreUsed}
 use Rattle.schemars_build.proofs.TriedLemmas.{used_with}
 use Rattle.schemars_build.proofs.names.Names.give.Goals as goal
 

@@ -1,8 +1,5 @@
 use Rattle.std.proofs.Common.{◌≡◌, ◌⊎◌, sym, subst, Some, inl, inr, ℕ}
-use Rattle.std.specs.HashMap.{get_by_text}
-use Rattle.schemars_schema.specs.Json.{Text}
-use Rattle.schemars_build.specs.Naming.{Naming}
-use Rattle.schemars_build.specs.Owners.{naming_of, AreUsed}
+use Rattle.schemars_build.proofs.Words.{get_by_text, Text, Naming, naming_of, AreUsed}
 use Rattle.schemars_build.proofs.names.Names.note.Goals as goal
 
 pub invariant_of-self : goal.invariant_of-self

@@ -1,8 +1,6 @@
 use Rattle.std.proofs.Common.{◌≡◌, ◌∙◌, ap, sym, subst, Some}
 use Rattle.std.specs.Option.{option_copied}
-use Rattle.std.specs.HashMap.{get_by_text}
-use Rattle.schemars_build.specs.Naming.{Naming}
-use Rattle.schemars_build.specs.Owners.{AreUsed}
+use Rattle.schemars_build.proofs.Words.{get_by_text, Naming, AreUsed}
 use Rattle.schemars_build.proofs.names.Names.tried.Goals as goal
 
 pub returns-in-Some : goal.returns-in-Some

@@ -1,9 +1,6 @@
 use Rattle.std.proofs.Common.{◌≡◌, ◌∙◌, sym, string_bytes, ℕ, Some, subst, ap}
-use Rattle.std.specs.HashMap.{get_by_text}
-use Rattle.schemars_schema.specs.Json.{Text}
-use Rattle.schemars_build.specs.Naming.{Naming}
+use Rattle.schemars_build.proofs.Words.{get_by_text, Text, Naming, naming_of, AreUsed, place_of_owner}
 use Rattle.schemars_build.proofs.PlacedLemmas.{placed_same}
-use Rattle.schemars_build.specs.Owners.{naming_of, AreUsed, place_of_owner}
 use Rattle.schemars_build.proofs.TriedLemmas.{lookup_copied}
 use Rattle.schemars_build.proofs.Copies.{as_long, equal_copied, names_copied}
 use Rattle.schemars_build.proofs.names.NamesClone.clone.Goals as goal

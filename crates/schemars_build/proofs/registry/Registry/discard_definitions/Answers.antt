@@ -1,7 +1,6 @@
 -- What was begun is taken out of the definitions.
 use Rattle.std.proofs.Common.{ap, ◌∙◌, [], length, false}
-use Rattle.serde_json.specs.Data.{Members}
-use Rattle.schemars_build.specs.Registry.{Registry, without_all}
+use Rattle.schemars_build.proofs.Words.{Members, Registry, without_all}
 use Rattle.schemars_build.proofs.registry.Registry.discard_definitions.Goals as goal
 
 -- these definitions, and nothing that was begun

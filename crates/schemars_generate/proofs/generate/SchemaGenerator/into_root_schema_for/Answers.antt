@@ -1,12 +1,5 @@
 use Rattle.std.proofs.Common.{inl, inr, refl, sym, subst}
-use Rattle.std.proofs.lemmas.Result.{IfOk-weaker, IfErr-weaker}
-use Rattle.schemars_build.specs.Registry.{Registry}
-use Rattle.schemars_headline.proofs.Calls.{err_told}
-use Rattle.schemars_headline.proofs.Larger.{more_types_own}
-use Rattle.schemars_types.specs.Faults.{IsChecked}
-use Rattle.schemars_generate.specs.ByType.{IsJoined, IsTypeRefusal, IsRootOfTypeRefusal, with_rows}
-use Rattle.schemars_generate.specs.Generator.{state, state_of, Transforms}
-use Rattle.schemars_generate.specs.Through.{IsTransformed, IsUntransformed, IsRootRefusal}
+use Rattle.schemars_generate.proofs.Words.{IfOk-weaker, IfErr-weaker, Registry, err_told, more_types_own, IsChecked, IsJoined, IsTypeRefusal, IsRootOfTypeRefusal, with_rows, state, state_of, Transforms, IsTransformed, IsUntransformed, IsRootRefusal}
 use Rattle.schemars_generate.specs.declared.error.GenerateError.{GenerateError}
 use Rattle.schemars_generate.proofs.ByType.{root_in_table, type_memory}
 use Rattle.schemars_generate.proofs.generate.SchemaGenerator.into_root_schema_for.Goals as goal
