@@ -12,7 +12,7 @@ use Rattle.schemars_types.specs.Edges.{DirectEdge, SameValueEdge, names_at}
 use Rattle.schemars_types.specs.Faults.{IsUndefined, HasRepeated, IsAccepted}
 use Rattle.schemars_types.specs.declared.contract.Contract.{Contract}
 use Rattle.schemars_types.specs.declared.contract.Contract.TheVariants.{Deserialize, Serialize}
-use Rattle.schemars_types.specs.Meaning.{belongs_within, every_member, member_fits, is_required}
+use Rattle.schemars_types.specs.Meaning.{Member, member_named, field_member, belongs_within, every_member, is_required}
 use Rattle.schemars_types.proofs.Accepted.{never_first_repeated}
 
 abbrev next : Field
@@ -91,13 +91,16 @@ no_and : (a : Bool) → a && false ≡ false
 no_and true = refl
 no_and false = refl
 
+-- what a member of this name may be
+abbrev own : Contract → (ℕ → Data → Bool) → Text → Data → Bool
+own c part k w = option_map_or (λ (m : Member). m.has w) (member_named (field_member c part next ∷ []) k) true
+
 absent_or_misfit : (c : Contract) (part : ℕ → Data → Bool) → ((w : Data) → part 0 w ≡ false) → (ms : Members) (o : Option Data)
     → get_member (codes "n") ms ≡ o
-    → every_member (member_fits part (next ∷ []) false) ms && ((not (is_required c next.required) || is_some (get_member (codes "n") ms))
-    && true) ≡ false
-absent_or_misfit Deserialize part none ms None is = rw is (no_and (every_member (member_fits part (next ∷ []) false) ms))
-absent_or_misfit Serialize part none ms None is = rw is (no_and (every_member (member_fits part (next ∷ []) false) ms))
-absent_or_misfit c part none ms (Some w) is = rw (misfit (member_fits part (next ∷ []) false) (codes "n") w ms is (none w)) refl
+    → every_member (own c part) ms && ((not (is_required c next.required) || is_some (get_member (codes "n") ms)) && true) ≡ false
+absent_or_misfit Deserialize part none ms None is = rw is (no_and (every_member (own Deserialize part) ms))
+absent_or_misfit Serialize part none ms None is = rw is (no_and (every_member (own Serialize part) ms))
+absent_or_misfit c part none ms (Some w) is = rw (misfit (own c part) (codes "n") w ms is (none w)) refl
 
 pub no_value : (contract : Contract) (patterns : Patterns) (steps n : ℕ) (v : Data)
     → belongs_within endless contract patterns steps n v ≡ false

@@ -7,11 +7,12 @@ use Rattle.schemars_schema.specs.Acceptance.{read_data, all_keywords}
 use Rattle.schemars_shapes.specs.Shape as shape
 use Rattle.schemars_types.specs.declared.contract.Contract.{Contract}
 use Rattle.schemars_types.specs.declared.contract.Contract.TheVariants.{Deserialize, Serialize}
-use Rattle.schemars_types.specs.Meaning.{is_text}
+use Rattle.schemars_types.specs.Meaning.{is_text, has_member}
 use Rattle.schemars_types.specs.OpenStructs.{no_choices}
 use Rattle.schemars_meaning.proofs.ByShape.{one_of_document, any_of_document, units_document, member_document, range_document, result_document, bound_document, either_document}
 use Rattle.schemars_meaning.proofs.Verdicts.{none_verdict, one_verdict}
 use Rattle.schemars_meaning.proofs.Structs.{struct_says}
+use Rattle.schemars_meaning.proofs.SmallMaps.{one_means, two_mean}
 
 module _ (patterns : Patterns) (f : Text → Judge) (basis : Basis) (M : ℕ → Data → Bool) where
   abbrev contract : Contract
@@ -87,29 +88,18 @@ module _ (patterns : Patterns) (f : Text → Judge) (basis : Basis) (M : ℕ →
   module _ (W : ℕ → Data → Type 0) (schemas : (j : ℕ) (t : Data) → W j t → IsSchema t) (v : Data) (json : IsJson v)
       (agree : (j : ℕ) (t w : Data) → W j t → IsJson w → depth w < depth v → (judge c t).fits w ≡ verdict (M j w)) where
     abbrev has : Bool → Text → ℕ → Bool
-    has closed name n = has_fields contract M [] (needed name n ∷ []) closed v
+    has closed name n = has_member name (M n) closed v
 
     member_says : (closed : Bool) (name : Text) (n : ℕ) (t : Data) → W n t
-        → (judge c (member_document closed name t)).fits v ≡ verdict (has_fields contract M [] (needed name n ∷ []) closed v)
-    member_says closed name n t h = go contract
-      where
-        go : (k : Contract) → (judge c (member_document closed name t)).fits v ≡ verdict (has_fields k M [] (needed name n ∷ []) closed v)
-        go Deserialize = struct_says patterns f Deserialize W M schemas (needed name n ∷ []) (t ∷ []) closed (tt, tt) (tt, tt) (h, refl) v
-            json agree
-        go Serialize = struct_says patterns f Serialize W M schemas (needed name n ∷ []) (t ∷ []) closed (tt, tt) (tt, tt) (h, refl) v
-            json agree
+        → (judge c (member_document closed name t)).fits v ≡ verdict (has closed name n)
+    member_says closed name n t h = one_means c refl v name (M n) t closed (schemas n t h) (λ w is less. agree n t w h is less) json
 
     pub range_says : (n : ℕ) (s e : Data) → W n s → W n e
         → (judge c (range_document s e)).fits v
         ≡ verdict (has_shape contract patterns (key_options basis.rows) no_choices M (shape.range n) v)
-    range_says n s e g h = go contract
-      where
-        go : (k : Contract) → (judge c (range_document s e)).fits v
-            ≡ verdict (has_shape k patterns (key_options basis.rows) no_choices M (shape.range n) v)
-        go Deserialize = struct_says patterns f Deserialize W M schemas (needed (codes "start") n ∷ needed (codes "end") n ∷ [])
-            (s ∷ e ∷ []) false ((refl, tt), (tt, tt)) (tt, (tt, tt)) (g, (h, refl)) v json agree
-        go Serialize = struct_says patterns f Serialize W M schemas (needed (codes "start") n ∷ needed (codes "end") n ∷ [])
-            (s ∷ e ∷ []) false ((refl, tt), (tt, tt)) (tt, (tt, tt)) (g, (h, refl)) v json agree
+    range_says n s e g h =
+        two_mean c refl v (codes "start") (codes "end") refl (M n) (M n) s e (λ w is less. agree n s w g is less)
+        (λ w is less. agree n e w h is less) false (schemas n s g) (schemas n e h) json
 
     pub result_says : (a b : ℕ) (t e : Data) → W a t → W b e
         → (judge c (result_document t e)).fits v

@@ -1,18 +1,18 @@
 -- What the document of an enum says whose variants have their names as keys, and whose payloads may have enums among their members.
 use Rattle.std.proofs.Common.{◌≡◌, ℕ, ◌<◌, List, [], ◌∷◌, ◌++◌, map, Option, Some, None, Bool, true, false, refl, sym, ap, ◌∙◌, subst, true≢false}
-use Rattle.schemars_meaning.proofs.Words.{bytes_eq, if◌then◌else◌, is_some, ◌&&◌, ◌||◌, list_any, option_map_or, and_comm, and-true, and_parts, bytes_eq-Decides, Data, null, string, object, Members, no_members, member, depth, get_member, Text, IsJson, IsSchema, AreNotes, verdict, Context, judge, unit_variant, Field, Flattened, Payload, Variant, no_payload, newtype_payload, tuple_payload, struct_payload, needed, is_bare_unit, every_member, member_fits, has_required, none, exactly_one, VariantMatch, has_fields, has_payload, AreDistinctVariants, Ask, Template, noted, asks_of, asks_in, filled, filled_in, templates_of, member_template, payload_template, named_template, bare_units, other_items, choice_of, external_template, expanded_payload, expanded_variant}
+use Rattle.schemars_meaning.proofs.Words.{bytes_eq, if◌then◌else◌, is_some, ◌&&◌, ◌||◌, list_any, option_map_or, and_comm, and-true, and_parts, bytes_eq-Decides, Data, null, string, object, Members, no_members, member, depth, get_member, Text, IsJson, IsSchema, AreNotes, verdict, Context, judge, unit_variant, Field, Flattened, Payload, Variant, no_payload, newtype_payload, tuple_payload, struct_payload, needed, is_bare_unit, every_member, none, exactly_one, VariantMatch, has_fields, has_payload, AreDistinctVariants, Ask, Template, noted, asks_of, asks_in, filled, filled_in, templates_of, member_template, payload_template, named_template, bare_units, other_items, choice_of, external_template, expanded_payload, expanded_variant}
 use Rattle.std.proofs.lemmas.Option.{same_Some}
 use Rattle.schemars_schema.specs.Acceptance.{read_data}
 use Rattle.schemars_types.specs.declared.contract.Contract.{Contract}
 use Rattle.schemars_types.specs.declared.contract.Contract.TheVariants.{Deserialize}
-use Rattle.schemars_types.specs.Meaning.{is_map_of, is_text, has_external}
+use Rattle.schemars_types.specs.Meaning.{is_text, has_external, has_member, must_have}
 use Rattle.schemars_documents.specs.PlainTable.{IsNoVariant}
 use Rattle.schemars_meaning.proofs.MapDocument.{map_document}
 use Rattle.schemars_meaning.proofs.MapKeywords.{keywords}
 use Rattle.schemars_meaning.proofs.Filling.{Fit, without_end, parted}
 use Rattle.schemars_meaning.proofs.Offers.{AllSay, one_object, object_fits}
 use Rattle.schemars_meaning.proofs.UnitMembers.{units_schema}
-use Rattle.schemars_meaning.proofs.StructMeans.{value_says}
+use Rattle.schemars_meaning.proofs.SmallMaps.{one_means}
 use Rattle.schemars_meaning.proofs.Notes.{annotated_fits, annotated-schema}
 use Rattle.schemars_meaning.proofs.Fields.{field_found}
 use Rattle.schemars_meaning.proofs.Uniting.{form-keywords}
@@ -31,11 +31,13 @@ text_claimed : (k : Text) (v : Data) → is_text k v ≡ true → claimed v ≡ 
 text_claimed k (string s) h = ap Some (sym ((bytes_eq-Decides k s).0 h))
 text_claimed k _ h = absurd (true≢false (sym h))
 
-map_claimed : (k : Text) (p : Data → Bool) (v : Data) → is_map_of k p v ≡ true → claimed v ≡ Some k
-map_claimed k p (object (member l w ms)) h =
-    let every = (and_parts _ _ h).1 in
-    let own = (and_parts _ _ every).0 in
-    ap Some (sym ((bytes_eq-Decides k l).0 (and_parts _ _ own).0))
+map_claimed : (k : Text) (p : Data → Bool) (v : Data) → has_member k p true v ≡ true → claimed v ≡ Some k
+map_claimed k p (object (member l w ms)) h = go (bytes_eq k l) refl (and_parts _ _ (and_parts _ _ h).0).0
+  where
+    go : (b : Bool) → bytes_eq k l ≡ b → option_map_or (λ m. m.has w) (if b then Some (must_have k p) else None) false ≡ true
+        → Some l ≡ Some k
+    go true here fits = ap Some (sym ((bytes_eq-Decides k l).0 here))
+    go false other fits = absurd (true≢false (sym fits))
 map_claimed k p _ h = absurd (true≢false (sym h))
 
 module _ (contract : Contract) (M : ℕ → Data → Bool) (C : ℕ → Data → List VariantMatch) (v : Data) where
@@ -162,39 +164,7 @@ abbrev pub AreTold : (Payload → Type 0) → List Variant → Type 0
 AreTold Told [] = Unit {0}
 AreTold Told (x ∷ xs) = Told x.payload × AreNotes x.notes × AreTold Told xs
 
--- ---- a map with one member alone
-
-module _ (name : Text) (p : Data → Bool) where
-  one_field : (k : Text) (w : Data) → member_fits (λ j. p) (needed name 0 ∷ []) true k w ≡ bytes_eq name k && p w
-  one_field k w = go (bytes_eq name k)
-    where
-      go : (b : Bool) → option_map_or (λ (x : Field). p w) (if b then Some (needed name 0) else None) false ≡ b && p w
-      go true = refl
-      go false = refl
-
-  has_field : (ms : Members) → has_required Deserialize (needed name 0 ∷ []) ms ≡ is_some (get_member name ms)
-  has_field ms = and-true (is_some (get_member name ms))
-
-  alone_same : (v : Data) → has_fields Deserialize (λ j. p) [] (needed name 0 ∷ []) true v ≡ is_map_of name p v
-  alone_same (object ms) =
-      (λ i. every_alike (member_fits (λ j. p) (needed name 0 ∷ []) true) (λ l w. bytes_eq name l && p w) one_field ms i && has_field ms i)
-      ∙ and_comm (every_member (λ l w. bytes_eq name l && p w) ms) (is_some (get_member name ms))
-  alone_same null = refl
-  alone_same _ = refl
-
 module _ (c : Context) (on : c.dialect.reads_unevaluated ≡ true) where
-  alone_says : (name : Text) (p : Data → Bool) (s : Data) → IsSchema s → (v : Data) → IsJson v
-      → ((w : Data) → IsJson w → depth w < depth v → (judge c s).fits w ≡ verdict (p w))
-      → (judge c (map_document ((name, s) ∷ []) (name ∷ []) true)).fits v ≡ verdict (is_map_of name p v)
-  alone_says name p s is v json agree =
-      let W : ℕ → Data → Type 0 = λ j t. t ≡ s in
-      value_says c on Deserialize W (λ j. p) (λ j t e. subst IsSchema (sym e) is) (needed name 0 ∷ []) ((name, s) ∷ [])
-      (name ∷ []) no_parts true
-      (keywords ((name, s) ∷ []) (name ∷ []) true) (form-keywords _ _ (map_form [] ((name, s) ∷ []) (name ∷ []) true tt)) (is, tt)
-      (λ k. field_found W k (needed name 0 ∷ []) (s ∷ []) no_members (tt, tt) (tt, tt) (refl, refl)) (λ ms. refl) v json (tt, tt)
-      (λ j t w e js less. ap (λ x. (judge c x).fits w) e ∙ agree w js less)
-      ∙ ap verdict (alone_same name p v)
-
   -- ---- the whole
 
   module _ (contract : Contract) (A : Ask → Data → Type 0) (part_fields : Flattened → List Field) (enums : Flattened → List ℕ)
@@ -214,12 +184,12 @@ module _ (c : Context) (on : c.dialect.reads_unevaluated ≡ true) where
     keyed_fits : (name : Text) (p : Payload) → Told p → (us : List Data)
         → Fit A (asks_of (member_template true name (payload_template contract p))) us
         → (judge c (filled (member_template true name (payload_template contract p)) us)).fits v
-        ≡ verdict (is_map_of name (has_payload contract M C (expanded_payload part_fields enums p)) v)
+        ≡ verdict (has_member name (has_payload contract M C (expanded_payload part_fields enums p)) true v)
     keyed_fits name p told us fit =
         let t = payload_template contract p in
         let own : Fit A (asks_of t) us = without_end A (asks_of t) us (without_end A (asks_of t ++ []) us fit) in
         let say = tells p told us own in
-        alone_says name (has_payload contract M C (expanded_payload part_fields enums p)) (filled t us) say.0 v json say.1
+        one_means c on v name (has_payload contract M C (expanded_payload part_fields enums p)) (filled t us) true say.0 say.1 json
 
     named_fits : (name : Text) (p : Payload) → Told p → (us : List Data) → Fit A (asks_of (named_template contract name p)) us
         → IsSchema (filled (named_template contract name p) us)

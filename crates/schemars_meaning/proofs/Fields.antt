@@ -1,10 +1,11 @@
 -- A field's schema is found at its name.
-use Rattle.std.proofs.Common.{◌≡◌, ℕ, List, [], ◌∷◌, Option, Some, None, Bool, true, false, refl, sym, ◌∙◌, true≢false}
-use Rattle.schemars_meaning.proofs.Words.{bytes_eq, ◌&&◌, ◌||◌, not, is_some, if◌then◌else◌, bytes_eq-Decides, Data, Members, put, get_member, get_member-put, get_member-put_other, Text, IsSchema, put_all, have_all, AreNotes, Field, is_required, field_named, has_required, IsNoName, AreDistinct, AreNoted, annotated, required_names}
+use Rattle.std.proofs.Common.{◌≡◌, ℕ, List, [], ◌∷◌, Option, Some, None, Bool, true, false, refl, sym, ◌∙◌, true≢false, map}
+use Rattle.schemars_meaning.proofs.Words.{bytes_eq, ◌&&◌, ◌||◌, not, is_some, if◌then◌else◌, bytes_eq-Decides, Data, Members, put, get_member, get_member-put, get_member-put_other, Text, IsSchema, put_all, have_all, AreNotes, Field, is_required, field_named, IsNoName, AreDistinct, AreNoted, annotated, required_names}
 use Rattle.schemars_types.specs.declared.contract.Contract.{Contract}
 use Rattle.schemars_meaning.proofs.Spread.{field_keywords, AreWritten}
 use Rattle.schemars_meaning.proofs.Notes.{annotated-schema}
 use Rattle.schemars_meaning.proofs.Named.{AreEntries}
+use Rattle.schemars_types.specs.Meaning.{has_each, field_member}
 
 module _ (W : ℕ → Data → Type 0) where
   abbrev pub Finds : Option Field → Option Data → Option Data → Type 0
@@ -49,13 +50,13 @@ module _ (W : ℕ → Data → Type 0) where
   entries schemas (x ∷ xs) [] h = tt
   entries schemas (x ∷ xs) (t ∷ ts) h = (annotated-schema x.notes t (schemas x.ty t h.0), entries schemas xs ts h.1)
 
-pub required_same : (contract : Contract) (xs : List Field) (ms : Members)
-    → have_all (required_names contract xs) ms ≡ has_required contract xs ms
-required_same contract [] ms = refl
-required_same contract (x ∷ xs) ms = go (is_required contract x.required) (required_same contract xs ms)
+pub required_same : (contract : Contract) (M : ℕ → Data → Bool) (xs : List Field) (ms : Members)
+    → have_all (required_names contract xs) ms ≡ has_each (map (field_member contract M) xs) ms
+required_same contract M [] ms = refl
+required_same contract M (x ∷ xs) ms = go (is_required contract x.required) (required_same contract M xs ms)
   where
-    go : (b : Bool) → have_all (required_names contract xs) ms ≡ has_required contract xs ms
+    go : (b : Bool) → have_all (required_names contract xs) ms ≡ has_each (map (field_member contract M) xs) ms
         → have_all (if b then x.name ∷ required_names contract xs else required_names contract xs) ms
-        ≡ (not b || is_some (get_member x.name ms)) && has_required contract xs ms
+        ≡ (not b || is_some (get_member x.name ms)) && has_each (map (field_member contract M) xs) ms
     go true later = rw later
     go false later = later

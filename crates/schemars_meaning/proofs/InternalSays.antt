@@ -1,12 +1,12 @@
 -- What the document of an enum says that is tagged inside its maps, whose structs may have enums among their members.
 use Rattle.std.proofs.Common.{◌≡◌, ℕ, ◌<◌, List, [], ◌∷◌, map, Option, Some, None, Bool, true, false, refl, sym, ap, ◌∙◌, subst, true≢false, Ordering, Less, Equal, Greater, nat_cmp, is_eq}
-use Rattle.schemars_meaning.proofs.Words.{bytes_eq, if◌then◌else◌, is_some, ◌&&◌, ◌||◌, option_and_then, codes, list_any, match_ordering, slice_cmp, and_parts, bytes_eq-Decides, Data, null, object, Members, no_members, member, depth, get_member, as_str, Text, IsJson, IsSchema, AreNotes, without, verdict, Context, judge, unit_variant, internally_tagged_variant, Field, Fields, Flattened, Payload, Variant, no_payload, newtype_payload, tuple_payload, struct_payload, holds, every_member, member_fits, tagged_fits, has_required, none, exactly_one, VariantMatch, every_part, excludes_key, matches_of, has_tagged, AreDistinctVariants, AreDistinct, AreNoted, type_alone, Ask, part, asks_of, asks_in, filled, filled_in, templates_of, struct_template, content_template, internal_item, internal_template, expanded_variant, effective, flattened_enums, enum_at}
+use Rattle.schemars_meaning.proofs.Words.{bytes_eq, if◌then◌else◌, is_some, ◌&&◌, ◌||◌, option_and_then, codes, list_any, match_ordering, slice_cmp, and_parts, bytes_eq-Decides, Data, null, object, Members, no_members, member, depth, get_member, as_str, Text, IsJson, IsSchema, AreNotes, without, verdict, Context, judge, unit_variant, internally_tagged_variant, Field, Fields, Flattened, Payload, Variant, no_payload, newtype_payload, tuple_payload, struct_payload, holds, every_member, none, exactly_one, VariantMatch, every_part, excludes_key, matches_of, has_tagged, AreDistinctVariants, AreDistinct, AreNoted, type_alone, Ask, part, asks_of, asks_in, filled, filled_in, templates_of, struct_template, content_template, internal_item, internal_template, expanded_variant, effective, flattened_enums, enum_at, option_map_or, not}
 use Rattle.std.proofs.lemmas.Map.Text.{is_eq-slice_cmp}
 use Rattle.std.proofs.lemmas.Option.{same_Some}
 use Rattle.serde_json.specs.Find.{as_object}
 use Rattle.schemars_schema.specs.Acceptance.{read_data}
 use Rattle.schemars_types.specs.declared.contract.Contract.{Contract}
-use Rattle.schemars_types.specs.Meaning.{is_text, has_content, has_internal}
+use Rattle.schemars_types.specs.Meaning.{is_text, has_content, has_internal, Member, member_named, has_each, are_members, tag_member, has_members_with, field_member}
 use Rattle.schemars_documents.specs.PlainTable.{IsNoVariant}
 use Rattle.schemars_documents.specs.Template.{tagged}
 use Rattle.schemars_meaning.proofs.MapDocument.{map_document}
@@ -58,31 +58,29 @@ named_under tag name p says ms there every = go (get_member tag ms) refl there
     go None at there = absurd (true≢false (sym there))
     go (Some w) at there = text_is name (as_str w) (says w (found p ms tag w every at))
 
-module _ (contract : Contract) (M : ℕ → Data → Bool) (C : ℕ → Data → List VariantMatch) (tag : Text) where
-  member_told : (ps : List (List VariantMatch)) (xs : List Field) (closed : Bool) (name : Text) (ms : Members)
-      → is_some (get_member tag ms) && (every_part ps && (every_member (λ k w. tagged_fits M xs (excludes_key closed ps k) tag name k w) ms
-      && has_required contract xs ms)) ≡ true
-      → told_in tag ms ≡ Some name
-  member_told ps xs closed name ms h =
-      let parts = and_parts (is_some (get_member tag ms)) (every_part ps && (every_member
-      (λ k w. tagged_fits M xs (excludes_key closed ps k) tag name k w) ms && has_required contract xs ms)) h in
-      let rest = and_parts (every_part ps) (every_member (λ k w. tagged_fits M xs (excludes_key closed ps k) tag name k w) ms
-      && has_required contract xs ms) parts.1 in
-      let every = and_parts (every_member (λ k w. tagged_fits M xs (excludes_key closed ps k) tag name k w) ms)
-      (has_required contract xs ms) rest.1 in
-      named_under tag name (λ k w. tagged_fits M xs (excludes_key closed ps k) tag name k w)
-      (λ w fits. same (bytes_eq tag tag) w ((bytes_eq-Decides tag tag).1 refl) fits) ms parts.0 every.0
+module _ (tag : Text) where
+  member_told : (list : List Member) (others : Text → Bool) (name : Text) (ms : Members)
+      → are_members (tag_member tag name ∷ list) others ms ≡ true → told_in tag ms ≡ Some name
+  member_told list others name ms h =
+      let each = λ (k : Text) (w : Data). option_map_or (λ (m : Member). m.has w) (member_named (tag_member tag name ∷ list) k) (others k) in
+      let parts = and_parts (every_member each ms) (has_each (tag_member tag name ∷ list) ms) h in
+      let there = and_parts (is_some (get_member tag ms)) (has_each list ms) parts.1 in
+      named_under tag name each (λ w fits. same (bytes_eq tag tag) w ((bytes_eq-Decides tag tag).1 refl) fits) ms there.0 parts.0
     where
-      same : (b : Bool) (w : Data) → b ≡ true → (if b then is_text name w else member_fits M xs (excludes_key closed ps tag) tag w) ≡ true
+      same : (b : Bool) (w : Data) → b ≡ true
+          → option_map_or (λ (m : Member). m.has w) (if b then Some (tag_member tag name) else member_named list tag) (others tag) ≡ true
           → is_text name w ≡ true
       same true w e h = h
       same false w e h = absurd (true≢false (sym e))
 
-  pub tagged_told : (ps : List (List VariantMatch)) (xs : List Field) (closed : Bool) (name : Text) (v : Data)
-      → has_tagged contract M ps tag xs closed name v ≡ true → told tag v ≡ Some name
+  -- a map with the tag among its members tells its name
+  pub tagged_told : (ps : List (List VariantMatch)) (list : List Member) (closed : Bool) (name : Text) (v : Data)
+      → has_members_with ps (tag_member tag name ∷ list) closed v ≡ true → told tag v ≡ Some name
   unfolding told
-  tagged_told ps xs closed name (object ms) h = member_told ps xs closed name ms h
-  tagged_told ps xs closed name _ h = absurd (true≢false (sym h))
+  tagged_told ps list closed name (object ms) h =
+      let others = λ (k : Text). not (excludes_key closed ps k) in
+      member_told list others name ms (and_parts (every_part ps) (are_members (tag_member tag name ∷ list) others ms) h).1
+  tagged_told ps list closed name _ h = absurd (true≢false (sym h))
 
   -- what is tagged tells its name
   content_told : (p : Data → Bool) (name : Text) (v : Data) → has_content p tag name v ≡ true → told tag v ≡ Some name
@@ -96,14 +94,16 @@ module _ (contract : Contract) (M : ℕ → Data → Bool) (C : ℕ → Data →
   content_told p name null h = absurd (true≢false (sym h))
   content_told p name _ h = absurd (true≢false (sym h))
 
-  abbrev pub inside : Bool → Text → Payload → Data → Bool
-  inside closed name p v = has_internal contract M C tag closed v (record { name = name; payload = p; notes = no_members })
+  module _ (contract : Contract) (M : ℕ → Data → Bool) (C : ℕ → Data → List VariantMatch) where
+    abbrev pub inside : Bool → Text → Payload → Data → Bool
+    inside closed name p v = has_internal contract M C tag closed v (record { name = name; payload = p; notes = no_members })
 
-  payload_told : (closed : Bool) (name : Text) (p : Payload) (v : Data) → inside closed name p v ≡ true → told tag v ≡ Some name
-  payload_told closed name no_payload v h = tagged_told [] [] closed name v h
-  payload_told closed name (newtype_payload n) v h = content_told (M n) name v h
-  payload_told closed name (tuple_payload ns) v h = absurd (true≢false (sym h))
-  payload_told closed name (struct_payload y) v h = tagged_told (matches_of C y.flatten v) y.list y.closed name v h
+    payload_told : (closed : Bool) (name : Text) (p : Payload) (v : Data) → inside closed name p v ≡ true → told tag v ≡ Some name
+    payload_told closed name no_payload v h = tagged_told [] [] closed name v h
+    payload_told closed name (newtype_payload n) v h = content_told (M n) name v h
+    payload_told closed name (tuple_payload ns) v h = absurd (true≢false (sym h))
+    payload_told closed name (struct_payload y) v h =
+        tagged_told (matches_of C y.flatten v) (map (field_member contract M) y.list) y.closed name v h
 
 -- a test of variants that a value passes under its own name alone
 module _ (P : Variant → Bool) (claimed : Option Text) (is_key_of_match : (x : Variant) → P x ≡ true → claimed ≡ Some x.name) where
@@ -197,4 +197,4 @@ module _ (c : Context) (on : c.dialect.reads_unevaluated ≡ true) (contract : C
       one_says c on v (filled_in ts us) (map (has_internal contract M C tag closed v) (map each (x ∷ xs)))
       (items_fit tag closed (x ∷ xs) h us (without_end A (asks_in ts) us fit))
       ∙ ap verdict (one_if_any (has_internal contract M C tag closed v) (told tag v)
-      (λ y e. payload_told contract M C tag closed y.name y.payload v e) (map each (x ∷ xs)) apart)
+      (λ y e. payload_told tag contract M C closed y.name y.payload v e) (map each (x ∷ xs)) apart)

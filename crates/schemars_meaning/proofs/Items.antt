@@ -1,15 +1,16 @@
 -- The schemas of an enum's variants where the enum is flattened: maps that let further members in.
 use Rattle.std.proofs.Common.{◌≡◌, ℕ, ◌<◌, List, [], ◌∷◌, ◌++◌, map, Option, Some, None, Bool, true, false, refl, sym, ap, ◌∙◌, subst, true≢false}
-use Rattle.schemars_meaning.proofs.Words.{and_comm, and-true, bytes_eq-Decides, codes, bytes_eq, if◌then◌else◌, is_some, ◌&&◌, ◌||◌, not, option_map_or, Data, null, object, string, Members, no_members, member, put, depth, get_member, get_member-put, get_member-put_other, Text, IsJson, IsSchema, put_all, AreNotes, verdict, Context, judge, opened, Field, needed, every_member, member_fits, has_required, VariantMatch, has_fields, member_choice, Keyword, annotated}
+use Rattle.schemars_meaning.proofs.Words.{and_comm, and-true, bytes_eq-Decides, codes, bytes_eq, if◌then◌else◌, is_some, ◌&&◌, ◌||◌, not, option_map_or, Data, null, object, string, Members, no_members, member, put, depth, get_member, get_member-put, get_member-put_other, Text, IsJson, IsSchema, put_all, AreNotes, verdict, Context, judge, opened, Field, needed, every_member, VariantMatch, has_fields, member_choice, Keyword, annotated}
 use Rattle.schemars_types.specs.declared.contract.Contract.TheVariants.{Deserialize}
-use Rattle.schemars_types.specs.Meaning.{has_member}
+use Rattle.schemars_types.specs.Meaning.{has_member, must_have}
 use Rattle.schemars_meaning.proofs.MapDocument.{map_document}
 use Rattle.schemars_meaning.proofs.MapKeywords.{noted, noted_by-object, keywords, closed_there}
 use Rattle.schemars_meaning.proofs.Named.{AreEntries}
 use Rattle.schemars_meaning.proofs.MapForm.{HasKeywords}
 use Rattle.schemars_meaning.proofs.Offers.{AllSay}
 use Rattle.schemars_meaning.proofs.StructForm.{Part, Parts, struct_keywords, PartsSay, OneSays, ChoicesSay}
-use Rattle.schemars_meaning.proofs.StructMeans.{value_says, open_judges, names_judged}
+use Rattle.schemars_meaning.proofs.StructMeans.{value_means, open_judges, names_judged}
+use Rattle.schemars_meaning.proofs.SmallMaps.{found_one}
 use Rattle.schemars_meaning.proofs.Uniting.{IsForm, form-keywords, pair, rest, join}
 use Rattle.schemars_meaning.proofs.Opened.{no_parts, map_form, opened_form, opened_part, opened_one, opened_parts, Part_form}
 use Rattle.schemars_meaning.proofs.Fields.{field_found}
@@ -86,9 +87,8 @@ module _ (c : Context) (on : c.dialect.reads_unevaluated ≡ true) where
       let has = form-keywords (struct_keywords i.es i.ns no_parts false) i.members i.form in (
         subst IsSchema (sym i.is) tt,
         ap (λ s. (judge c s).fits v) i.is ∙ i.says i.members has,
-        λ k fits. ap (λ s. (judge c s).judges v k) i.is ∙ (open_judges c on Deserialize (λ j s. ⊥) (λ j w. true) (λ j s h. absurd h)
-            i.es i.ns i.members has i.are v k ∙
-            (names_judged c on Deserialize (λ j s. ⊥) (λ j w. true) (λ j s h. absurd h) i.es k ∙ i.keys k)),
+        λ k fits. ap (λ s. (judge c s).judges v k) i.is ∙ (open_judges c on i.es i.ns i.members has i.are v k ∙
+            (names_judged c on i.es k ∙ i.keys k)),
       )
 
   pub items_say : (ts : List Data) (os : List VariantMatch) (v : Data) → AllItems false ts os v → AllSay c ts os v
@@ -155,58 +155,26 @@ module _ (c : Context) (on : c.dialect.reads_unevaluated ≡ true) where
 
   -- ---- a map with one member that has to be there
 
-  module _ (name : Text) (p : Data → Bool) where
-    one_field : (k : Text) (w : Data) → member_fits (λ j. p) (needed name 0 ∷ []) false k w ≡ not (bytes_eq name k) || p w
-    one_field k w = go (bytes_eq name k)
-      where
-        go : (b : Bool) → option_map_or (λ (x : Field). p w) (if b then Some (needed name 0) else None) true ≡ not b || p w
-        go true = refl
-        go false = refl
-
-    each_field : (ms : Members) → every_member (member_fits (λ j. p) (needed name 0 ∷ []) false) ms
-        ≡ every_member (λ l w. not (bytes_eq name l) || p w) ms
-    each_field no_members = refl
-    each_field (member k w ms) = λ i. one_field k w i && each_field ms i
-
-    has_field : (ms : Members) → has_required Deserialize (needed name 0 ∷ []) ms ≡ is_some (get_member name ms)
-    has_field ms = and-true (is_some (get_member name ms))
-
-    member_same : (v : Data) → has_fields Deserialize (λ j. p) [] (needed name 0 ∷ []) false v ≡ has_member name p v
-    member_same (object ms) =
-        and_comm (every_member (member_fits (λ j. p) (needed name 0 ∷ []) false) ms) (has_required Deserialize (needed name 0 ∷ []) ms)
-        ∙ (λ i. has_field ms i && each_field ms i)
-    member_same null = refl
-    member_same _ = refl
-
-    pub member_item : (notes : Members) (closed : Bool) (s : Data) → AreNotes notes → IsSchema s → (v : Data) → IsJson v
-        → ((w : Data) → IsJson w → depth w < depth v → (judge c s).fits w ≡ verdict (p w))
-        → IsItem closed (annotated notes (map_document ((name, s) ∷ []) (name ∷ []) closed)) (member_choice name p v) v
-    member_item notes closed s plain schema v json agree =
-        let es : List Keyword = (name, s) ∷ [] in
-        let W : ℕ → Data → Type 0 = λ j t. t ≡ s in
-        record {
-          es = es;
-          ns = name ∷ [];
-          members = noted (notes ∷ []) (keywords es (name ∷ []) closed);
-          is = noted_by-object (notes ∷ []) (keywords es (name ∷ []) closed);
-          form = map_form (notes ∷ []) es (name ∷ []) closed (plain, tt);
-          are = (schema, tt);
-          says = λ ms has. value_says c on Deserialize W (λ j. p) (λ j t e. subst IsSchema (sym e) schema) (needed name 0 ∷ []) es
-              (name ∷ [])
-              no_parts false ms has (schema, tt)
-              (λ k. field_found W k (needed name 0 ∷ []) (s ∷ []) no_members (tt, tt) (tt, tt) (refl, refl))
-              (λ xs. sym (and-one (is_some (get_member name xs)))) v json (tt, tt)
-              (λ j t w e js less. ap (λ x. (judge c x).fits w) e ∙ agree w js less)
-              ∙ ap verdict (member_same v);
-          keys = λ k. at k (bytes_eq name k) refl;
-        }
-      where
-        and-one : (b : Bool) → b && true ≡ b && true
-        and-one b = refl
-
-        at : (k : Text) (b : Bool) → bytes_eq name k ≡ b → is_some (get_member k (put name s no_members)) ≡ b
-        at k true is =
-            ap (λ l. is_some (get_member l (put name s no_members))) (sym ((bytes_eq-Decides name k).0 is))
-            ∙ ap is_some (get_member-put name s no_members)
-        at k false is = ap is_some (get_member-put_other k name s no_members
-            (λ same. true≢false (sym ((bytes_eq-Decides name k).1 (sym same)) ∙ is)))
+  pub member_item : (name : Text) (p : Data → Bool) (notes : Members) (closed : Bool) (s : Data) → AreNotes notes → IsSchema s → (v : Data)
+      → IsJson v → ((w : Data) → IsJson w → depth w < depth v → (judge c s).fits w ≡ verdict (p w))
+      → IsItem closed (annotated notes (map_document ((name, s) ∷ []) (name ∷ []) closed)) (member_choice name p v) v
+  member_item name p notes closed s plain schema v json agree =
+      let es : List Keyword = (name, s) ∷ [] in
+      record {
+        es = es;
+        ns = name ∷ [];
+        members = noted (notes ∷ []) (keywords es (name ∷ []) closed);
+        is = noted_by-object (notes ∷ []) (keywords es (name ∷ []) closed);
+        form = map_form (notes ∷ []) es (name ∷ []) closed (plain, tt);
+        are = (schema, tt);
+        says = λ ms has. value_means c on (must_have name p ∷ []) es (name ∷ []) no_parts false ms has (schema, tt) v
+            (found_one c on v name p s agree) (λ xs. refl) json (tt, tt);
+        keys = λ k. at k (bytes_eq name k) refl;
+      }
+    where
+      at : (k : Text) (b : Bool) → bytes_eq name k ≡ b → is_some (get_member k (put name s no_members)) ≡ b
+      at k true is =
+          ap (λ l. is_some (get_member l (put name s no_members))) (sym ((bytes_eq-Decides name k).0 is))
+          ∙ ap is_some (get_member-put name s no_members)
+      at k false is = ap is_some (get_member-put_other k name s no_members
+          (λ same. true≢false (sym ((bytes_eq-Decides name k).1 (sym same)) ∙ is)))

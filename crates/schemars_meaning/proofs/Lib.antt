@@ -17,6 +17,7 @@ pub mod MapForm
 pub mod Offers
 pub mod StructForm
 pub mod StructMeans
+pub mod SmallMaps
 pub mod Joining
 pub mod Uniting
 pub mod Opened

@@ -1,6 +1,6 @@
 -- The documents of structs with flattened enums, put into one another, and what they mean.
-use Rattle.std.proofs.Common.{◌≡◌, ℕ, ◌<◌, List, [], ◌∷◌, ◌++◌, Option, Some, None, Bool, true, false, refl, sym, ap, ◌∙◌, subst}
-use Rattle.schemars_meaning.proofs.Words.{codes, bytes_eq, if◌then◌else◌, ◌&&◌, ◌||◌, not, option_and_then, Data, null, array, object, Items, Members, no_members, member, depth, get_member, as_str, items_of, Text, IsJson, IsSchema, replaced, on_list, AreNotes, verdict, Context, judge, get_member-later, get_member-here, bytes_eq-Decides, flattened, united_all, appended, opened, flattened_part, first_as_objects, list_changed_at, units_as_objects, Field, every_member, member_fits, has_required, VariantMatch, every_part, is_key_of_match, excludes_key, has_fields, AreDistinct, AreNoted, Keyword, annotated, required_names}
+use Rattle.std.proofs.Common.{◌≡◌, ℕ, ◌<◌, List, [], ◌∷◌, ◌++◌, Option, Some, None, Bool, true, false, refl, sym, ap, ◌∙◌, subst, map}
+use Rattle.schemars_meaning.proofs.Words.{codes, bytes_eq, if◌then◌else◌, ◌&&◌, ◌||◌, not, option_and_then, Data, null, array, object, Items, Members, no_members, member, depth, get_member, as_str, items_of, Text, IsJson, IsSchema, replaced, on_list, AreNotes, verdict, Context, judge, get_member-later, get_member-here, bytes_eq-Decides, flattened, united_all, appended, opened, flattened_part, first_as_objects, list_changed_at, units_as_objects, Field, every_member, VariantMatch, every_part, is_key_of_match, excludes_key, has_fields, AreDistinct, AreNoted, Keyword, annotated, required_names, option_map_or}
 use Rattle.schemars_schema.specs.Edits.{is_text}
 use Rattle.schemars_flatten.specs.Opening.{has_type}
 use Rattle.schemars_flatten.specs.Parts.{first_units, behind_first}
@@ -8,13 +8,14 @@ use Rattle.schemars_types.specs.declared.contract.Contract.{Contract}
 use Rattle.schemars_meaning.proofs.MapKeywords.{noted, noted_by-object, noted-beside, sorted-noted, closed_there}
 use Rattle.schemars_meaning.proofs.Flattening.{no_texts}
 use Rattle.schemars_meaning.proofs.StructForm.{Part, Parts, choices_in, any_keywords, struct_keywords, one_there, every_part-append, claims-append}
-use Rattle.schemars_meaning.proofs.StructMeans.{value_says}
+use Rattle.schemars_meaning.proofs.StructMeans.{fields_mean}
 use Rattle.schemars_meaning.proofs.Uniting.{IsForm, form-keywords, part_keywords, join, join_every, join_claims, united_form}
 use Rattle.schemars_meaning.proofs.Opened.{no_parts, opened_form, opened_parts, Part_form}
 use Rattle.schemars_meaning.proofs.Items.{ChoicesAre, choices_say, choices_join}
 use Rattle.schemars_meaning.proofs.Spread.{field_keywords, AreWritten}
 use Rattle.schemars_meaning.proofs.Flattened.{AreWritten-append, field_keywords-append, required_names-append}
 use Rattle.schemars_meaning.proofs.Fields.{field_found, entries, required_same}
+use Rattle.schemars_types.specs.Meaning.{Member, member_named, has_each, has_members_with, field_member}
 
 -- ---- meanings that differ in the order of enums alone
 
@@ -23,14 +24,15 @@ pub every_alike : (p q : Text → Data → Bool) → ((k : Text) (w : Data) → 
 every_alike p q h no_members = refl
 every_alike p q h (member k w ms) = λ i. h k w i && every_alike p q h ms i
 
-fields_alike : (contract : Contract) (M : ℕ → Data → Bool) (ps qs : List (List VariantMatch)) (xs : List Field) (closed : Bool)
+pub parts_alike : (ps qs : List (List VariantMatch)) (xs : List Member) (closed : Bool)
     → every_part ps ≡ every_part qs → ((k : Text) → is_key_of_match ps k ≡ is_key_of_match qs k) → (v : Data)
-    → has_fields contract M ps xs closed v ≡ has_fields contract M qs xs closed v
-fields_alike contract M ps qs xs closed every claim (object ms) =
-    λ i. every i && (every_alike (λ k w. member_fits M xs (excludes_key closed ps k) k w) (λ k w. member_fits M xs (excludes_key closed qs k) k w)
-    (λ k w. ap (λ b. member_fits M xs (not b && closed) k w) (claim k)) ms i && has_required contract xs ms)
-fields_alike contract M ps qs xs closed every claim null = refl
-fields_alike contract M ps qs xs closed every claim _ = refl
+    → has_members_with ps xs closed v ≡ has_members_with qs xs closed v
+parts_alike ps qs xs closed every claim (object ms) =
+    λ i. every i && (every_alike (λ k w. option_map_or (λ m. m.has w) (member_named xs k) (not (excludes_key closed ps k)))
+    (λ k w. option_map_or (λ m. m.has w) (member_named xs k) (not (excludes_key closed qs k)))
+    (λ k w. ap (λ b. option_map_or (λ m. m.has w) (member_named xs k) (not (not b && closed))) (claim k)) ms i && has_each xs ms)
+parts_alike ps qs xs closed every claim null = refl
+parts_alike ps qs xs closed every claim _ = refl
 
 pub both_empty : {A : Type 0} (xs ys : List A) → xs ++ ys ≡ [] → (xs ≡ []) × (ys ≡ [])
 both_empty [] ys e = (refl, e)
@@ -115,11 +117,11 @@ module _ (c : Context) (on : c.dialect.reads_unevaluated ≡ true) (contract : C
         → (judge c s).fits v ≡ verdict (has_fields contract M os xs closed v)
     means xs os closed s apart notes a json agree =
         ap (λ t. (judge c t).fits v) a.is
-        ∙ (value_says c on contract W M schemas xs (field_keywords xs a.written) (required_names contract xs) a.parts closed a.members
+        ∙ (fields_mean c on contract W M schemas v agree xs (field_keywords xs a.written) (required_names contract xs) a.parts closed a.members
         (form-keywords _ a.members a.form) (entries W schemas xs a.written a.are_written)
-        (λ k. field_found W k xs a.written no_members apart notes a.are_written) (required_same contract xs) v json
-        (choices_say c on a.parts v a.choices) agree
-        ∙ ap verdict (fields_alike contract M (choices_in a.parts) os xs closed a.every a.claimed v))
+        (λ k. field_found W k xs a.written no_members apart notes a.are_written) (required_same contract M xs) json
+        (choices_say c on a.parts v a.choices)
+        ∙ ap verdict (parts_alike (choices_in a.parts) os (map (field_member contract M) xs) closed a.every a.claimed v))
 
 -- ---- what becomes of documents where they are parts
 

@@ -5,7 +5,7 @@ use Rattle.schemars_types.specs.declared.contract.Contract.{Contract}
 use Rattle.schemars_meaning.proofs.MapKeywords.{keywords}
 use Rattle.schemars_meaning.proofs.Spread.{field_keywords, struct_document, AreWritten}
 use Rattle.schemars_meaning.proofs.Fields.{field_found, entries, required_same}
-use Rattle.schemars_meaning.proofs.StructMeans.{value_says}
+use Rattle.schemars_meaning.proofs.StructMeans.{fields_mean}
 use Rattle.schemars_meaning.proofs.Uniting.{form-keywords}
 use Rattle.schemars_meaning.proofs.Opened.{no_parts, map_form}
 
@@ -21,6 +21,6 @@ module _ (patterns : Patterns) (f : Text → Judge) (contract : Contract) (W : �
   struct_says xs ts closed apart noted written v json agree =
       let es = field_keywords xs ts in
       let ns = required_names contract xs in
-      value_says c refl contract W M schemas xs es ns no_parts closed (keywords es ns closed)
+      fields_mean c refl contract W M schemas v agree xs es ns no_parts closed (keywords es ns closed)
       (form-keywords _ (keywords es ns closed) (map_form [] es ns closed tt)) (entries W schemas xs ts written)
-      (λ k. field_found W k xs ts no_members apart noted written) (required_same contract xs) v json (tt, tt) agree
+      (λ k. field_found W k xs ts no_members apart noted written) (required_same contract M xs) json (tt, tt)

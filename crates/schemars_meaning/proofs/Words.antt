@@ -32,7 +32,7 @@ pub use Rattle.schemars_shapes.specs.Units.{is_bare_unit}
 pub use Rattle.schemars_text.proofs.Members.{differ, flipped, get_member-here, get_member-later}
 pub use Rattle.schemars_types.specs.Effective.{effective, enum_at, enums_within, expanded_payload, expanded_shape_in, expanded_variant, flattened_enums, flattened_fields, flattened_in, part_enums, shape_fields}
 pub use Rattle.schemars_types.specs.KeyOptions.{KeyOptions, key_options, keys}
-pub use Rattle.schemars_types.specs.Meaning.{VariantMatch, belongs_within, choices_within, claimed_by, every_member, every_part, exactly_one, excludes_key, field_named, has_fields, has_payload, has_required, has_shape, has_tagged, holds, is_key_of_match, is_required, matches_of, member_choice, member_fits, none, tagged_fits}
+pub use Rattle.schemars_types.specs.Meaning.{VariantMatch, belongs_within, choices_within, claimed_by, every_member, every_part, exactly_one, excludes_key, field_named, has_fields, has_payload, has_shape, has_tagged, holds, is_key_of_match, is_required, matches_of, member_choice, none}
 pub use Rattle.schemars_types.specs.Rows.{Row, entry_at}
 pub use Rattle.serde_json.proofs.Views.{get_member-put, get_member-put_other}
 pub use Rattle.serde_json.specs.Data.{Data, Items, Members, array, boolean, depth, item, member, no_items, no_members, null, number, object, put, string}

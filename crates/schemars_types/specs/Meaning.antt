@@ -11,7 +11,7 @@ use Rattle.schemars_schema.specs.SchemaData.{is_schema}
 use Rattle.schemars_schema.specs.Edits.{without}
 use Rattle.schemars_schema.specs.Acceptance.{Patterns, is_null, whole_number, code_points}
 use Rattle.schemars_schema.specs.Literal.{has_literal}
-use Rattle.schemars_shapes.specs.Shape.{Required, Field, Flattened, Tagging, Shape, null, bool, int, non_zero, number, text, char, formatted, any, bytes, schema_itself, option, seq, set, array as array_shape, up_to, tuple, struct, newtype, result, bound, range, either, map_from, enum, by_name, by_nothing, by_tag, by_tag_and_content, literal, needed, Payload, Variant, no_payload, newtype_payload, tuple_payload, struct_payload}
+use Rattle.schemars_shapes.specs.Shape.{Required, Field, Flattened, Tagging, Shape, null, bool, int, non_zero, number, text, char, formatted, any, bytes, schema_itself, option, seq, set, array as array_shape, up_to, tuple, struct, newtype, result, bound, range, either, map_from, enum, by_name, by_nothing, by_tag, by_tag_and_content, literal, Payload, Variant, no_payload, newtype_payload, tuple_payload, struct_payload}
 use Rattle.schemars_types.specs.KeyOptions.{KeyOptions, is_key_allowed, key_options}
 use Rattle.schemars_types.specs.Rows.{Row, entry_at}
 use Rattle.schemars_types.specs.Effective.{expanded_shape_in}
@@ -76,13 +76,6 @@ is_required Serialize required = required.serialize
 abbrev pub field_named : List Field → Text → Option Field
 field_named list k = find (λ f. bytes_eq f.name k) list
 
--- the member is of its field's type; a member that is not a field's is free if the struct is open
-abbrev pub member_fits : (ℕ → Data → Bool) → List Field → Bool → Text → Data → Bool
-member_fits part list closed k v = option_map_or (λ f. part f.ty v) (field_named list k) (not closed)
-
-abbrev pub has_required : Contract → List Field → Members → Bool
-has_required contract list ms = list_all (λ f. not (is_required contract f.required) || is_some (get_member f.name ms)) list
-
 abbrev pub none : List Bool → Bool
 none [] = true
 none (b ∷ bs) = not b && none bs
@@ -119,123 +112,150 @@ excludes_key closed parts k = not (is_key_of_match parts k) && closed
 abbrev pub matches_of : (ℕ → Data → List VariantMatch) → List Flattened → Data → List (List VariantMatch)
 matches_of choices flatten v = map (λ p. choices p.ty v) flatten
 
--- ---- maps with fields
+-- ---- maps with members
 
--- a map with these fields, and with these enums among its members
-abbrev pub has_fields : Contract → (ℕ → Data → Bool) → List (List VariantMatch) → List Field → Bool → Data → Bool
-has_fields contract part parts list closed v = holds (as_object v) (λ ms. every_part parts
-    && (every_member (λ k w. member_fits part list (excludes_key closed parts k) k w) ms && has_required contract list ms))
+-- a member of a map: its name, whether it has to be there, and which values it may have
+pub record Member : Type 0 where
+  pub name : Text
+  pub required : Bool
+  pub has : Data → Bool
+
+abbrev pub member_named : List Member → Text → Option Member
+member_named list k = find (λ m. bytes_eq m.name k) list
+
+abbrev pub has_each : List Member → Members → Bool
+has_each list ms = list_all (λ m. not m.required || is_some (get_member m.name ms)) list
+
+-- a listed member has one of its values, `others` says which other keys are allowed, and each required member is there
+abbrev pub are_members : List Member → (Text → Bool) → Members → Bool
+are_members list others ms =
+    every_member (λ k w. option_map_or (λ m. m.has w) (member_named list k) (others k)) ms && has_each list ms
+
+-- a map with these members
+abbrev pub has_members : List Member → (Text → Bool) → Data → Bool
+has_members list others v = holds (as_object v) (are_members list others)
+
+-- a member that has to be there
+abbrev pub must_have : Text → (Data → Bool) → Member
+must_have name p = record { name = name; required = true; has = p }
+
+-- a map with this member, and with other keys or none
+abbrev pub has_member : Text → (Data → Bool) → Bool → Data → Bool
+has_member name p closed = has_members (must_have name p ∷ []) (λ k. not closed)
+
+-- a map with these members, and with these enums among its members
+abbrev pub has_members_with : List (List VariantMatch) → List Member → Bool → Data → Bool
+has_members_with parts list closed v =
+    holds (as_object v) (λ ms. every_part parts && are_members list (λ k. not (excludes_key closed parts k)) ms)
 
 abbrev pub is_text : Text → Data → Bool
 is_text t v = holds (as_str v) (bytes_eq t)
 
--- what a variant has beside its name; null where it has nothing
-abbrev pub has_payload : Contract → (ℕ → Data → Bool) → (ℕ → Data → List VariantMatch) → Payload → Data → Bool
-has_payload contract part choices no_payload v = is_null v
-has_payload contract part choices (newtype_payload n) v = part n v
-has_payload contract part choices (tuple_payload ns) v = holds (as_array v) (each_of part ns)
-has_payload contract part choices (struct_payload x) v = has_fields contract part (matches_of choices x.flatten v) x.list x.closed v
+-- the tag, whose value is this name
+abbrev pub tag_member : Text → Text → Member
+tag_member tag name = must_have tag (is_text name)
 
--- a map with this key alone, whose value passes
-abbrev pub is_map_of : Text → (Data → Bool) → Data → Bool
-is_map_of k p v = holds (as_object v) (λ ms. is_some (get_member k ms) && every_member (λ l w. bytes_eq k l && p w) ms)
-
--- a unit is its name, and another variant a map with its name as key
-abbrev pub has_external : Contract → (ℕ → Data → Bool) → (ℕ → Data → List VariantMatch) → Data → Variant → Bool
-has_external contract part choices v x = elim x.payload [
-  | no_payload ↦ is_text x.name v
-  | newtype_payload n ↦ is_map_of x.name (part n) v
-  | tuple_payload ns ↦ is_map_of x.name (has_payload contract part choices (tuple_payload ns)) v
-  | struct_payload y ↦ is_map_of x.name (has_payload contract part choices (struct_payload y)) v
-]
-
--- the tag has this name; each other member is a field's, or is free if the enum is open
-abbrev pub tagged_fits : (ℕ → Data → Bool) → List Field → Bool → Text → Text → Text → Data → Bool
-tagged_fits part list closed tag name k v = if bytes_eq tag k then is_text name v else member_fits part list closed k v
-
--- a map with this name under the tag, and with these fields and enums beside it
-abbrev pub has_tagged : Contract → (ℕ → Data → Bool) → List (List VariantMatch) → Text → List Field → Bool → Text → Data → Bool
-has_tagged contract part parts tag list closed name v = holds (as_object v) (λ ms. is_some (get_member tag ms) && (every_part parts
-    && (every_member (λ k w. tagged_fits part list (excludes_key closed parts k) tag name k w) ms && has_required contract list ms)))
-
--- the fields of a variant that is tagged inside its map; a unit has none
-abbrev pub tagged_fields : Payload → List Field
-tagged_fields (struct_payload x) = x.list
-tagged_fields _ = []
+-- a map with this name under the tag, and under the other key a value that passes
+abbrev pub has_beside : Text → Text → Text → (Data → Bool) → Bool → Data → Bool
+has_beside tag name content p closed = has_members (tag_member tag name ∷ must_have content p ∷ []) (λ k. not closed)
 
 -- a map with this name under the tag, whose other members pass as a map of their own
 abbrev pub has_content : (Data → Bool) → Text → Text → Data → Bool
 has_content p tag name v =
     holds (as_object v) (λ ms. holds (get_member tag ms) (is_text name) && p (object (without tag ms)))
 
-abbrev pub has_internal : Contract → (ℕ → Data → Bool) → (ℕ → Data → List VariantMatch) → Text → Bool → Data → Variant → Bool
-has_internal contract part choices tag closed v x = elim x.payload [
-  | no_payload ↦ has_tagged contract part [] tag [] closed x.name v
-  | newtype_payload n ↦ has_content (part n) tag x.name v
-  | tuple_payload ns ↦ false
-  | struct_payload y ↦ has_tagged contract part (matches_of choices y.flatten v) tag y.list y.closed x.name v
-]
+-- the fields of a variant that is tagged inside its map; a unit has none
+abbrev pub tagged_fields : Payload → List Field
+tagged_fields (struct_payload x) = x.list
+tagged_fields _ = []
 
--- under the tag is this name, and under the other key a value that passes; all else is free if the enum is open
-abbrev pub adjacent_fits : Text → Text → Text → (Data → Bool) → Bool → Text → Data → Bool
-adjacent_fits tag name content p closed k v =
-    if bytes_eq tag k then is_text name v
-    else if bytes_eq content k then p v
-    else not closed
-
--- a map with both
-abbrev pub has_beside : Text → Text → Text → (Data → Bool) → Bool → Data → Bool
-has_beside tag name content p closed v = holds (as_object v) (λ ms. is_some (get_member tag ms)
-    && (is_some (get_member content ms) && every_member (adjacent_fits tag name content p closed) ms))
-
--- a unit is its name under the tag, and another variant has its payload under the other key
-abbrev pub has_adjacent : Contract → (ℕ → Data → Bool) → (ℕ → Data → List VariantMatch) → Text → Text → Bool → Data → Variant → Bool
-has_adjacent contract part choices tag content closed v x = elim x.payload [
-  | no_payload ↦ has_tagged contract part [] tag [] closed x.name v
-  | newtype_payload n ↦ has_beside tag x.name content (part n) closed v
-  | tuple_payload ns ↦ has_beside tag x.name content (has_payload contract part choices (tuple_payload ns)) closed v
-  | struct_payload y ↦ has_beside tag x.name content (has_payload contract part choices (struct_payload y)) closed v
-]
-
--- a variant, by how its name is written; without a name it is its payload
-abbrev pub has_variant : Contract → (ℕ → Data → Bool) → (ℕ → Data → List VariantMatch) → Tagging → Data → Variant → Bool
-has_variant contract part choices by_name = has_external contract part choices
-has_variant contract part choices by_nothing = λ v x. has_payload contract part choices x.payload v
-has_variant contract part choices (by_tag tag closed) = has_internal contract part choices tag closed
-has_variant contract part choices (by_tag_and_content tag content closed) = has_adjacent contract part choices tag content closed
-
--- ---- the variants of a flattened enum
-
--- a map with this member, whose value passes
-abbrev pub has_member : Text → (Data → Bool) → Data → Bool
-has_member k p v = holds (as_object v) (λ ms. is_some (get_member k ms) && every_member (λ l w. not (bytes_eq k l) || p w) ms)
-
--- the name is there, with a value that passes
+-- a variant of a flattened enum: the name is there, with a value that passes
 abbrev pub member_choice : Text → (Data → Bool) → Data → VariantMatch
-member_choice name p v = record { fits = has_member name p v; has_key = bytes_eq name }
+member_choice name p v = record { fits = has_member name p false v; has_key = bytes_eq name }
 
-abbrev pub external_choice : Contract → (ℕ → Data → Bool) → (ℕ → Data → List VariantMatch) → Data → Variant → VariantMatch
-external_choice contract part choices v x = member_choice x.name (has_payload contract part choices x.payload) v
+-- ---- fields, and the variants of enums; `part` says which values rows have
 
-abbrev pub is_tagged_map : Contract → (ℕ → Data → Bool) → Text → Data → Variant → Bool
-is_tagged_map contract part tag v x = elim x.payload [
-  | no_payload ↦ has_tagged contract part [] tag [] false x.name v
-  | newtype_payload n ↦ false
-  | tuple_payload ns ↦ false
-  | struct_payload y ↦ has_tagged contract part [] tag y.list false x.name v
-]
+module _ (contract : Contract) (part : ℕ → Data → Bool) where
+  -- the member that a field is
+  abbrev pub field_member : Field → Member
+  field_member f = record { name = f.name; required = is_required contract f.required; has = part f.ty }
 
--- the name is under the tag, and the variant's fields are there; there may be other keys beside them
-abbrev pub internal_choice : Contract → (ℕ → Data → Bool) → Text → Data → Variant → VariantMatch
-internal_choice contract part tag v x = record {
-  fits = is_tagged_map contract part tag v x;
-  has_key = λ k. bytes_eq tag k || is_some (field_named (tagged_fields x.payload) k);
-}
+  -- a map with these fields, and with these enums among its members
+  abbrev pub has_fields : List (List VariantMatch) → List Field → Bool → Data → Bool
+  has_fields parts list closed = has_members_with parts (map field_member list) closed
 
-abbrev pub shape_choices : Contract → (ℕ → Data → Bool) → (ℕ → Data → List VariantMatch) → Shape → Data → List VariantMatch
-shape_choices contract part choices (enum by_name xs) v = map (external_choice contract part choices v) xs
-shape_choices contract part choices (enum (by_tag tag closed) xs) v = map (internal_choice contract part tag v) xs
-shape_choices contract part choices _ v = []
+  -- a map with this name under the tag, and with these fields and enums beside it
+  abbrev pub has_tagged : List (List VariantMatch) → Text → List Field → Bool → Text → Data → Bool
+  has_tagged parts tag list closed name = has_members_with parts (tag_member tag name ∷ map field_member list) closed
+
+  module _ (choices : ℕ → Data → List VariantMatch) where
+    -- what a variant has beside its name; null where it has nothing
+    abbrev pub has_payload : Payload → Data → Bool
+    has_payload no_payload v = is_null v
+    has_payload (newtype_payload n) v = part n v
+    has_payload (tuple_payload ns) v = holds (as_array v) (each_of part ns)
+    has_payload (struct_payload x) v = has_fields (matches_of choices x.flatten v) x.list x.closed v
+
+    -- a unit is its name, and another variant a map with its name as the one key
+    abbrev pub has_external : Data → Variant → Bool
+    has_external v x = elim x.payload [
+      | no_payload ↦ is_text x.name v
+      | newtype_payload n ↦ has_member x.name (part n) true v
+      | tuple_payload ns ↦ has_member x.name (has_payload (tuple_payload ns)) true v
+      | struct_payload y ↦ has_member x.name (has_payload (struct_payload y)) true v
+    ]
+
+    -- the name is under the tag, beside the members of what the variant has
+    abbrev pub has_internal : Text → Bool → Data → Variant → Bool
+    has_internal tag closed v x = elim x.payload [
+      | no_payload ↦ has_member tag (is_text x.name) closed v
+      | newtype_payload n ↦ has_content (part n) tag x.name v
+      | tuple_payload ns ↦ false
+      | struct_payload y ↦ has_tagged (matches_of choices y.flatten v) tag y.list y.closed x.name v
+    ]
+
+    -- a unit is its name under the tag, and another variant has its payload under the other key
+    abbrev pub has_adjacent : Text → Text → Bool → Data → Variant → Bool
+    has_adjacent tag content closed v x = elim x.payload [
+      | no_payload ↦ has_member tag (is_text x.name) closed v
+      | newtype_payload n ↦ has_beside tag x.name content (part n) closed v
+      | tuple_payload ns ↦ has_beside tag x.name content (has_payload (tuple_payload ns)) closed v
+      | struct_payload y ↦ has_beside tag x.name content (has_payload (struct_payload y)) closed v
+    ]
+
+    -- a variant, by how its name is written; without a name it is its payload
+    abbrev pub has_variant : Tagging → Data → Variant → Bool
+    has_variant by_name = has_external
+    has_variant by_nothing = λ v x. has_payload x.payload v
+    has_variant (by_tag tag closed) = has_internal tag closed
+    has_variant (by_tag_and_content tag content closed) = has_adjacent tag content closed
+
+  -- ---- the variants of a flattened enum
+
+  abbrev pub is_tagged_map : Text → Data → Variant → Bool
+  is_tagged_map tag v x = elim x.payload [
+    | no_payload ↦ has_member tag (is_text x.name) false v
+    | newtype_payload n ↦ false
+    | tuple_payload ns ↦ false
+    | struct_payload y ↦ has_tagged [] tag y.list false x.name v
+  ]
+
+  -- the name is under the tag, and the variant's fields are there; there may be other keys beside them
+  abbrev pub internal_choice : Text → Data → Variant → VariantMatch
+  internal_choice tag v x = record {
+    fits = is_tagged_map tag v x;
+    has_key = λ k. bytes_eq tag k || is_some (field_named (tagged_fields x.payload) k);
+  }
+
+  module _ (choices : ℕ → Data → List VariantMatch) where
+    -- the name is there, with what the variant has
+    abbrev pub external_choice : Data → Variant → VariantMatch
+    external_choice v x = member_choice x.name (has_payload choices x.payload) v
+
+    abbrev pub shape_choices : Shape → Data → List VariantMatch
+    shape_choices (enum by_name xs) v = map (external_choice v) xs
+    shape_choices (enum (by_tag tag closed) xs) v = map (internal_choice tag v) xs
+    shape_choices _ v = []
 
 -- ---- by shape
 
@@ -245,42 +265,41 @@ has_keys patterns options p v = holds (as_object v) (every_member (λ k w. is_ke
 
 -- the values of a shape into which enums alone are flattened, where `part` says which values the rows inside it have, `choices` what
 -- the variants of an enum offer of a map, and `keys` which keys
-abbrev pub has_shape : Contract → Patterns → (ℕ → KeyOptions) → (ℕ → Data → List VariantMatch) → (ℕ → Data → Bool) → Shape → Data → Bool
-has_shape contract patterns keys choices part null v = is_null v
-has_shape contract patterns keys choices part bool v = is_some (as_bool v)
-has_shape contract patterns keys choices part (int kind) v = holds (whole_number v) (is_of_kind kind)
-has_shape contract patterns keys choices part (non_zero kind) v = holds (whole_number v) (λ z. is_of_kind kind z && not (is_zero z))
-has_shape contract patterns keys choices part number v = is_some (as_number v)
-has_shape contract patterns keys choices part text v = is_some (as_str v)
-has_shape contract patterns keys choices part char v = holds (as_str v) (λ s. code_points s == 1)
-has_shape contract patterns keys choices part (formatted format) v = is_some (as_str v)
-has_shape contract patterns keys choices part any v = true
-has_shape contract patterns keys choices part bytes v = holds (as_array v) (every_item is_byte) || is_byte_text contract v
-has_shape contract patterns keys choices part schema_itself v = is_schema v
-has_shape contract patterns keys choices part (option n) v = is_null v || part n v
-has_shape contract patterns keys choices part (seq n) v = holds (as_array v) (every_item (part n))
-has_shape contract patterns keys choices part (set n) v = holds (as_array v) (λ vs. are_distinct vs && every_item (part n) vs)
-has_shape contract patterns keys choices part (array_shape n len) v =
-    holds (as_array v) (λ vs. (items_len vs == len) && every_item (part n) vs)
-has_shape contract patterns keys choices part (up_to n cap) v =
-    holds (as_array v) (λ vs. nat_le (items_len vs) cap && every_item (part n) vs)
-has_shape contract patterns keys choices part (tuple ns) v = holds (as_array v) (each_of part ns)
-has_shape contract patterns keys choices part (struct x) v = has_fields contract part (matches_of choices x.flatten v) x.list x.closed v
-has_shape contract patterns keys choices part (newtype n) v = part n v
-has_shape contract patterns keys choices part (result t e) v = exactly_one
-    (has_fields contract part [] (needed (codes "Ok") t ∷ []) false v ∷ has_fields contract part [] (needed (codes "Err") e ∷ []) false v
-    ∷ [])
-has_shape contract patterns keys choices part (bound n) v = exactly_one
-    (has_fields contract part [] (needed (codes "Included") n ∷ []) false v ∷
-    has_fields contract part [] (needed (codes "Excluded") n ∷ []) false v ∷ is_text (codes "Unbounded") v ∷ [])
-has_shape contract patterns keys choices part (range n) v =
-    has_fields contract part [] (needed (codes "start") n ∷ needed (codes "end") n ∷ []) false v
-has_shape contract patterns keys choices part (either l r) v = exactly_one
-    (has_fields contract part [] (needed (codes "Left") l ∷ []) true v ∷ has_fields contract part [] (needed (codes "Right") r ∷ []) true v
-    ∷ [])
-has_shape contract patterns keys choices part (map_from key value) v = has_keys patterns (keys key) (part value) v
-has_shape contract patterns keys choices part (enum tagging xs) v = list_any (has_variant contract part choices tagging v) xs
-has_shape contract patterns keys choices part (literal d) v = has_literal patterns d v
+module _ (contract : Contract) (patterns : Patterns) (keys : ℕ → KeyOptions) (choices : ℕ → Data → List VariantMatch)
+    (part : ℕ → Data → Bool) where
+  abbrev pub has_shape : Shape → Data → Bool
+  has_shape null v = is_null v
+  has_shape bool v = is_some (as_bool v)
+  has_shape (int kind) v = holds (whole_number v) (is_of_kind kind)
+  has_shape (non_zero kind) v = holds (whole_number v) (λ z. is_of_kind kind z && not (is_zero z))
+  has_shape number v = is_some (as_number v)
+  has_shape text v = is_some (as_str v)
+  has_shape char v = holds (as_str v) (λ s. code_points s == 1)
+  has_shape (formatted format) v = is_some (as_str v)
+  has_shape any v = true
+  has_shape bytes v = holds (as_array v) (every_item is_byte) || is_byte_text contract v
+  has_shape schema_itself v = is_schema v
+  has_shape (option n) v = is_null v || part n v
+  has_shape (seq n) v = holds (as_array v) (every_item (part n))
+  has_shape (set n) v = holds (as_array v) (λ vs. are_distinct vs && every_item (part n) vs)
+  has_shape (array_shape n len) v =
+      holds (as_array v) (λ vs. (items_len vs == len) && every_item (part n) vs)
+  has_shape (up_to n cap) v =
+      holds (as_array v) (λ vs. nat_le (items_len vs) cap && every_item (part n) vs)
+  has_shape (tuple ns) v = holds (as_array v) (each_of part ns)
+  has_shape (struct x) v = has_fields contract part (matches_of choices x.flatten v) x.list x.closed v
+  has_shape (newtype n) v = part n v
+  has_shape (result t e) v =
+      exactly_one (has_member (codes "Ok") (part t) false v ∷ has_member (codes "Err") (part e) false v ∷ [])
+  has_shape (bound n) v = exactly_one
+      (has_member (codes "Included") (part n) false v ∷ has_member (codes "Excluded") (part n) false v ∷ is_text (codes "Unbounded") v ∷ [])
+  has_shape (range n) v =
+      has_members (must_have (codes "start") (part n) ∷ must_have (codes "end") (part n) ∷ []) (λ k. true) v
+  has_shape (either l r) v =
+      exactly_one (has_member (codes "Left") (part l) true v ∷ has_member (codes "Right") (part r) true v ∷ [])
+  has_shape (map_from key value) v = has_keys patterns (keys key) (part value) v
+  has_shape (enum tagging xs) v = list_any (has_variant contract part choices tagging v) xs
+  has_shape (literal d) v = has_literal patterns d v
 
 unfoldable mutual
   -- row n has the value; a row is asked at most `steps` deep
