@@ -48,7 +48,7 @@ option_agrees rows checked n m is w (Some a) given =
 
 -- ---- lists
 
-no_items_give : GivesItems (λ old new. new ≡ old) NoItems
+pub no_items_give : GivesItems (λ old new. new ≡ old) NoItems
 no_items_give es new sent = (
   [],
   sent ∙ ap Some (sym (append-nil es)),
