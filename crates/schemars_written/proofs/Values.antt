@@ -1,6 +1,6 @@
 -- JSON values, and numbers.
 use Rattle.std.proofs.Common.{◌≡◌, ◌⊎◌, inl, inr, ℕ, zero, suc, ◌+◌, ◌<◌, List, [], ◌∷◌, ◌++◌, Bool, true, false, Option, Some, None, Float, refl, sym, ap, ◌∙◌, subst, arith}
-use Rattle.std.specs.Prelude.{IsTrue, option_map}
+use Rattle.std.specs.Prelude.{IsTrue, option_map, codes}
 use Rattle.std.specs.Float.{float_is_finite}
 use Rattle.std.proofs.lemmas.Grind.{common_steps}
 use Rattle.json.specs.Json as json
@@ -10,14 +10,17 @@ use Rattle.serde.specs.Event.{Event, Log, Logs, InSeq, Then}
 use Rattle.serde.specs.declared.name.Case.TheVariants.{AsIs}
 use Rattle.serde_json.specs.Data.{Num, unsigned, negative, float, Data, null, boolean, number, string, array, object, Items, no_items, item, Members, no_members, member}
 use Rattle.serde_json.specs.Events.{number_event, items_len, members_len, SendsValue, SendsItems, SendsMembers}
+use Rattle.serde_json.specs.Find.{get, get_member}
 use Rattle.serde_json.specs.Read.{of_json, number_of}
 use Rattle.serde_json.specs.Sent.{State, Takes, TakesFloat, ReadsAsSingle, ReadsAsDouble}
+use Rattle.schemars_schema.specs.Json.{Text}
 use Rattle.schemars_schema.specs.Acceptance.{Patterns}
+use Rattle.schemars_schema.specs.Literal.{where_given}
 use Rattle.schemars_shapes.specs.Shape as shape
 use Rattle.schemars_types.specs.Rows.{Row}
 use Rattle.schemars_written.specs.Gives as gives
 use Rattle.schemars_written.specs.Gives.{IsPlain, Gives, GivesItems, GivesMembers, SpellsItems, SpellsMembers, Done, Field, Struct, IsArray, IsObject, First, FirstMember, NoItems, NoMembers}
-use Rattle.schemars_written.specs.Fits.{Fits, Means, HasShape}
+use Rattle.schemars_written.specs.Fits.{Fits, Means, HasShape, HasNumbers, IsFreeOfBounds, IsNumberRow}
 use Rattle.schemars_written.proofs.Atoms.{Added, one, weaker, step, known, Some_same, unsigned_gives, signed_gives, null_gives}
 use Rattle.schemars_written.proofs.Lists.{no_items_give, then_give, in_seq_gives}
 use Rattle.schemars_written.proofs.Objects.{done_gives, member_gives, field_key_gives, struct_gives}
@@ -59,6 +62,38 @@ pub number_means : (rows : List Row) (n : ℕ) → HasShape rows n shape.number 
 number_means rows n is s patterns d reads =
     let x = number_parts (number_of s) d reads in
     subst (λ v. Fits rows patterns n v) x.1 (step rows patterns n shape.number (number x.0) is (λ steps low. refl))
+
+-- and so it is in a row that has every number
+numeral_means : (rows : List Row) (n : ℕ) → IsNumberRow rows n → (s : List ℕ) → Means rows n (json.number s)
+numeral_means rows n (inl is) s = number_means rows n is s
+numeral_means rows n (inr is) s = λ patterns d reads.
+    let x = number_parts (number_of s) d reads in
+    subst (λ v. Fits rows patterns n v) x.1 (step rows patterns n (shape.literal is.0) (number x.0) is.1 (λ steps low. is.2 patterns x.0))
+
+pub double_agrees : (rows : List Row) (n : ℕ) (x : Float) → IsNumberRow rows n → float_is_finite x ≡ true
+    → Gives (λ old new. Logs old new (event.double x)) (Means rows n)
+double_agrees rows n x is finite = double_gives x (Means rows n) (numeral_means rows n is) (λ no. absurd (cc))
+
+pub single_agrees : (rows : List Row) (n : ℕ) (x : Float) → IsNumberRow rows n → float_is_finite x ≡ true
+    → Gives (λ old new. Logs old new (event.single x)) (Means rows n)
+single_agrees rows n x is finite = single_gives x (Means rows n) (numeral_means rows n is) (λ no. absurd (cc))
+
+-- a literal of numbers that asks nothing else
+pub asks_for_numbers : (d : Data) → get (codes "type") d ≡ Some (string (codes "number")) → IsFreeOfBounds d → HasNumbers d
+asks_for_numbers null type free = absurd (cc)
+asks_for_numbers (boolean b) type free = absurd (cc)
+asks_for_numbers (number n) type free = absurd (cc)
+asks_for_numbers (string s) type free = absurd (cc)
+asks_for_numbers (array ds) type free = absurd (cc)
+asks_for_numbers (object ms) type none = λ patterns x.
+    rw (type, none.0, none.1, none.2, none.3, free (codes "minLength"), free (codes "maxLength"), free (codes "pattern"), free (codes "minItems"), free (codes "maxItems")) refl
+  where
+    any : {A : Type 0} (o : Option A) → where_given o (λ a. true) ≡ true
+    any None = refl
+    any (Some a) = refl
+
+    free : (k : Text) → where_given (get_member k ms) (λ d. true) ≡ true
+    free k = any (get_member k ms)
 
 -- ---- values
 

@@ -21,8 +21,8 @@ impl<T: Agrees> Agrees for &T {
         T::has_row(types, n)
     }
 
-    fn look(&self) {
-        (**self).look();
+    fn is_valid(&self) -> bool {
+        (**self).is_valid()
     }
 }
 
@@ -37,8 +37,8 @@ impl<T: Agrees> Agrees for Box<T> {
         T::has_row(types, n)
     }
 
-    fn look(&self) {
-        (**self).look();
+    fn is_valid(&self) -> bool {
+        (**self).is_valid()
     }
 }
 
@@ -57,9 +57,10 @@ impl<T: Agrees> Agrees for Option<T> {
         }
     }
 
-    fn look(&self) {
-        if let Some(value) = self {
-            value.look();
+    fn is_valid(&self) -> bool {
+        match self {
+            Some(value) => value.is_valid(),
+            None => true,
         }
     }
 }
@@ -79,10 +80,13 @@ impl<T: Agrees> Agrees for Vec<T> {
         }
     }
 
-    fn look(&self) {
+    fn is_valid(&self) -> bool {
         for item in self {
-            item.look();
+            if !item.is_valid() {
+                return false;
+            }
         }
+        true
     }
 }
 
@@ -101,10 +105,13 @@ impl<T: Agrees> Agrees for VecDeque<T> {
         }
     }
 
-    fn look(&self) {
+    fn is_valid(&self) -> bool {
         for item in self {
-            item.look();
+            if !item.is_valid() {
+                return false;
+            }
         }
+        true
     }
 }
 
@@ -125,10 +132,13 @@ impl<T: Agrees, const N: usize> Agrees for [T; N] {
         }
     }
 
-    fn look(&self) {
+    fn is_valid(&self) -> bool {
         for item in self.iter() {
-            item.look();
+            if !item.is_valid() {
+                return false;
+            }
         }
+        true
     }
 }
 
@@ -152,9 +162,8 @@ impl<A: Agrees, B: Agrees> Agrees for (A, B) {
         }
     }
 
-    fn look(&self) {
-        self.0.look();
-        self.1.look();
+    fn is_valid(&self) -> bool {
+        self.0.is_valid() && self.1.is_valid()
     }
 }
 
@@ -176,8 +185,8 @@ impl<A: Agrees> Agrees for (A,) {
         }
     }
 
-    fn look(&self) {
-        self.0.look();
+    fn is_valid(&self) -> bool {
+        self.0.is_valid()
     }
 }
 
@@ -204,10 +213,8 @@ impl<A: Agrees, B: Agrees, C: Agrees> Agrees for (A, B, C) {
         }
     }
 
-    fn look(&self) {
-        self.0.look();
-        self.1.look();
-        self.2.look();
+    fn is_valid(&self) -> bool {
+        self.0.is_valid() && self.1.is_valid() && self.2.is_valid()
     }
 }
 
@@ -238,10 +245,7 @@ impl<A: Agrees, B: Agrees, C: Agrees, D: Agrees> Agrees for (A, B, C, D) {
         }
     }
 
-    fn look(&self) {
-        self.0.look();
-        self.1.look();
-        self.2.look();
-        self.3.look();
+    fn is_valid(&self) -> bool {
+        self.0.is_valid() && self.1.is_valid() && self.2.is_valid() && self.3.is_valid()
     }
 }

@@ -22,7 +22,9 @@ impl Agrees for Value {
         matches!(shape_at(types, n), Some(Shape::Any))
     }
 
-    fn look(&self) {}
+    fn is_valid(&self) -> bool {
+        true
+    }
 }
 
 /// A `Number` is finite.
@@ -37,5 +39,7 @@ impl Agrees for Number {
         matches!(shape_at(types, n), Some(Shape::Number))
     }
 
-    fn look(&self) {}
+    fn is_valid(&self) -> bool {
+        true
+    }
 }
