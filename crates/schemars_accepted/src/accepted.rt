@@ -2,12 +2,13 @@
 ghost use Rattle.std.specs.Prelude.{◌<◌, length, IfOk};
 ghost use Rattle.serde_json.specs.View.{view};
 ghost use Rattle.schemars_types.specs.Faults.{IsChecked};
+ghost use Rattle.schemars_written.specs.Writes.{IsWritten};
 ghost use Rattle.schemars_accepted.specs.Accepted.{IsAccepted};
 
-use schemars_agreement::{Agrees, to_member_value};
+use schemars_agreement::{Agrees, WriteError, to_member_value};
 use schemars_types::{TypeNo, Types};
 use schemars_validate::look;
-use serde_json::{Error, Value};
+use serde_json::Value;
 use std::alloc::Global;
 
 /// Returns what serde writes for a value, as `serde_json::to_value` does. Each root document of row
@@ -15,17 +16,18 @@ use std::alloc::Global;
 ///
 /// # Errors
 ///
-/// Those of `serde_json::to_value`.
+/// Those of `to_member_value`.
 pub fn to_accepted_value<T: Agrees>(
     alloc: Global,
     types: &Types,
     n: TypeNo,
     value: &T,
-) -> Result<Value, Error>
+) -> Result<Value, WriteError>
     requires checked { IsChecked types.now }
     requires known { n < length types.now }
     requires row { T.is_row types.now n }
-    ensures { IfOk result (λ v. IsAccepted types.now n (view v)) }
+    ensures written { IfOk result (λ v. IsWritten (T.writes value.now) (view v)) }
+    ensures accepted { IfOk result (λ v. IsAccepted types.now n (view v)) }
 {
     let written = to_member_value(alloc, types, n, value)?;
     look(&written);

@@ -27,7 +27,7 @@ use Rattle.schemars_types.specs.Meaning.{belongs_within, choices_within, has_sha
 use Rattle.schemars_types.specs.declared.contract.Contract.TheVariants.{Serialize}
 use Rattle.schemars_written.proofs.Characters.{one-character}
 use Rattle.schemars_written.specs.Gives.{IsPlain, Leads, Spells, Gives}
-use Rattle.schemars_written.specs.Fits.{Fits, Means, HasShape}
+use Rattle.schemars_written.specs.Fits.{IsWithin64, Fits, Means, HasShape}
 
 -- one event, wherever it is taken, writes one JSON with P
 abbrev pub Added : (Json → Type 0) → State → State → Type 0
@@ -118,19 +118,14 @@ pub unsigned_agrees : (rows : List Row) (n v : ℕ) (kind : IntKind) → HasShap
     → Gives (λ old new. Logs old new (event.unsigned v)) (Means rows n)
 unsigned_agrees rows n v kind is small of_kind = unsigned_gives v (Means rows n) (natural_means rows n v kind is small of_kind)
 
--- a number from -2^63 to 2^63 - 1
-abbrev pub IsSigned64 : ℤ → Type 0
-IsSigned64 (pos v) = v < 2 ^ 63
-IsSigned64 (negsuc v) = v < 2 ^ 63
-
-integer_means : (rows : List Row) (n : ℕ) (z : ℤ) (kind : IntKind) → HasShape rows n (shape.int kind) → IsSigned64 z → is_of_kind kind z ≡ true
+integer_means : (rows : List Row) (n : ℕ) (z : ℤ) (kind : IntKind) → HasShape rows n (shape.int kind) → IsWithin64 z → is_of_kind kind z ≡ true
     → Means rows n (json.number (signed_decimal z))
-integer_means rows n (pos v) kind is small of_kind = natural_means rows n v kind is (omega arith) of_kind
+integer_means rows n (pos v) kind is small of_kind = natural_means rows n v kind is small of_kind
 integer_means rows n (negsuc v) kind is small of_kind =
     known rows n (json.number (signed_decimal (negsuc v))) (number (negative (negsuc v))) (ap (option_map number) (number_of-negative v small))
     (λ patterns. step rows patterns n (shape.int kind) (number (negative (negsuc v))) is (λ steps low. of_kind))
 
-pub signed_agrees : (rows : List Row) (n : ℕ) (z : ℤ) (kind : IntKind) → HasShape rows n (shape.int kind) → IsSigned64 z → is_of_kind kind z ≡ true
+pub signed_agrees : (rows : List Row) (n : ℕ) (z : ℤ) (kind : IntKind) → HasShape rows n (shape.int kind) → IsWithin64 z → is_of_kind kind z ≡ true
     → Gives (λ old new. Logs old new (event.signed z)) (Means rows n)
 signed_agrees rows n z kind is small of_kind = signed_gives z (Means rows n) (integer_means rows n z kind is small of_kind)
 

@@ -1,94 +1,97 @@
--- Variants of enums that are tagged by their names.
-use Rattle.std.proofs.Common.{◌≡◌, ◌⊎◌, inl, inr, ℕ, zero, suc, ◌+◌, ◌*◌, ◌<◌, ◌≤◌, List, [], ◌∷◌, ◌++◌, length, map, Bool, true, false, ◌||◌, Option, Some, None, refl, sym, ap, ◌∙◌, subst, arith}
-use Rattle.std.specs.Prelude.{bytes_eq, Contains, is_some, ◌&&◌}
-use Rattle.std.specs.List.{list_any}
+-- Variants of enums, by how their names are written.
+use Rattle.std.proofs.Common.{◌≡◌, ◌⊎◌, inl, inr, ℕ, zero, suc, ◌+◌, ◌*◌, ◌<◌, ◌≤◌, List, [], ◌∷◌, ◌++◌, length, map, Bool, true, false, not, ◌||◌, Option, Some, None, refl, sym, ap, ◌∙◌, subst, arith, append-nil}
+use Rattle.std.specs.Prelude.{bytes_eq, Contains, is_some, ◌&&◌, if◌then◌else◌}
+use Rattle.std.specs.List.{list_any, IsDistinct}
+use Rattle.std.specs.Option.{option_map_or}
 use Rattle.std.proofs.lemmas.Grind.{common_steps}
+use Rattle.std.proofs.lemmas.Nat.{mul-le}
 use Rattle.std.proofs.lemmas.Slice.Eq.{bytes_eq-Decides}
 use Rattle.json.specs.Json as json
 use Rattle.json.specs.Json.{Json}
 use Rattle.serde.specs.Event as event
 use Rattle.serde.specs.Event.{Event, Log, Logs}
 use Rattle.serde.specs.declared.name.Case.{Case}
+use Rattle.serde.specs.declared.name.Case.TheVariants.{AsIs}
 use Rattle.serde.specs.declared.name.NameKind.TheVariants as kind
 use Rattle.serde.specs.Spelling.{spelled}
 use Rattle.serde_json.specs.Data.{Data, string, object, Members, no_members, member, members_depth, depth, put}
 use Rattle.serde_json.specs.Find.{get_member}
 use Rattle.serde_json.specs.Read.{of_json, of_members}
-use Rattle.schemars_text.proofs.Members.{get_member-here}
-use Rattle.schemars_types.specs.Edges.{rank}
-use Rattle.json.specs.Token as token
 use Rattle.serde_json.specs.Sent.{Takes}
+use Rattle.schemars_text.proofs.Members.{get_member-here}
 use Rattle.schemars_schema.specs.Json.{Text}
+use Rattle.schemars_schema.specs.Acceptance.{Patterns}
+use Rattle.schemars_flatten.proofs.Kept.{AllMembers, all_put}
 use Rattle.schemars_shapes.specs.Shape as shape
-use Rattle.schemars_shapes.specs.Shape.{Variant, no_payload, newtype_payload}
+use Rattle.schemars_shapes.specs.Shape.{Field, Tagging, by_name, by_nothing, by_tag, by_tag_and_content, Variant, Payload, no_payload, newtype_payload, tuple_payload, struct_payload, payload_numbers, payload_same}
 use Rattle.schemars_types.specs.Rows.{Row}
+use Rattle.schemars_types.specs.Edges.{rank}
 use Rattle.schemars_types.specs.Faults.{IsChecked}
-use Rattle.schemars_types.specs.KeyOptions.{key_options}
-use Rattle.schemars_types.specs.Effective.{expanded_variant, flattened_in, part_enums}
-use Rattle.schemars_types.specs.Meaning.{VariantMatch, belongs_within, choices_within, has_external, is_text, is_map_of, every_member}
+use Rattle.schemars_types.specs.Effective.{expanded_variant, expanded_payload, flattened_in, part_enums}
+use Rattle.schemars_types.specs.Meaning.{belongs_within, choices_within, has_variant, has_external, has_payload, has_tagged, has_beside, has_required, tagged_fits, adjacent_fits, member_fits, field_named, is_text, is_map_of, every_member}
 use Rattle.schemars_types.specs.declared.contract.Contract.TheVariants.{Serialize}
-use Rattle.schemars_written.specs.Gives.{IsPlain, Gives, GivesMembers, Tagged, Struct, IsObject, FirstMember, NoMembers, Done}
-use Rattle.schemars_written.specs.Fits.{Fits, Means, HasShape, HasUnit, HasNewtype}
-use Rattle.schemars_written.proofs.Atoms.{one, step, known, weaker, Some_same}
-use Rattle.schemars_written.proofs.Lists.{both_true}
-use Rattle.schemars_written.proofs.Objects.{small, object_parts, member_parts, GivesKey, member_gives, done_gives, struct_gives}
+use Rattle.schemars_written.specs.Gives as gives
+use Rattle.schemars_written.specs.Gives.{IsPlain, Gives, GivesMembers, Named, Beside, Tagged, Struct, IsObject, FirstMember, NoMembers, Done}
+use Rattle.schemars_written.specs.Fits.{Fits, Means, HasShape, HasVariant, HasVariantAt, AvoidsTag}
+use Rattle.schemars_written.proofs.Atoms.{one, step, known, weaker, same_lower, Some_same}
+use Rattle.schemars_written.proofs.Lists.{both_true, closer}
+use Rattle.schemars_written.proofs.Objects.{EachJson, OfField, Matches, small, object_parts, member_parts, read_members, stays, comes, named_number, name_of_found, of_fields, has_keys_of, plain_fields, GivesKey, field_key_gives, member_gives, done_gives, struct_gives}
+use Rattle.schemars_written.proofs.Payloads.{listed, variant_number, payload_low, payload_apart, keys_apart, PayloadMeans, Enough, Holds, payload_holds}
 
-right_true : (a b : Bool) → b ≡ true → (a || b) ≡ true
-right_true true b h = refl
-right_true false b h = h
+-- ---- variants
 
-left_true : (a b : Bool) → a ≡ true → (a || b) ≡ true
-left_true true b h = refl
-left_true false b h = absurd (cc)
+abbrev variant : Text → Payload → Members → Variant
+variant name p notes = record { name = name; payload = p; notes = notes }
 
--- one of the variants is the unit
-unit_listed : (rows : List Row) (part : ℕ → Data → Bool) (choices : ℕ → Data → List VariantMatch) (name : Text) (xs : List Variant) → HasUnit name xs
-    → list_any (has_external Serialize part choices (string name)) (map (expanded_variant (flattened_in rows) (part_enums rows)) xs) ≡ true
-unit_listed rows part choices name [] has = absurd has
-unit_listed rows part choices name (x ∷ xs) (inl here) =
-    left_true (has_external Serialize part choices (string name) (expanded_variant (flattened_in rows) (part_enums rows) x))
-    (list_any (has_external Serialize part choices (string name)) (map (expanded_variant (flattened_in rows) (part_enums rows)) xs))
-    (this x here.0 here.1)
-  where
-    this : (y : Variant) → y.name ≡ name → y.payload ≡ no_payload
-        → has_external Serialize part choices (string name) (expanded_variant (flattened_in rows) (part_enums rows) y) ≡ true
-    this y same bare = rw bare ((bytes_eq-Decides y.name name).1 same)
-unit_listed rows part choices name (x ∷ xs) (inr later) =
-    right_true (has_external Serialize part choices (string name) (expanded_variant (flattened_in rows) (part_enums rows) x))
-    (list_any (has_external Serialize part choices (string name)) (map (expanded_variant (flattened_in rows) (part_enums rows)) xs))
-    (unit_listed rows part choices name xs later)
+-- whether a variant of this name has a value, in a table
+abbrev Fitting : List Row → Patterns → ℕ → Tagging → Text → Payload → Members → Data → Type 0
+Fitting rows patterns steps tagging name p notes d = has_variant Serialize (belongs_within rows Serialize patterns steps)
+    (choices_within rows Serialize patterns steps) tagging d (expanded_variant (flattened_in rows) (part_enums rows) (variant name p notes)) ≡ true
 
--- a unit sends its name, as it is spelled
-pub unit_agrees : (rows : List Row) (n : ℕ) (xs : List Variant) → HasShape rows n (shape.enum shape.by_name xs) → (name : Text) (case : Case)
-    → HasUnit (spelled case kind.Variant name) xs → Gives (λ old new. Logs old new (event.unit_variant name case)) (Means rows n)
-unit_agrees rows n xs is name case has =
+-- what a variant has, its enum has
+enum_fits : (rows : List Row) (patterns : Patterns) (n : ℕ) (tagging : Tagging) (name : Text) (p : Payload) → (row : HasVariantAt rows n tagging name p)
+    → (d : Data) → ((steps : ℕ) (notes : Members) → depth d * length rows + rank rows n < suc steps → Fitting rows patterns steps tagging name p notes d)
+    → Fits rows patterns n d
+enum_fits rows patterns n tagging name p row d each =
+    step rows patterns n (shape.enum tagging row.0) d row.1 (λ steps few.
+    listed (has_variant Serialize (belongs_within rows Serialize patterns steps) (choices_within rows Serialize patterns steps) tagging d)
+    (expanded_variant (flattened_in rows) (part_enums rows)) name p row.0 row.2
+    (λ x same is. subst (λ t. Fitting rows patterns steps tagging t x.payload x.notes d) (sym same)
+    (subst (λ q. Fitting rows patterns steps tagging name q x.notes d) (sym is) (each steps x.notes few))))
+
+-- one step inside there are enough steps for a payload
+inside_enough : (rows : List Row) (p : Payload) (h steps : ℕ) → ((m : ℕ) → Contains (payload_numbers p) m → (m < length rows) × (rank rows m < length rows))
+    → suc h * length rows ≤ steps → Enough rows p h steps
+inside_enough rows no_payload h steps low few = tt
+inside_enough rows (newtype_payload m) h steps low few =
+    omega (arith, closer h (suc h) (length rows) (rank rows m) (omega arith) (low m (0, omega arith, refl)).1)
+inside_enough rows (tuple_payload ns) h steps low few = omega arith
+inside_enough rows (struct_payload x) h steps low few = omega arith
+
+-- no unit
+abbrev pub IsFull : Payload → Type 0
+IsFull no_payload = ⊥
+IsFull (newtype_payload m) = Unit {0}
+IsFull (tuple_payload ns) = Unit {0}
+IsFull (struct_payload x) = Unit {0}
+
+abbrev pub IsName : Text → Json → Type 0
+IsName t j = j ≡ json.string t
+
+pub named_gives : (name : Text) (case : Case) → Gives (Named name case) (IsName (spelled case kind.Variant name))
+named_gives name case = one (event.unit_variant name case) (IsName (spelled case kind.Variant name)) (λ s mid plain took.
+    (json.string (spelled case kind.Variant name), refl, grind (arith, common_steps, took), grind (arith, common_steps, took)))
+
+-- ---- tagged by names
+
+pub unit_agrees : (rows : List Row) (n : ℕ) (name : Text) (case : Case) → HasVariantAt rows n by_name (spelled case kind.Variant name) no_payload
+    → Gives (Named name case) (Means rows n)
+unit_agrees rows n name case row =
     let t = spelled case kind.Variant name in
-    one (event.unit_variant name case) (Means rows n) (λ s mid plain took. (
-      json.string t,
-      known rows n (json.string t) (string t) refl (λ patterns. step rows patterns n (shape.enum shape.by_name xs) (string t) is (λ steps low.
-          unit_listed rows (belongs_within rows Serialize patterns steps) (choices_within rows Serialize patterns steps) t xs has)),
-      grind (arith, common_steps, took),
-      grind (arith, common_steps, took),
-    ))
-
--- ---- variants with one value
-
-newtype_listed : (rows : List Row) (part : ℕ → Data → Bool) (choices : ℕ → Data → List VariantMatch) (name : Text) (m : ℕ) (v : Data) (xs : List Variant)
-    → HasNewtype name m xs → is_map_of name (part m) v ≡ true
-    → list_any (has_external Serialize part choices v) (map (expanded_variant (flattened_in rows) (part_enums rows)) xs) ≡ true
-newtype_listed rows part choices name m v [] has is = absurd has
-newtype_listed rows part choices name m v (x ∷ xs) (inl here) is =
-    left_true (has_external Serialize part choices v (expanded_variant (flattened_in rows) (part_enums rows) x))
-    (list_any (has_external Serialize part choices v) (map (expanded_variant (flattened_in rows) (part_enums rows)) xs))
-    (this x here.0 here.1)
-  where
-    this : (y : Variant) → y.name ≡ name → y.payload ≡ newtype_payload m
-        → has_external Serialize part choices v (expanded_variant (flattened_in rows) (part_enums rows) y) ≡ true
-    this y same one = rw one (subst (λ (t : Text). is_map_of t (part m) v ≡ true) (sym same) is)
-newtype_listed rows part choices name m v (x ∷ xs) (inr later) is =
-    right_true (has_external Serialize part choices v (expanded_variant (flattened_in rows) (part_enums rows) x))
-    (list_any (has_external Serialize part choices v) (map (expanded_variant (flattened_in rows) (part_enums rows)) xs))
-    (newtype_listed rows part choices name m v xs later is)
+    weaker (Named name case) (IsName t) (Means rows n) (λ j is patterns d reads.
+    subst (λ v. Fits rows patterns n v) (Some_same (string t) d (ap of_json (sym is) ∙ reads))
+    (enum_fits rows patterns n by_name t no_payload row (string t) (λ steps notes few. (bytes_eq-Decides t t).1 refl)))
+    (named_gives name case)
 
 variant_key_gives : (name : Text) (case : Case) → GivesKey (λ old new. Logs old new (event.variant_key name case)) (spelled case kind.Variant name)
 variant_key_gives name case es new sent = (
@@ -98,37 +101,286 @@ variant_key_gives name case es new sent = (
       (run.0, grind (arith, common_steps, run.1), grind (arith, common_steps, run.1), run.2),
 )
 
-newtype_means : (rows : List Row) → IsChecked rows → (n m : ℕ) (xs : List Variant) → HasShape rows n (shape.enum shape.by_name xs) → m < length rows
-    → (name : Text) → HasNewtype name m xs → (j : Json) → IsObject (FirstMember name (Means rows m) NoMembers) j → Means rows n j
-newtype_means rows checked n m xs is low name has json.null all = absurd all
-newtype_means rows checked n m xs is low name has (json.boolean b) all = absurd all
-newtype_means rows checked n m xs is low name has (json.number s) all = absurd all
-newtype_means rows checked n m xs is low name has (json.string s) all = absurd all
-newtype_means rows checked n m xs is low name has (json.array js) all = absurd all
-newtype_means rows checked n m xs is low name has (json.object json.no_members) all = absurd all
-newtype_means rows checked n m xs is low name has (json.object (json.member k j (json.member l i ms))) all = absurd all.2
-newtype_means rows checked n m xs is low name has (json.object (json.member k j json.no_members)) all = λ patterns d reads.
-    let r = object_parts (of_members (json.member k j json.no_members) no_members) d reads in
-    let p = member_parts (of_json j) (λ e. of_members json.no_members (put k e no_members)) r.0 r.1 in
-    let whole : object (member k p.0 no_members) ≡ d = ap object (Some_same (put k p.0 no_members) r.0 p.2) ∙ r.2 in
-    let v : Data = object (member k p.0 no_members) in
-    subst (λ x. Fits rows patterns n x) whole (step rows patterns n (shape.enum shape.by_name xs) v is (λ steps few.
-    newtype_listed rows (belongs_within rows Serialize patterns steps) (choices_within rows Serialize patterns steps) name m v xs has
-    (both_true (is_some (get_member name (member k p.0 no_members)))
-    (every_member (λ l w. bytes_eq name l && belongs_within rows Serialize patterns steps m w) (member k p.0 no_members))
-    (subst (λ (t : Text). is_some (get_member t (member k p.0 no_members)) ≡ true) all.0 (ap is_some (get_member-here k p.0 no_members)))
-    (both_true (bytes_eq name k && belongs_within rows Serialize patterns steps m p.0) true
-    (both_true (bytes_eq name k) (belongs_within rows Serialize patterns steps m p.0) ((bytes_eq-Decides name k).1 (sym all.0))
-    (small rows patterns steps (members_depth (member k p.0 no_members)) p.0 (omega arith) (omega arith) m low (checked.rank_bound m low)
-    (all.1 patterns p.0 p.1)))
-    refl))))
+-- a map with this key alone
+map_of : (name k : Text) (test : Data → Bool) (d : Data) → k ≡ name → test d ≡ true → is_map_of name test (object (member k d no_members)) ≡ true
+map_of name k test d same passes =
+    both_true (is_some (get_member name (member k d no_members))) (every_member (λ l w. bytes_eq name l && test w) (member k d no_members))
+    (subst (λ (t : Text). is_some (get_member t (member k d no_members)) ≡ true) same (ap is_some (get_member-here k d no_members)))
+    (both_true (bytes_eq name k && test d) true (both_true (bytes_eq name k) (test d) ((bytes_eq-Decides name k).1 (sym same)) passes) refl)
 
-pub newtype_agrees : (rows : List Row) → IsChecked rows → (n m : ℕ) (xs : List Variant) → HasShape rows n (shape.enum shape.by_name xs) → m < length rows
-    → (name : Text) (case : Case) → HasNewtype (spelled case kind.Variant name) m xs → (w : Log → Log → Type 0) → Gives w (Means rows m)
+one_deep : (k : Text) (d : Data) → depth (object (member k d no_members)) ≡ suc (depth d)
+one_deep k d = omega arith
+
+-- a full payload has its value under the name
+under_name : (rows : List Row) (patterns : Patterns) (steps : ℕ) (name : Text) (p : Payload) (notes : Members) (d : Data) → IsFull p
+    → is_map_of name (has_payload Serialize (belongs_within rows Serialize patterns steps) (choices_within rows Serialize patterns steps)
+    (expanded_payload (flattened_in rows) (part_enums rows) p)) d ≡ true
+    → Fitting rows patterns steps by_name name p notes d
+under_name rows patterns steps name no_payload notes d full is = absurd full
+under_name rows patterns steps name (newtype_payload m) notes d full is = is
+under_name rows patterns steps name (tuple_payload ns) notes d full is = is
+under_name rows patterns steps name (struct_payload x) notes d full is = is
+
+external_means : (rows : List Row) → IsChecked rows → (n : ℕ) (name : Text) (p : Payload) → HasVariantAt rows n by_name name p → IsFull p → (j : Json)
+    → IsObject (FirstMember name (PayloadMeans rows p) NoMembers) j → Means rows n j
+external_means rows checked n name p row full json.null all = absurd all
+external_means rows checked n name p row full (json.boolean b) all = absurd all
+external_means rows checked n name p row full (json.number s) all = absurd all
+external_means rows checked n name p row full (json.string s) all = absurd all
+external_means rows checked n name p row full (json.array js) all = absurd all
+external_means rows checked n name p row full (json.object json.no_members) all = absurd all
+external_means rows checked n name p row full (json.object (json.member k j (json.member l i ms))) all = absurd all.2
+external_means rows checked n name p row full (json.object (json.member k j json.no_members)) all = λ patterns d reads.
+    let r = object_parts (of_members (json.member k j json.no_members) no_members) d reads in
+    let v = member_parts (of_json j) (λ e. of_members json.no_members (put k e no_members)) r.0 r.1 in
+    let whole : object (member k v.0 no_members) ≡ d = ap object (Some_same (put k v.0 no_members) r.0 v.2) ∙ r.2 in
+    let low = payload_low rows checked n by_name row.0 row.1 name p row.2 in
+    subst (λ x. Fits rows patterns n x) whole (enum_fits rows patterns n by_name name p row (object (member k v.0 no_members)) (λ steps notes few.
+    under_name rows patterns steps name p notes (object (member k v.0 no_members)) full
+    (map_of name k (has_payload Serialize (belongs_within rows Serialize patterns steps) (choices_within rows Serialize patterns steps)
+    (expanded_payload (flattened_in rows) (part_enums rows) p)) v.0 all.0
+    (payload_holds rows patterns p j v.0 steps low (payload_apart rows checked n by_name row.0 row.1 name p row.2) all.1 v.1
+    (inside_enough rows p (depth v.0) steps low
+    (omega (arith, subst (λ h. h * length rows + rank rows n < suc steps) (one_deep k v.0) few)))))))
+
+pub external_agrees : (rows : List Row) → IsChecked rows → (n : ℕ) (name : Text) (case : Case) (p : Payload)
+    → HasVariantAt rows n by_name (spelled case kind.Variant name) p → IsFull p → (w : Log → Log → Type 0) → Gives w (PayloadMeans rows p)
     → Gives (Tagged name case w) (Means rows n)
-newtype_agrees rows checked n m xs is low name case has w given =
+external_agrees rows checked n name case p row full w given =
     let t = spelled case kind.Variant name in
-    weaker (Tagged name case w) (IsObject (FirstMember t (Means rows m) NoMembers)) (Means rows n) (newtype_means rows checked n m xs is low t has)
+    weaker (Tagged name case w) (IsObject (FirstMember t (PayloadMeans rows p) NoMembers)) (Means rows n) (external_means rows checked n t p row full)
     (struct_gives 1 (λ old new. (named mid : Log) × Logs old named (event.variant_key name case) × w named mid × Done mid new)
-    (FirstMember t (Means rows m) NoMembers)
-    (member_gives t (λ old new. Logs old new (event.variant_key name case)) w Done (Means rows m) NoMembers (variant_key_gives name case) given done_gives))
+    (FirstMember t (PayloadMeans rows p) NoMembers)
+    (member_gives t (λ old new. Logs old new (event.variant_key name case)) w Done (PayloadMeans rows p) NoMembers (variant_key_gives name case) given done_gives))
+
+-- ---- not tagged
+
+own_enough : (rows : List Row) → IsChecked rows → (n : ℕ) (name : Text) (p : Payload) → HasVariantAt rows n by_nothing name p → (h steps : ℕ)
+    → ((m : ℕ) → Contains (payload_numbers p) m → (m < length rows) × (rank rows m < length rows))
+    → h * length rows + rank rows n < suc steps → Enough rows p h steps
+own_enough rows checked n name no_payload row h steps low few = tt
+own_enough rows checked n name (newtype_payload m) row h steps low few =
+    let here : Contains (payload_same (newtype_payload m)) m = (0, omega arith, refl) in
+    let less = same_lower rows checked n m (shape.enum by_nothing row.0) row.1
+    (variant_number payload_same name (newtype_payload m) row.0 m row.2 here) (low m here).0 in
+    omega arith
+own_enough rows checked n name (tuple_payload ns) row h steps low few = omega arith
+own_enough rows checked n name (struct_payload x) row h steps low few = omega arith
+
+pub untagged_agrees : (rows : List Row) → IsChecked rows → (n : ℕ) (name : Text) (p : Payload) → HasVariantAt rows n by_nothing name p
+    → (w : Log → Log → Type 0) → Gives w (PayloadMeans rows p) → Gives w (Means rows n)
+untagged_agrees rows checked n name p row w given = weaker w (PayloadMeans rows p) (Means rows n) (λ j means patterns d reads.
+    let low = payload_low rows checked n by_nothing row.0 row.1 name p row.2 in
+    enum_fits rows patterns n by_nothing name p row d (λ steps notes few.
+    payload_holds rows patterns p j d steps low (payload_apart rows checked n by_nothing row.0 row.1 name p row.2) means reads
+    (own_enough rows checked n name p row (depth d) steps low few))) given
+
+-- ---- tagged inside
+
+-- a name under the tag, and then other members
+at_tag : (rows : List Row) (n : ℕ) (tag name : Text) (Q : json.Members → Type 0)
+    → ((ms : json.Members) → Q ms → Means rows n (json.object (json.member tag (json.string name) ms)))
+    → (j : Json) → IsObject (FirstMember tag (IsName name) Q) j → Means rows n j
+at_tag rows n tag name Q each json.null all = absurd all
+at_tag rows n tag name Q each (json.boolean b) all = absurd all
+at_tag rows n tag name Q each (json.number s) all = absurd all
+at_tag rows n tag name Q each (json.string s) all = absurd all
+at_tag rows n tag name Q each (json.array js) all = absurd all
+at_tag rows n tag name Q each (json.object json.no_members) all = absurd all
+at_tag rows n tag name Q each (json.object (json.member k j ms)) all =
+    subst (λ (t : Text). Means rows n (json.object (json.member t j ms))) (sym all.0)
+    (subst (λ i. Means rows n (json.object (json.member tag i ms))) (sym all.1) (each ms all.2))
+
+-- the tag with its name, or a field
+abbrev InTagged : List Row → Patterns → Text → Text → List Field → Text → Data → Type 0
+InTagged rows patterns tag name fs k d = ((k ≡ tag) × (d ≡ string name))
+    ⊎ ((bytes_eq tag k ≡ false) × ((f : Field) × (field_named fs k ≡ Some f) × Fits rows patterns f.ty d))
+
+fields_in : (rows : List Row) (patterns : Patterns) (tag name : Text) (fs : List Field) → AvoidsTag tag fs → (ms : json.Members)
+    → EachJson (OfField rows fs) ms → EachJson (λ k j. (d : Data) → of_json j ≡ Some d → InTagged rows patterns tag name fs k d) ms
+fields_in rows patterns tag name fs avoids json.no_members each = tt
+fields_in rows patterns tag name fs avoids (json.member k j ms) each = (
+  λ d reads. inr (name_of_found each.0.0 fs tag k avoids each.0.1, (each.0.0, each.0.1, each.0.2 patterns d reads)),
+  fields_in rows patterns tag name fs avoids ms each.1,
+)
+
+is_name : (name : Text) (d : Data) → d ≡ string name → is_text name d ≡ true
+is_name name d same = subst (λ v. is_text name v ≡ true) (sym same) ((bytes_eq-Decides name name).1 refl)
+
+tagged_hold : (rows : List Row) (patterns : Patterns) (tag name : Text) (fs list : List Field) (closed : Bool) (steps h : ℕ) (ms : Members)
+    → ((m : ℕ) → Contains (map (λ x. x.ty) fs) m → (m < length rows) × (rank rows m < length rows))
+    → list ≡ fs → suc h * length rows ≤ steps → members_depth ms ≤ h → AllMembers (InTagged rows patterns tag name fs) ms
+    → every_member (λ k w. tagged_fits (belongs_within rows Serialize patterns steps) list closed tag name k w) ms ≡ true
+tagged_hold rows patterns tag name fs list closed steps h no_members low same many deep all = refl
+tagged_hold rows patterns tag name fs list closed steps h (member k d ms) low same many deep all =
+    both_true (tagged_fits (belongs_within rows Serialize patterns steps) list closed tag name k d)
+    (every_member (λ k w. tagged_fits (belongs_within rows Serialize patterns steps) list closed tag name k w) ms) (first all.0)
+    (tagged_hold rows patterns tag name fs list closed steps h ms low same many (omega arith) all.1)
+  where
+    first : InTagged rows patterns tag name fs k d
+        → (if bytes_eq tag k then is_text name d else member_fits (belongs_within rows Serialize patterns steps) list closed k d) ≡ true
+    first (inl here) =
+        ap (λ (b : Bool). if b then is_text name d else member_fits (belongs_within rows Serialize patterns steps) list closed k d)
+        ((bytes_eq-Decides tag k).1 (sym here.0)) ∙ is_name name d here.1
+    first (inr field) =
+        let f = field.1.0 in
+        let known = low f.ty (named_number fs k f field.1.1) in
+        ap (λ (b : Bool). if b then is_text name d else member_fits (belongs_within rows Serialize patterns steps) list closed k d) field.0
+        ∙ ap (λ (l : List Field). member_fits (belongs_within rows Serialize patterns steps) l closed k d) same
+        ∙ ap (λ (o : Option Field). option_map_or (λ g. belongs_within rows Serialize patterns steps g.ty d) o (not closed)) field.1.1
+        ∙ small rows patterns steps h d many (omega arith) f.ty known.0 known.1 field.1.2
+
+tagged_holds : (rows : List Row) (patterns : Patterns) (tag name : Text) (fs : List Field) (closed : Bool) (ms : json.Members) (d : Data) (steps : ℕ)
+    → ((m : ℕ) → Contains (map (λ f. f.ty) fs) m → (m < length rows) × (rank rows m < length rows))
+    → IsDistinct bytes_eq (map (λ f. f.name) fs) → AvoidsTag tag fs → Matches rows fs ms
+    → of_json (json.object (json.member tag (json.string name) ms)) ≡ Some d → depth d * length rows ≤ steps
+    → has_tagged Serialize (belongs_within rows Serialize patterns steps) [] tag (fs ++ []) closed name d ≡ true
+tagged_holds rows patterns tag name fs closed ms d steps low apart avoids all reads few =
+    let found = member tag (string name) no_members in
+    let r = object_parts (of_members (json.member tag (json.string name) ms) no_members) d reads in
+    let enough : suc (members_depth r.0) * length rows ≤ steps = subst (λ v. depth v * length rows ≤ steps) (sym r.2) few in
+    let each = read_members (InTagged rows patterns tag name fs) ms found r.0
+    (fields_in rows patterns tag name fs avoids ms (of_fields rows fs apart ms all)) (inl (refl, refl), tt) r.1 in
+    subst (λ v. has_tagged Serialize (belongs_within rows Serialize patterns steps) [] tag (fs ++ []) closed name v ≡ true) r.2
+    (both_true (is_some (get_member tag r.0)) (every_member (λ k w. tagged_fits (belongs_within rows Serialize patterns steps) (fs ++ []) closed tag name k w) r.0 && has_required Serialize (fs ++ []) r.0)
+    (stays tag ms found r.0 (ap is_some (get_member-here tag (string name) no_members)) r.1)
+    (both_true (every_member (λ k w. tagged_fits (belongs_within rows Serialize patterns steps) (fs ++ []) closed tag name k w) r.0)
+    (has_required Serialize (fs ++ []) r.0)
+    (tagged_hold rows patterns tag name fs (fs ++ []) closed steps (members_depth r.0) r.0 low (append-nil fs) enough (omega arith) each)
+    (subst (λ (l : List Field). has_required Serialize l r.0 ≡ true) (sym (append-nil fs)) (has_keys_of rows fs ms all r.0 found r.1))))
+
+beside_gives : (tag name : Text) (case : Case) (w : Log → Log → Type 0) (Q : json.Members → Type 0) → GivesMembers w Q
+    → GivesMembers (Beside tag name case w) (FirstMember tag (IsName (spelled case kind.Variant name)) Q)
+beside_gives tag name case w Q given = member_gives tag (λ old new. Logs old new (event.field_key tag AsIs)) (Named name case) w
+    (IsName (spelled case kind.Variant name)) Q (field_key_gives tag) (named_gives name case) given
+
+pub internal_unit_agrees : (rows : List Row) → IsChecked rows → (n : ℕ) (tag : Text) (closed : Bool) (name : Text) (case : Case)
+    → HasVariantAt rows n (by_tag tag closed) (spelled case kind.Variant name) no_payload → (count : ℕ)
+    → Gives (Struct count (Beside tag name case Done)) (Means rows n)
+unfolding IsDistinct
+internal_unit_agrees rows checked n tag closed name case row count =
+    let t = spelled case kind.Variant name in
+    weaker (Struct count (Beside tag name case Done)) (IsObject (FirstMember tag (IsName t) NoMembers)) (Means rows n)
+    (at_tag rows n tag t NoMembers (λ ms none patterns d reads.
+    enum_fits rows patterns n (by_tag tag closed) t no_payload row d (λ steps notes few.
+    tagged_holds rows patterns tag t [] closed ms d steps (λ m c. absurd (omega (arith, c.1))) tt tt none reads (omega arith))))
+    (struct_gives count (Beside tag name case Done) (FirstMember tag (IsName t) NoMembers) (beside_gives tag name case Done NoMembers done_gives))
+
+pub internal_struct_agrees : (rows : List Row) → IsChecked rows → (n : ℕ) (tag : Text) (closed : Bool) (name : Text) (case : Case) (fs : List Field) (own : Bool)
+    → HasVariantAt rows n (by_tag tag closed) (spelled case kind.Variant name) (struct_payload (plain_fields fs own)) → AvoidsTag tag fs
+    → (count : ℕ) (w : Log → Log → Type 0) → GivesMembers w (Matches rows fs)
+    → Gives (Struct count (Beside tag name case w)) (Means rows n)
+internal_struct_agrees rows checked n tag closed name case fs own row avoids count w given =
+    let t = spelled case kind.Variant name in
+    let p = struct_payload (plain_fields fs own) in
+    let low = payload_low rows checked n (by_tag tag closed) row.0 row.1 t p row.2 in
+    weaker (Struct count (Beside tag name case w)) (IsObject (FirstMember tag (IsName t) (Matches rows fs))) (Means rows n)
+    (at_tag rows n tag t (Matches rows fs) (λ ms all patterns d reads.
+    enum_fits rows patterns n (by_tag tag closed) t p row d (λ steps notes few.
+    tagged_holds rows patterns tag t fs own ms d steps
+    (λ m c. low m (subst (λ (xs : List ℕ). Contains xs m) (sym (append-nil (map (λ f. f.ty) fs))) c))
+    (payload_apart rows checked n (by_tag tag closed) row.0 row.1 t p row.2) avoids all reads (omega arith))))
+    (struct_gives count (Beside tag name case w) (FirstMember tag (IsName t) (Matches rows fs)) (beside_gives tag name case w (Matches rows fs) given))
+
+-- ---- tagged beside a content
+
+pub adjacent_unit_agrees : (rows : List Row) → IsChecked rows → (n : ℕ) (tag content : Text) (closed : Bool) (name : Text) (case : Case)
+    → HasVariantAt rows n (by_tag_and_content tag content closed) (spelled case kind.Variant name) no_payload → (count : ℕ)
+    → Gives (Struct count (Beside tag name case Done)) (Means rows n)
+unfolding IsDistinct
+adjacent_unit_agrees rows checked n tag content closed name case row count =
+    let t = spelled case kind.Variant name in
+    weaker (Struct count (Beside tag name case Done)) (IsObject (FirstMember tag (IsName t) NoMembers)) (Means rows n)
+    (at_tag rows n tag t NoMembers (λ ms none patterns d reads.
+    enum_fits rows patterns n (by_tag_and_content tag content closed) t no_payload row d (λ steps notes few.
+    tagged_holds rows patterns tag t [] closed ms d steps (λ m c. absurd (omega (arith, c.1))) tt tt none reads (omega arith))))
+    (struct_gives count (Beside tag name case Done) (FirstMember tag (IsName t) NoMembers) (beside_gives tag name case Done NoMembers done_gives))
+
+-- the tag with its name, or the content
+abbrev InAdjacent : Text → Text → Text → Json → Text → Data → Type 0
+InAdjacent tag name content j k d = ((k ≡ tag) × (d ≡ string name)) ⊎ ((k ≡ content) × (of_json j ≡ Some d))
+
+adjacent_hold : (tag name content : Text) (test : Data → Bool) (closed : Bool) (j : Json) (h : ℕ) (ms : Members) → bytes_eq tag content ≡ false
+    → ((d : Data) → of_json j ≡ Some d → depth d ≤ h → test d ≡ true) → members_depth ms ≤ h → AllMembers (InAdjacent tag name content j) ms
+    → every_member (adjacent_fits tag name content test closed) ms ≡ true
+adjacent_hold tag name content test closed j h no_members differ passes deep all = refl
+adjacent_hold tag name content test closed j h (member k d ms) differ passes deep all =
+    both_true (adjacent_fits tag name content test closed k d) (every_member (adjacent_fits tag name content test closed) ms) (first all.0)
+    (adjacent_hold tag name content test closed j h ms differ passes (omega arith) all.1)
+  where
+    first : InAdjacent tag name content j k d
+        → (if bytes_eq tag k then is_text name d else if bytes_eq content k then test d else not closed) ≡ true
+    first (inl here) =
+        ap (λ (b : Bool). if b then is_text name d else if bytes_eq content k then test d else not closed)
+        ((bytes_eq-Decides tag k).1 (sym here.0)) ∙ is_name name d here.1
+    first (inr there) =
+        ap (λ (b : Bool). if b then is_text name d else if bytes_eq content k then test d else not closed)
+        (subst (λ (t : Text). bytes_eq tag t ≡ false) (sym there.0) differ)
+        ∙ ap (λ (b : Bool). if b then test d else not closed) ((bytes_eq-Decides content k).1 (sym there.0))
+        ∙ passes d there.1 (omega arith)
+
+-- a full payload has its value under the content's key
+under_content : (rows : List Row) (patterns : Patterns) (steps : ℕ) (tag content : Text) (closed : Bool) (name : Text) (p : Payload) (notes : Members) (d : Data)
+    → IsFull p → has_beside tag name content (has_payload Serialize (belongs_within rows Serialize patterns steps) (choices_within rows Serialize patterns steps)
+    (expanded_payload (flattened_in rows) (part_enums rows) p)) closed d ≡ true
+    → Fitting rows patterns steps (by_tag_and_content tag content closed) name p notes d
+under_content rows patterns steps tag content closed name no_payload notes d full is = absurd full
+under_content rows patterns steps tag content closed name (newtype_payload m) notes d full is = is
+under_content rows patterns steps tag content closed name (tuple_payload ns) notes d full is = is
+under_content rows patterns steps tag content closed name (struct_payload x) notes d full is = is
+
+beside_holds : (rows : List Row) (patterns : Patterns) (tag content : Text) (closed : Bool) (name : Text) (p : Payload) (j : Json) (d : Data) (steps : ℕ)
+    → ((m : ℕ) → Contains (payload_numbers p) m → (m < length rows) × (rank rows m < length rows))
+    → bytes_eq tag content ≡ false
+    → ((v : Data) → of_json j ≡ Some v → Enough rows p (depth v) steps → Holds rows patterns steps p v)
+    → of_json (json.object (json.member tag (json.string name) (json.member content j json.no_members))) ≡ Some d
+    → depth d * length rows ≤ steps
+    → has_beside tag name content (has_payload Serialize (belongs_within rows Serialize patterns steps) (choices_within rows Serialize patterns steps)
+    (expanded_payload (flattened_in rows) (part_enums rows) p)) closed d ≡ true
+beside_holds rows patterns tag content closed name p j d steps low differ passes reads few =
+    let test = has_payload Serialize (belongs_within rows Serialize patterns steps) (choices_within rows Serialize patterns steps)
+    (expanded_payload (flattened_in rows) (part_enums rows) p) in
+    let found = member tag (string name) no_members in
+    let ms = json.member content j json.no_members in
+    let r = object_parts (of_members (json.member tag (json.string name) ms) no_members) d reads in
+    let enough : suc (members_depth r.0) * length rows ≤ steps = subst (λ v. depth v * length rows ≤ steps) (sym r.2) few in
+    let each = read_members (InAdjacent tag name content j) ms found r.0 (λ v is. inr (refl, is), tt) (inl (refl, refl), tt) r.1 in
+    subst (λ v. has_beside tag name content test closed v ≡ true) r.2
+    (both_true (is_some (get_member tag r.0)) (is_some (get_member content r.0) && every_member (adjacent_fits tag name content test closed) r.0)
+    (stays tag ms found r.0 (ap is_some (get_member-here tag (string name) no_members)) r.1)
+    (both_true (is_some (get_member content r.0)) (every_member (adjacent_fits tag name content test closed) r.0)
+    (comes content ms found r.0 (inl refl) r.1)
+    (adjacent_hold tag name content test closed j (members_depth r.0) r.0 differ
+    (λ v is deep. passes v is (inside_enough rows p (depth v) steps low (wide (depth v) (members_depth r.0) deep enough))) (omega arith) each)))
+  where
+    wide : (a h : ℕ) → a ≤ h → suc h * length rows ≤ steps → suc a * length rows ≤ steps
+    wide a h less few = omega (arith, mul-le (suc a) (length rows) (suc h) (length rows) (omega arith) (omega arith))
+
+pub adjacent_agrees : (rows : List Row) → IsChecked rows → (n : ℕ) (tag content : Text) (closed : Bool) (name : Text) (case : Case) (p : Payload)
+    → HasVariantAt rows n (by_tag_and_content tag content closed) (spelled case kind.Variant name) p → IsFull p → (count : ℕ) (w : Log → Log → Type 0)
+    → Gives w (PayloadMeans rows p) → Gives (Struct count (Beside tag name case (gives.Field content w Done))) (Means rows n)
+adjacent_agrees rows checked n tag content closed name case p row full count w given =
+    let t = spelled case kind.Variant name in
+    let tagging = by_tag_and_content tag content closed in
+    let Q : json.Members → Type 0 = FirstMember content (PayloadMeans rows p) NoMembers in
+    let low = payload_low rows checked n tagging row.0 row.1 t p row.2 in
+    weaker (Struct count (Beside tag name case (gives.Field content w Done))) (IsObject (FirstMember tag (IsName t) Q)) (Means rows n)
+    (at_tag rows n tag t Q (content_means low))
+    (struct_gives count (Beside tag name case (gives.Field content w Done)) (FirstMember tag (IsName t) Q)
+    (beside_gives tag name case (gives.Field content w Done) Q
+    (member_gives content (λ old new. Logs old new (event.field_key content AsIs)) w Done (PayloadMeans rows p) NoMembers (field_key_gives content) given done_gives)))
+  where
+    content_means : ((m : ℕ) → Contains (payload_numbers p) m → (m < length rows) × (rank rows m < length rows)) → (ms : json.Members)
+        → FirstMember content (PayloadMeans rows p) NoMembers ms
+        → Means rows n (json.object (json.member tag (json.string (spelled case kind.Variant name)) ms))
+    content_means low json.no_members all = absurd all
+    content_means low (json.member k j (json.member l i ms)) all = absurd all.2
+    content_means low (json.member k j json.no_members) all =
+        let t = spelled case kind.Variant name in
+        let tagging = by_tag_and_content tag content closed in
+        subst (λ (c : Text). Means rows n (json.object (json.member tag (json.string t) (json.member c j json.no_members)))) (sym all.0)
+        (λ patterns d reads. enum_fits rows patterns n tagging t p row d (λ steps notes few.
+        under_content rows patterns steps tag content closed t p notes d full
+        (beside_holds rows patterns tag content closed t p j d steps low (keys_apart rows checked n tag content closed row.0 row.1)
+        (λ v is enough. payload_holds rows patterns p j v steps low (payload_apart rows checked n tagging row.0 row.1 t p row.2) all.1 is enough)
+        reads (omega arith))))

@@ -1,27 +1,35 @@
 -- The laws of implementations, in the form in which they are cited.
-use Rattle.std.proofs.Common.{◌≡◌, ℕ, zero, suc, ◌+◌, ◌<◌, ◌≤◌, ◌^◌, ℤ, pos, negsuc, List, [], ◌∷◌, length, Bool, true, false, Option, refl, arith}
-use Rattle.std.specs.Prelude.{All, FitsSigned}
+use Rattle.std.proofs.Common.{◌≡◌, inl, inr, ℕ, zero, suc, ◌+◌, ◌<◌, ◌≤◌, ◌^◌, ℤ, pos, negsuc, List, [], ◌∷◌, length, Bool, true, false, Option, Float, refl, arith}
+use Rattle.std.specs.Prelude.{All, FitsSigned, IsTrue}
+use Rattle.std.specs.Float.{float_is_finite}
 use Rattle.std.specs.Int.{w8, w16, w32, w64}
 use Rattle.std.proofs.lemmas.Grind.{common_steps}
 use Rattle.std.proofs.lemmas.Int.{ints}
 use Rattle.std.proofs.lemmas.Bool.Decides.{nat_tests}
 use Rattle.json.specs.Json as json
 use Rattle.serde.specs.Event as event
-use Rattle.serde.specs.Event.{Log, Logs, WritesSeq, WritesOption, WritesMap, InSeq, Then}
+use Rattle.serde.specs.Event.{Log, Logs, WritesEach, WritesSeq, WritesOption, WritesMap, InSeq, Then}
+use Rattle.serde_json.specs.Events.{number_event}
+use Rattle.serde_json.specs.Number.{num_of, is_valid}
+use Rattle.serde_json.specs.View.{number_view}
+use Rattle.serde_json.specs.declared.number.N.{N}
+use Rattle.serde_json.specs.declared.number.N.TheVariants as kept
+use Rattle.serde_json.specs.declared.number.Number.{Number}
 use Rattle.schemars_schema.specs.Json.{Text}
 use Rattle.schemars_shapes.specs.Shape as shape
 use Rattle.schemars_shapes.specs.Shape.{Field}
 use Rattle.schemars_shapes.specs.declared.shape.IntKind.{IntKind}
-use Rattle.schemars_shapes.specs.declared.shape.IntKind.TheVariants.{U8, U16, U32, U64, Usize, I8, I16, I32, I64, Isize}
+use Rattle.schemars_shapes.specs.declared.shape.IntKind.TheVariants.{U8, U16, U32, U64, U128, Usize, I8, I16, I32, I64, I128, Isize}
 use Rattle.schemars_types.specs.Rows.{Row}
 use Rattle.schemars_types.specs.Faults.{IsChecked}
 use Rattle.schemars_types.specs.Meaning.{is_of_kind}
 use Rattle.schemars_written.specs.Gives as gives
-use Rattle.schemars_written.specs.Gives.{Gives, GivesMembers, Done, Struct, NoMembers, IsArray}
-use Rattle.schemars_written.specs.Fits.{HasShape, HasFields, NextField, LastField, Means, OfSome}
-use Rattle.schemars_written.proofs.Atoms.{weaker, IsSigned64, unsigned_agrees, signed_agrees, bool_agrees, unit_agrees, text_agrees, char_agrees}
-use Rattle.schemars_written.proofs.Lists.{option_agrees, seq_agrees, array_agrees, pair_agrees, Of, tuple_means, in_seq_gives, then_give, last_gives}
-use Rattle.schemars_written.proofs.Objects.{Matches, struct_agrees, field_gives, done_gives, map_agrees}
+use Rattle.schemars_written.specs.Gives.{Gives, GivesMembers, Done, Struct, NoMembers, NoItems, IsArray}
+use Rattle.schemars_written.specs.Fits.{IsWithin64, IsNumberRow, HasShape, IsArrayRow, HasFields, NextField, NextOptional, LastField, Means, OfSome}
+use Rattle.schemars_written.proofs.Atoms.{weaker, unsigned_gives, signed_gives, unsigned_agrees, signed_agrees, bool_agrees, unit_agrees, text_agrees, char_agrees}
+use Rattle.schemars_written.proofs.Values.{number_means, double_gives, single_agrees, double_agrees}
+use Rattle.schemars_written.proofs.Lists.{no_items_give, option_agrees, seq_agrees, array_agrees, pair_agrees, Of, tuple_means, in_seq_gives, then_give, last_gives}
+use Rattle.schemars_written.proofs.Objects.{Matches, struct_agrees, field_gives, field_if_gives, done_gives, map_agrees}
 
 -- ---- whole numbers
 
@@ -44,7 +52,7 @@ u64_law rows n v checked row valid = unsigned_agrees rows n v U64 row valid (gri
 pub usize_law : Unsigned Usize 64
 usize_law rows n v checked row valid = unsigned_agrees rows n v Usize row valid (grind (arith, nat_tests))
 
-within : (w : _) (z : ℤ) → FitsSigned w z → FitsSigned w64 z → IsSigned64 z
+within : (w : _) (z : ℤ) → FitsSigned w z → FitsSigned w64 z → IsWithin64 z
 within w (pos v) fits wide = omega (arith, ints)
 within w (negsuc v) fits wide = omega (arith, ints)
 
@@ -67,6 +75,36 @@ i64_law rows n z checked row valid = signed_agrees rows n z I64 row (within w64 
 pub isize_law : (rows : List Row) (n : ℕ) (z : ℤ) → IsChecked rows → HasShape rows n (shape.int Isize) → FitsSigned w64 z
     → Gives (λ old new. Logs old new (event.signed z)) (Means rows n)
 isize_law rows n z checked row valid = signed_agrees rows n z Isize row (within w64 z valid valid) refl
+
+-- ---- whole numbers of 128 bits
+
+pub u128_law : Unsigned U128 64
+u128_law rows n v checked row valid = unsigned_agrees rows n v U128 row valid (grind (arith, nat_tests))
+
+pub i128_law : (rows : List Row) (n : ℕ) (z : ℤ) → IsChecked rows → HasShape rows n (shape.int I128) → IsWithin64 z
+    → Gives (λ old new. Logs old new (event.signed z)) (Means rows n)
+i128_law rows n z checked row valid = signed_agrees rows n z I128 row valid refl
+
+-- ---- numbers
+
+pub f32_law : (rows : List Row) (n : ℕ) (x : Float) → IsChecked rows → IsNumberRow rows n → IsTrue (float_is_finite x)
+    → Gives (λ old new. Logs old new (event.single x)) (Means rows n)
+f32_law rows n x checked row valid = single_agrees rows n x row valid
+
+pub f64_law : (rows : List Row) (n : ℕ) (x : Float) → IsChecked rows → IsNumberRow rows n → IsTrue (float_is_finite x)
+    → Gives (λ old new. Logs old new (event.double x)) (Means rows n)
+f64_law rows n x checked row valid = double_agrees rows n x row valid
+
+-- what a `Number` keeps
+number_sent : (rows : List Row) (n : ℕ) → HasShape rows n shape.number → (k : N) → is_valid k ≡ true
+    → Gives (λ old new. Logs old new (number_event (num_of k))) (Means rows n)
+number_sent rows n row (kept.PosInt v) valid = unsigned_gives v (Means rows n) (number_means rows n row _)
+number_sent rows n row (kept.NegInt z) valid = signed_gives z (Means rows n) (number_means rows n row _)
+number_sent rows n row (kept.Float x) valid = double_gives x (Means rows n) (number_means rows n row) (λ no. absurd (cc))
+
+pub number_law : (rows : List Row) (n : ℕ) (x : Number) → HasShape rows n shape.number
+    → Gives (λ old new. Logs old new (number_event (number_view x))) (Means rows n)
+number_law rows n x row = number_sent rows n row x.n x.valid
 
 -- ---- holders
 
@@ -94,6 +132,15 @@ pub array_law : {A : Type 0} (rows : List Row) → IsChecked rows → (n len : �
     → (xs : List A) → (length xs ≡ len) × All V xs → Gives (WritesSeq w xs) (Means rows n)
 array_law rows checked n len w V R given row xs valid =
     array_agrees rows checked n row.0 len row.1 w V (λ x v. given row.0 x row.2 v) xs valid.0 valid.1
+
+pub any_array_law : {A : Type 0} (rows : List Row) → IsChecked rows → (n len : ℕ) (w : A → Log → Log → Type 0) (V : A → Type 0)
+    (R : List Row → ℕ → Type 0) → Part rows w V R → IsArrayRow R len rows n
+    → (xs : List A) → (length xs ≡ len) × All V xs → Gives (WritesSeq w xs) (Means rows n)
+any_array_law rows checked n len w V R given (inl row) xs valid = array_law rows checked n len w V R given row xs valid
+any_array_law rows checked n len w V R given (inr empty) [] valid =
+    weaker (WritesSeq w []) (IsArray (Of rows [])) (Means rows n) (tuple_means rows checked n [] empty.1)
+    (in_seq_gives 0 (WritesEach w []) NoItems no_items_give)
+any_array_law rows checked n len w V R given (inr empty) (x ∷ xs) valid = absurd (omega (arith, valid.0, empty.0))
 
 pub pair_law : {A B : Type 0} (rows : List Row) → IsChecked rows → (n : ℕ) (v : A → Log → Log → Type 0) (w : B → Log → Log → Type 0)
     (V : A → Type 0) (W : B → Type 0) (R S : List Row → ℕ → Type 0) → Part rows v V R → Part rows w W S
@@ -124,6 +171,14 @@ pub next_field : (rows : List Row) (name : Text) (R : ℕ → Type 0) (others : 
     → ((m : ℕ) → R m → Gives w (Means rows m)) → FieldsAgree rows others ws → FieldsAgree rows (NextField name R others) (gives.Field name w ws)
 next_field rows name R others w ws value more [] is = absurd is
 next_field rows name R others w ws value more (f ∷ fs) is = field_gives rows name f fs w ws is.0 (value f.ty is.1) (more fs is.2)
+
+-- a field that is written only if b is true
+pub next_field_if : (rows : List Row) (b : Bool) (name : Text) (R : ℕ → Type 0) (others : List Field → Type 0) (w ws : Log → Log → Type 0)
+    → ((m : ℕ) → R m → Gives w (Means rows m)) → FieldsAgree rows others ws
+    → FieldsAgree rows (NextOptional name R others) (gives.FieldIf b name w ws)
+next_field_if rows b name R others w ws value more [] is = absurd is
+next_field_if rows b name R others w ws value more (f ∷ fs) is =
+    field_if_gives rows b name f fs w ws is.0 is.2 (value f.ty is.1) (more fs is.3)
 
 pub struct_law : (rows : List Row) → IsChecked rows → (n count : ℕ) (fields : List Field → Type 0) (w : Log → Log → Type 0)
     → HasFields rows n fields → FieldsAgree rows fields w → Gives (Struct count w) (Means rows n)

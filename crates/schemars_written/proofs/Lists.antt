@@ -48,7 +48,7 @@ option_agrees rows checked n m is w (Some a) given =
 
 -- ---- lists
 
-no_items_give : GivesItems (λ old new. new ≡ old) NoItems
+pub no_items_give : GivesItems (λ old new. new ≡ old) NoItems
 no_items_give es new sent = (
   [],
   sent ∙ ap Some (sym (append-nil es)),
@@ -111,7 +111,7 @@ item_parts None os ds h = absurd (cc)
 item_parts (Some d) None ds h = absurd (cc)
 item_parts (Some d) (Some es) ds h = (d, es, refl, refl, Some_same (item d es) ds h)
 
-array_parts : (os : Option Items) (d : Data) → option_map array os ≡ Some d → (ds : Items) × (os ≡ Some ds) × (array ds ≡ d)
+pub array_parts : (os : Option Items) (d : Data) → option_map array os ≡ Some d → (ds : Items) × (os ≡ Some ds) × (array ds ≡ d)
 array_parts None d h = absurd (cc)
 array_parts (Some ds) d h = (ds, refl, Some_same (array ds) d h)
 
@@ -196,7 +196,7 @@ abbrev pub Of : List Row → List ℕ → json.Items → Type 0
 Of rows [] js = NoItems js
 Of rows (n ∷ ns) js = First (Means rows n) (Of rows ns) js
 
-parts_fit : (rows : List Row) (patterns : Patterns) (ns : List ℕ) (js : json.Items) (ds : Items)
+pub parts_fit : (rows : List Row) (patterns : Patterns) (ns : List ℕ) (js : json.Items) (ds : Items)
     → ((m : ℕ) → Contains ns m → rank rows m < length rows) → Of rows ns js → of_items js ≡ Some ds
     → (h steps : ℕ) → items_depth ds ≤ h → suc h * length rows ≤ steps
     → each_of (belongs_within rows Serialize patterns steps) ns ds ≡ true

@@ -1,5 +1,5 @@
 -- A loop over the entries of a map, and what calls give.
-use Rattle.std.proofs.Common.{◌≡◌, ℕ, zero, suc, ◌<◌, ◌≤◌, get_or, drop, List, [], ◌∷◌, ◌++◌, length, Bool, true, false, Some, Result, Ok, Err, IfOk, refl, sym, ap, ◌∙◌, subst, append_assoc, append-nil, arith}
+use Rattle.std.proofs.Common.{◌≡◌, ℕ, zero, suc, ◌<◌, ◌≤◌, get_or, drop, List, [], ◌∷◌, ◌++◌, length, Bool, true, false, Some, Result, Ok, Err, IfOk, inl, inr, refl, sym, ap, ◌∙◌, subst, append_assoc, append-nil, arith}
 use Rattle.std.specs.Prelude.{All, map, string_bytes, String}
 use Rattle.std.specs.declared.alloc.Global.{Global}
 use Rattle.std.proofs.lemmas.List.Elements.{All-push}
@@ -11,14 +11,16 @@ use Rattle.serde_json.specs.View.{view}
 use Rattle.serde_json.specs.declared.value.Value.{Value}
 use Rattle.schemars_schema.specs.Json.{Text}
 use Rattle.schemars_shapes.specs.Shape as shape
-use Rattle.schemars_shapes.specs.Shape.{Field, fields_of, field_of, flattened_of}
+use Rattle.schemars_shapes.specs.Shape.{Field, fields_of, field_of, flattened_of, payload_of, variant_of, internal_payload_of, internal_variant_of}
+use Rattle.schemars_shapes.specs.declared.variant.Variant as src-variant
+use Rattle.schemars_shapes.specs.declared.variant.InternalVariant as src-internal
 use Rattle.schemars_shapes.specs.declared.shape.Field as src-field
 use Rattle.schemars_shapes.specs.declared.shape.Fields as src-fields
 use Rattle.schemars_shapes.specs.declared.shape.Flattened as src-flattened
 use Rattle.schemars_types.specs.Rows.{Row}
 use Rattle.schemars_types.specs.Faults.{IsChecked}
 use Rattle.schemars_written.specs.Gives.{Gives}
-use Rattle.schemars_written.specs.Fits.{Means, HasShape, HasList, HasFields, NextField, LastField}
+use Rattle.schemars_written.specs.Fits.{Means, HasShape, HasList, HasFields, NextField, LastField, HasVariant}
 use Rattle.schemars_written.specs.Writes.{Belongs, BelongsAsRead}
 use Rattle.schemars_written.proofs.Final.{as_read}
 
@@ -94,3 +96,21 @@ last_at xs i all = subst (λ (ys : List src-field.Field). LastField (map field_o
 pub to_fields : (rows : List Row) (n : ℕ) (P : List Field → Type 0) (xs : List src-field.Field) → HasList rows n (map field_of xs)
     → P (map field_of (drop 0 xs)) → HasFields rows n P
 to_fields rows n P xs is p = (map field_of xs, is.0, is.1, p)
+
+-- ---- variants by their places
+
+pub variant_at : (name : Text) (xs : List src-variant.Variant) (i : ℕ) (x : src-variant.Variant) → x ≡ get_or xs i x → i < length xs
+    → string_bytes x.name ≡ name → HasVariant name (payload_of x.payload) (map variant_of xs)
+variant_at name [] i x is low named = absurd (omega arith)
+variant_at name (y ∷ ys) zero x is low named =
+    inl (ap (λ (z : src-variant.Variant). string_bytes z.name) (sym is) ∙ named, ap (λ (z : src-variant.Variant). payload_of z.payload) (sym is))
+variant_at name (y ∷ ys) (suc i) x is low named = inr (variant_at name ys i x is (omega arith) named)
+
+pub inside_at : (name : Text) (xs : List src-internal.InternalVariant) (i : ℕ) (x : src-internal.InternalVariant) → x ≡ get_or xs i x → i < length xs
+    → string_bytes x.name ≡ name → HasVariant name (internal_payload_of x.payload) (map internal_variant_of xs)
+inside_at name [] i x is low named = absurd (omega arith)
+inside_at name (y ∷ ys) zero x is low named = inl (
+  ap (λ (z : src-internal.InternalVariant). string_bytes z.name) (sym is) ∙ named,
+  ap (λ (z : src-internal.InternalVariant). internal_payload_of z.payload) (sym is),
+)
+inside_at name (y ∷ ys) (suc i) x is low named = inr (inside_at name ys i x is (omega arith) named)

@@ -33,7 +33,7 @@ use Rattle.schemars_types.specs.Edges.{rank, names_at}
 use Rattle.schemars_types.specs.Faults.{IsChecked}
 use Rattle.schemars_types.specs.KeyOptions.{key_options, is_key_allowed, all_options, shape_options, distinct_options, or_any_text}
 use Rattle.schemars_types.proofs.Settling.{all_options-shape}
-use Rattle.schemars_types.specs.Meaning.{belongs_within, every_member, member_fits, field_named, has_required, is_required}
+use Rattle.schemars_types.specs.Meaning.{belongs_within, every_member, member_fits, field_named, has_fields, has_required, is_required}
 use Rattle.schemars_types.specs.declared.contract.Contract.TheVariants.{Serialize}
 use Rattle.schemars_written.specs.Gives as gives
 use Rattle.schemars_written.specs.Gives.{IsPlain, Gives, GivesMembers, SpellsMembers, LeadsMembers, NoMembers, FirstMember, EachMember, IsObject, Done, Struct}
@@ -153,7 +153,7 @@ object_parts None d h = absurd (cc)
 object_parts (Some ds) d h = (ds, refl, Some_same (object ds) d h)
 
 -- a key that was there, or comes, is there
-HasKey : Text → json.Members → Type 0
+abbrev pub HasKey : Text → json.Members → Type 0
 HasKey k json.no_members = ⊥
 HasKey k (json.member l j ms) = (l ≡ k) ⊎ HasKey k ms
 
@@ -164,16 +164,15 @@ put_stays k l d ms held = go (bytes_eq k l) refl
     go true is = ap is_some (ap (λ (x : Text). get_member x (put l d ms)) ((bytes_eq-Decides k l).0 is) ∙ get_member-put l d ms)
     go false is = ap is_some (get_member-put_other k l d ms (differ k l is)) ∙ held
 
-stays : (k : Text) (ms : json.Members) (found all : Members) → is_some (get_member k found) ≡ true → of_members ms found ≡ Some all
+pub stays : (k : Text) (ms : json.Members) (found all : Members) → is_some (get_member k found) ≡ true → of_members ms found ≡ Some all
     → is_some (get_member k all) ≡ true
 stays k json.no_members found all held reads = subst (λ (x : Members). is_some (get_member k x) ≡ true) (Some_same found all reads) held
 stays k (json.member l j ms) found all held reads =
     let r = member_parts (of_json j) (λ d. of_members ms (put l d found)) all reads in
     stays k ms (put l r.0 found) all (put_stays k l r.0 found held) r.2
 
-comes : (k : Text) (ms : json.Members) (found all : Members) → HasKey k ms → of_members ms found ≡ Some all
+pub comes : (k : Text) (ms : json.Members) (found all : Members) → HasKey k ms → of_members ms found ≡ Some all
     → is_some (get_member k all) ≡ true
-unfolding HasKey
 comes k json.no_members found all held reads = absurd held
 comes k (json.member l j ms) found all (inl same) reads =
     let r = member_parts (of_json j) (λ d. of_members ms (put l d found)) all reads in
@@ -188,10 +187,10 @@ comes k (json.member l j ms) found all (inr later) reads =
 -- the members are those of these fields, in order; one that need not be written may be left out
 abbrev pub Matches : List Row → List Field → json.Members → Type 0
 Matches rows [] ms = NoMembers ms
-Matches rows (f ∷ fs) ms = FirstMember f.name (Means rows f.ty) (Matches rows fs) ms
+Matches rows (f ∷ fs) ms = FirstMember f.name (Means rows f.ty) (Matches rows fs) ms ⊎ ((f.required.serialize ≡ false) × Matches rows fs ms)
 
 -- a member is of the field of its name
-abbrev OfField : List Row → List Field → Text → Json → Type 0
+abbrev pub OfField : List Row → List Field → Text → Json → Type 0
 OfField rows fs k j = (f : Field) × (field_named fs k ≡ Some f) × Means rows f.ty j
 
 -- the names of fields differ
@@ -205,31 +204,32 @@ named_here f fs k same =
 named_later : (f : Field) (fs : List Field) (k : Text) → bytes_eq f.name k ≡ false → field_named (f ∷ fs) k ≡ field_named fs k
 named_later f fs k other = ap (λ (b : Bool). if b then Some f else field_named fs k) other
 
-name_of_found : (g : Field) (fs : List Field) (f : Field) (k : Text) → AllByRecursion (λ y. bytes_eq f.name y ≡ false) (map (λ x. x.name) fs)
-    → field_named fs k ≡ Some g → bytes_eq f.name k ≡ false
-name_of_found g [] f k apart at = absurd (cc)
-name_of_found g (h ∷ fs) f k apart at = go (bytes_eq h.name k) refl (name_of_found g fs f k apart.1)
+pub name_of_found : (g : Field) (fs : List Field) (t : Text) (k : Text) → AllByRecursion (λ y. bytes_eq t y ≡ false) (map (λ x. x.name) fs)
+    → field_named fs k ≡ Some g → bytes_eq t k ≡ false
+name_of_found g [] t k apart at = absurd (cc)
+name_of_found g (h ∷ fs) t k apart at = go (bytes_eq h.name k) refl (name_of_found g fs t k apart.1)
   where
-    go : (b : Bool) → bytes_eq h.name k ≡ b → (field_named fs k ≡ Some g → bytes_eq f.name k ≡ false) → bytes_eq f.name k ≡ false
-    go true is later = subst (λ (x : Text). bytes_eq f.name x ≡ false) ((bytes_eq-Decides h.name k).0 is) apart.0
+    go : (b : Bool) → bytes_eq h.name k ≡ b → (field_named fs k ≡ Some g → bytes_eq t k ≡ false) → bytes_eq t k ≡ false
+    go true is later = subst (λ (x : Text). bytes_eq t x ≡ false) ((bytes_eq-Decides h.name k).0 is) apart.0
     go false is later = later (sym (named_later h fs k is) ∙ at)
 
 wider : (rows : List Row) (f : Field) (fs : List Field) → AllByRecursion (λ y. bytes_eq f.name y ≡ false) (map (λ x. x.name) fs)
     → (ms : json.Members) → EachJson (OfField rows fs) ms → EachJson (OfField rows (f ∷ fs)) ms
 wider rows f fs apart json.no_members each = tt
 wider rows f fs apart (json.member k j ms) each =
-    ((each.0.0, named_later f fs k (name_of_found each.0.0 fs f k apart each.0.1) ∙ each.0.1, each.0.2), wider rows f fs apart ms each.1)
+    ((each.0.0, named_later f fs k (name_of_found each.0.0 fs f.name k apart each.0.1) ∙ each.0.1, each.0.2), wider rows f fs apart ms each.1)
 
-of_fields : (rows : List Row) (fs : List Field) → Apart fs → (ms : json.Members) → Matches rows fs ms → EachJson (OfField rows fs) ms
+pub of_fields : (rows : List Row) (fs : List Field) → Apart fs → (ms : json.Members) → Matches rows fs ms → EachJson (OfField rows fs) ms
 unfolding IsDistinct
 of_fields rows [] apart json.no_members given = tt
 of_fields rows [] apart (json.member k j ms) given = absurd given
-of_fields rows (f ∷ fs) apart json.no_members given = absurd given
-of_fields rows (f ∷ fs) apart (json.member k j ms) given =
+of_fields rows (f ∷ fs) apart json.no_members (inl given) = absurd given
+of_fields rows (f ∷ fs) apart (json.member k j ms) (inl given) =
     ((f, named_here f fs k given.0, given.1), wider rows f fs apart.0 ms (of_fields rows fs apart.1 ms given.2))
+of_fields rows (f ∷ fs) apart ms (inr given) = wider rows f fs apart.0 ms (of_fields rows fs apart.1 ms given.1)
 
 -- a field whose row is a row
-named_number : (fs : List Field) (k : Text) (f : Field) → field_named fs k ≡ Some f → Contains (map (λ x. x.ty) fs) f.ty
+pub named_number : (fs : List Field) (k : Text) (f : Field) → field_named fs k ≡ Some f → Contains (map (λ x. x.ty) fs) f.ty
 named_number [] k f at = absurd (cc)
 named_number (g ∷ fs) k f at = go (bytes_eq g.name k) refl (named_number fs k f)
   where
@@ -267,11 +267,11 @@ fields_hold rows patterns fs list closed steps h (member k d ms) known same many
     (every_member (λ k w. member_fits (belongs_within rows Serialize patterns steps) list closed k w) ms) first
     (fields_hold rows patterns fs list closed steps h ms known same many (omega arith) all.1)
 
-has_keys_of : (rows : List Row) (fs : List Field) (ms : json.Members) → Matches rows fs ms → (all found : Members) → of_members ms found ≡ Some all
+pub has_keys_of : (rows : List Row) (fs : List Field) (ms : json.Members) → Matches rows fs ms → (all found : Members) → of_members ms found ≡ Some all
     → has_required Serialize fs all ≡ true
 has_keys_of rows [] ms given all found reads = refl
-has_keys_of rows (f ∷ fs) json.no_members given all found reads = absurd given
-has_keys_of rows (f ∷ fs) (json.member k j ms) given all found reads =
+has_keys_of rows (f ∷ fs) json.no_members (inl given) all found reads = absurd given
+has_keys_of rows (f ∷ fs) (json.member k j ms) (inl given) all found reads =
     let r = member_parts (of_json j) (λ d. of_members ms (put k d found)) all reads in
     let here : is_some (get_member f.name all) ≡ true =
     ap is_some (ap (λ (x : Text). get_member x all) (sym given.0))
@@ -283,6 +283,10 @@ has_keys_of rows (f ∷ fs) (json.member k j ms) given all found reads =
     or_right : (a b : Bool) → b ≡ true → (a || b) ≡ true
     or_right true b h = refl
     or_right false b h = h
+has_keys_of rows (f ∷ fs) ms (inr given) all found reads =
+    both_true (not (is_required Serialize f.required) || is_some (get_member f.name all)) (has_required Serialize fs all)
+    (ap (λ (b : Bool). not b || is_some (get_member f.name all)) given.0)
+    (has_keys_of rows fs ms given.1 all found reads)
 
 members_are : (rows : List Row) (fs : List Field) (patterns : Patterns) (ms : json.Members) → EachJson (OfField rows fs) ms
     → EachJson (λ k j. (d : Data) → of_json j ≡ Some d → (f : Field) × (field_named fs k ≡ Some f) × Fits rows patterns f.ty d) ms
@@ -293,6 +297,22 @@ members_are rows fs patterns (json.member k j ms) each =
 abbrev pub plain_fields : List Field → Bool → shape.Fields
 plain_fields fs closed = record { list = fs; flatten = []; closed = closed }
 
+-- members of fields are what a struct of them has
+pub fields_belong : (rows : List Row) (patterns : Patterns) (fs : List Field) (closed : Bool) (ms : json.Members) (d : Data) (steps : ℕ)
+    → ((m : ℕ) → Contains (map (λ f. f.ty) fs) m → (m < length rows) × (rank rows m < length rows)) → Apart fs → Matches rows fs ms
+    → of_json (json.object ms) ≡ Some d → depth d * length rows ≤ steps
+    → has_fields Serialize (belongs_within rows Serialize patterns steps) [] (fs ++ []) closed d ≡ true
+fields_belong rows patterns fs closed ms d steps low apart all reads few =
+    let r = object_parts (of_members ms no_members) d reads in
+    let enough : suc (members_depth r.0) * length rows ≤ steps = subst (λ v. depth v * length rows ≤ steps) (sym r.2) few in
+    let each = read_members (λ k d. (f : Field) × (field_named fs k ≡ Some f) × Fits rows patterns f.ty d) ms no_members r.0
+    (members_are rows fs patterns ms (of_fields rows fs apart ms all)) tt r.1 in
+    subst (λ v. has_fields Serialize (belongs_within rows Serialize patterns steps) [] (fs ++ []) closed v ≡ true) r.2
+    (both_true (every_member (λ k w. member_fits (belongs_within rows Serialize patterns steps) (fs ++ []) closed k w) r.0)
+    (has_required Serialize (fs ++ []) r.0)
+    (fields_hold rows patterns fs (fs ++ []) closed steps (members_depth r.0) r.0 low (append-nil fs) enough (omega arith) each)
+    (subst (λ (l : List Field). has_required Serialize l r.0 ≡ true) (sym (append-nil fs)) (has_keys_of rows fs ms all r.0 no_members r.1)))
+
 pub struct_means : (rows : List Row) → IsChecked rows → (n : ℕ) (fs : List Field) (closed : Bool) → HasShape rows n (shape.struct (plain_fields fs closed))
     → (j : Json) → IsObject (Matches rows fs) j → Means rows n j
 struct_means rows checked n fs closed is json.null all = absurd all
@@ -301,18 +321,11 @@ struct_means rows checked n fs closed is (json.number s) all = absurd all
 struct_means rows checked n fs closed is (json.string s) all = absurd all
 struct_means rows checked n fs closed is (json.array js) all = absurd all
 struct_means rows checked n fs closed is (json.object ms) all = λ patterns d reads.
-    let r = object_parts (of_members ms no_members) d reads in
-    let apart = names_apart rows checked n fs closed is in
-    let each = read_members (λ k d. (f : Field) × (field_named fs k ≡ Some f) × Fits rows patterns f.ty d) ms no_members r.0
-    (members_are rows fs patterns ms (of_fields rows fs apart ms all)) tt r.1 in
-    subst (λ x. Fits rows patterns n x) r.2 (step rows patterns n (shape.struct (plain_fields fs closed)) (object r.0) is (λ steps few.
-    both_true (every_member (λ k w. member_fits (belongs_within rows Serialize patterns steps) (fs ++ []) closed k w) r.0)
-    (has_required Serialize (fs ++ []) r.0)
-    (fields_hold rows patterns fs (fs ++ []) closed steps (members_depth r.0) r.0
+    step rows patterns n (shape.struct (plain_fields fs closed)) d is (λ steps few.
+    fields_belong rows patterns fs closed ms d steps
     (λ m c. let low = part_low rows checked n m (shape.struct (plain_fields fs closed)) is
     (subst (λ (xs : List ℕ). Contains xs m) (sym (append-nil (map (λ f. f.ty) fs))) c) in (low, checked.rank_bound m low))
-    (append-nil fs) (omega arith) (omega arith) each)
-    (subst (λ (l : List Field). has_required Serialize l r.0 ≡ true) (sym (append-nil fs)) (has_keys_of rows fs ms all r.0 no_members r.1))))
+    (names_apart rows checked n fs closed is) all reads (omega arith))
   where
     names_apart : (rows : List Row) → IsChecked rows → (n : ℕ) (fs : List Field) (closed : Bool)
         → HasShape rows n (shape.struct (plain_fields fs closed)) → Apart fs
@@ -333,7 +346,17 @@ pub field_gives : (rows : List Row) (name : Text) (f : Field) (fs : List Field) 
 field_gives rows name f fs w ws same value others es new sent =
     let a = member_gives name (λ old new. Logs old new (event.field_key name AsIs)) w ws (Means rows f.ty) (Matches rows fs)
     (field_key_gives name) value others es new sent in
-    subst (λ (k : Text). (added : List Event) × (new ≡ Some (es ++ added)) × SpellsMembers (FirstMember k (Means rows f.ty) (Matches rows fs)) added) (sym same) a
+    let b = subst (λ (k : Text). (added : List Event) × (new ≡ Some (es ++ added)) × SpellsMembers (FirstMember k (Means rows f.ty) (Matches rows fs)) added) (sym same) a in
+    (b.0, b.1, λ rest s last plain run. let c = b.2 rest s last plain run in (c.0, c.1, inl c.2, c.3, c.4, c.5))
+
+-- a field that may be left out, and then the others
+pub field_if_gives : (rows : List Row) (b : Bool) (name : Text) (f : Field) (fs : List Field) (w ws : Log → Log → Type 0) → f.name ≡ name
+    → f.required.serialize ≡ false → Gives w (Means rows f.ty) → GivesMembers ws (Matches rows fs)
+    → GivesMembers (gives.FieldIf b name w ws) (Matches rows (f ∷ fs))
+field_if_gives rows true name f fs w ws same free value others = field_gives rows name f fs w ws same value others
+field_if_gives rows false name f fs w ws same free value others = λ es new sent.
+    let a = others es new sent in
+    (a.0, a.1, λ rest s last plain run. let c = a.2 rest s last plain run in (c.0, c.1, inr (free, c.2), c.3, c.4, c.5))
 
 -- ---- maps with texts as keys
 

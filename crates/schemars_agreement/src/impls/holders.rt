@@ -1,13 +1,30 @@
 //! What holds other values.
 ghost use Rattle.std.specs.Prelude.{◌≡◌, ◌∷◌, [], ℕ, All, length};
 ghost use Rattle.schemars_shapes.specs.Shape.{Shape as shape};
-ghost use Rattle.schemars_written.specs.Fits.{HasShape, OfSome};
-ghost use Rattle.schemars_written.proofs.Laws.{option_law, vec_law, array_law, single_law, pair_law, triple_law, quadruple_law};
+ghost use Rattle.schemars_written.specs.Fits.{HasShape, IsArrayRow, OfSome};
+ghost use Rattle.schemars_written.proofs.Laws.{option_law, vec_law, any_array_law, single_law, pair_law, triple_law, quadruple_law};
 
 use crate::law::Agrees;
 use crate::row::shape_at;
 use schemars_types::{Shape, TypeNo, Types};
 use std::collections::VecDeque;
+
+/// What is said of a reference is said of what it refers to.
+impl<T: Agrees> Agrees for &T {
+    ghost valid = { λ r. T.valid r.now };
+
+    ghost is_row = { T.is_row };
+
+    ghost agrees = { λ rows n r checked row valid. T.agrees rows n r.now checked row valid };
+
+    fn has_row(types: &Types, n: TypeNo) -> bool {
+        T::has_row(types, n)
+    }
+
+    fn is_valid(&self) -> bool {
+        (**self).is_valid()
+    }
+}
 
 impl<T: Agrees> Agrees for Box<T> {
     ghost valid = { λ b. T.valid b.value };
@@ -20,8 +37,8 @@ impl<T: Agrees> Agrees for Box<T> {
         T::has_row(types, n)
     }
 
-    fn look(&self) {
-        (**self).look();
+    fn is_valid(&self) -> bool {
+        (**self).is_valid()
     }
 }
 
@@ -40,9 +57,10 @@ impl<T: Agrees> Agrees for Option<T> {
         }
     }
 
-    fn look(&self) {
-        if let Some(value) = self {
-            value.look();
+    fn is_valid(&self) -> bool {
+        match self {
+            Some(value) => value.is_valid(),
+            None => true,
         }
     }
 }
@@ -62,10 +80,13 @@ impl<T: Agrees> Agrees for Vec<T> {
         }
     }
 
-    fn look(&self) {
+    fn is_valid(&self) -> bool {
         for item in self {
-            item.look();
+            if !item.is_valid() {
+                return false;
+            }
         }
+        true
     }
 }
 
@@ -84,33 +105,40 @@ impl<T: Agrees> Agrees for VecDeque<T> {
         }
     }
 
-    fn look(&self) {
+    fn is_valid(&self) -> bool {
         for item in self {
-            item.look();
+            if !item.is_valid() {
+                return false;
+            }
         }
+        true
     }
 }
 
-/// The row of an array of no items is another, and no promise is made of it.
+/// The row of an array of no items is that of an empty tuple.
 impl<T: Agrees, const N: usize> Agrees for [T; N] {
     ghost valid = { λ xs. (length xs ≡ N) × All T.valid xs };
 
-    ghost is_row = { λ rows n. (m : ℕ) × HasShape rows n (shape.array m N) × T.is_row rows m };
+    ghost is_row = { λ rows n. IsArrayRow T.is_row N rows n };
 
-    ghost agrees = { λ rows n xs checked row valid. array_law rows checked n N T.writes T.valid T.is_row
-        (λ m y r v. T.agrees rows m y checked r v) row xs valid };
+    ghost agrees = { λ rows n xs checked row valid. any_array_law rows checked n N T.writes T.valid
+        T.is_row (λ m y r v. T.agrees rows m y checked r v) row xs valid };
 
     fn has_row(types: &Types, n: TypeNo) -> bool {
         match shape_at(types, n) {
             Some(Shape::Array(m, len)) => *len == N as u64 && T::has_row(types, *m),
+            Some(Shape::Tuple(parts)) => N == 0 && parts.is_empty(),
             _ => false,
         }
     }
 
-    fn look(&self) {
+    fn is_valid(&self) -> bool {
         for item in self.iter() {
-            item.look();
+            if !item.is_valid() {
+                return false;
+            }
         }
+        true
     }
 }
 
@@ -134,9 +162,8 @@ impl<A: Agrees, B: Agrees> Agrees for (A, B) {
         }
     }
 
-    fn look(&self) {
-        self.0.look();
-        self.1.look();
+    fn is_valid(&self) -> bool {
+        self.0.is_valid() && self.1.is_valid()
     }
 }
 
@@ -158,8 +185,8 @@ impl<A: Agrees> Agrees for (A,) {
         }
     }
 
-    fn look(&self) {
-        self.0.look();
+    fn is_valid(&self) -> bool {
+        self.0.is_valid()
     }
 }
 
@@ -186,10 +213,8 @@ impl<A: Agrees, B: Agrees, C: Agrees> Agrees for (A, B, C) {
         }
     }
 
-    fn look(&self) {
-        self.0.look();
-        self.1.look();
-        self.2.look();
+    fn is_valid(&self) -> bool {
+        self.0.is_valid() && self.1.is_valid() && self.2.is_valid()
     }
 }
 
@@ -220,10 +245,7 @@ impl<A: Agrees, B: Agrees, C: Agrees, D: Agrees> Agrees for (A, B, C, D) {
         }
     }
 
-    fn look(&self) {
-        self.0.look();
-        self.1.look();
-        self.2.look();
-        self.3.look();
+    fn is_valid(&self) -> bool {
+        self.0.is_valid() && self.1.is_valid() && self.2.is_valid() && self.3.is_valid()
     }
 }
