@@ -28,7 +28,8 @@ use Rattle.schemars_types.specs.Rows.{Row}
 use Rattle.schemars_types.specs.Edges.{rank}
 use Rattle.schemars_types.specs.Faults.{IsChecked}
 use Rattle.schemars_types.specs.Effective.{expanded_variant, expanded_payload, flattened_in, part_enums}
-use Rattle.schemars_types.specs.Meaning.{belongs_within, choices_within, has_variant, has_external, has_payload, has_tagged, has_beside, has_required, tagged_fits, adjacent_fits, member_fits, field_named, is_text, is_map_of, every_member}
+use Rattle.schemars_types.specs.Meaning.{belongs_within, choices_within, has_variant, has_external, has_payload, has_tagged, has_beside, field_named, is_text, every_member, Member, member_named, must_have, tag_member, field_member, has_member}
+use Rattle.schemars_written.proofs.Members.{field_fits, beside_tag_fits, has_each_field, member_at}
 use Rattle.schemars_types.specs.declared.contract.Contract.TheVariants.{Serialize}
 use Rattle.schemars_written.specs.Gives as gives
 use Rattle.schemars_written.specs.Gives.{IsPlain, Gives, GivesMembers, Named, Beside, Tagged, Struct, IsObject, FirstMember, NoMembers, Done}
@@ -102,19 +103,23 @@ variant_key_gives name case es new sent = (
 )
 
 -- a map with this key alone
-map_of : (name k : Text) (test : Data → Bool) (d : Data) → k ≡ name → test d ≡ true → is_map_of name test (object (member k d no_members)) ≡ true
+map_of : (name k : Text) (test : Data → Bool) (d : Data) → k ≡ name → test d ≡ true → has_member name test true (object (member k d no_members)) ≡ true
 map_of name k test d same passes =
-    both_true (is_some (get_member name (member k d no_members))) (every_member (λ l w. bytes_eq name l && test w) (member k d no_members))
-    (subst (λ (t : Text). is_some (get_member t (member k d no_members)) ≡ true) same (ap is_some (get_member-here k d no_members)))
-    (both_true (bytes_eq name k && test d) true (both_true (bytes_eq name k) (test d) ((bytes_eq-Decides name k).1 (sym same)) passes) refl)
+    let fits = ap (λ (b : Bool). option_map_or (λ (m : Member). m.has d) (if b then Some (must_have name test) else None) false)
+    ((bytes_eq-Decides name k).1 (sym same)) ∙ passes in
+    let there = subst (λ (t : Text). is_some (get_member t (member k d no_members)) ≡ true) same (ap is_some (get_member-here k d no_members)) in
+    both_true (option_map_or (λ (m : Member). m.has d) (if bytes_eq name k then Some (must_have name test) else None) false && true)
+    (is_some (get_member name (member k d no_members)) && true)
+    (both_true (option_map_or (λ (m : Member). m.has d) (if bytes_eq name k then Some (must_have name test) else None) false) true fits refl)
+    (both_true (is_some (get_member name (member k d no_members))) true there refl)
 
 one_deep : (k : Text) (d : Data) → depth (object (member k d no_members)) ≡ suc (depth d)
 one_deep k d = omega arith
 
 -- a full payload has its value under the name
 under_name : (rows : List Row) (patterns : Patterns) (steps : ℕ) (name : Text) (p : Payload) (notes : Members) (d : Data) → IsFull p
-    → is_map_of name (has_payload Serialize (belongs_within rows Serialize patterns steps) (choices_within rows Serialize patterns steps)
-    (expanded_payload (flattened_in rows) (part_enums rows) p)) d ≡ true
+    → has_member name (has_payload Serialize (belongs_within rows Serialize patterns steps) (choices_within rows Serialize patterns steps)
+    (expanded_payload (flattened_in rows) (part_enums rows) p)) true d ≡ true
     → Fitting rows patterns steps by_name name p notes d
 under_name rows patterns steps name no_payload notes d full is = absurd full
 under_name rows patterns steps name (newtype_payload m) notes d full is = is
@@ -210,23 +215,28 @@ is_name name d same = subst (λ v. is_text name v ≡ true) (sym same) ((bytes_e
 tagged_hold : (rows : List Row) (patterns : Patterns) (tag name : Text) (fs list : List Field) (closed : Bool) (steps h : ℕ) (ms : Members)
     → ((m : ℕ) → Contains (map (λ x. x.ty) fs) m → (m < length rows) × (rank rows m < length rows))
     → list ≡ fs → suc h * length rows ≤ steps → members_depth ms ≤ h → AllMembers (InTagged rows patterns tag name fs) ms
-    → every_member (λ k w. tagged_fits (belongs_within rows Serialize patterns steps) list closed tag name k w) ms ≡ true
+    → every_member (λ k w. beside_tag_fits (belongs_within rows Serialize patterns steps) list closed tag name k w) ms ≡ true
 tagged_hold rows patterns tag name fs list closed steps h no_members low same many deep all = refl
 tagged_hold rows patterns tag name fs list closed steps h (member k d ms) low same many deep all =
-    both_true (tagged_fits (belongs_within rows Serialize patterns steps) list closed tag name k d)
-    (every_member (λ k w. tagged_fits (belongs_within rows Serialize patterns steps) list closed tag name k w) ms) (first all.0)
+    both_true (beside_tag_fits (belongs_within rows Serialize patterns steps) list closed tag name k d)
+    (every_member (λ k w. beside_tag_fits (belongs_within rows Serialize patterns steps) list closed tag name k w) ms) (first all.0)
     (tagged_hold rows patterns tag name fs list closed steps h ms low same many (omega arith) all.1)
   where
     first : InTagged rows patterns tag name fs k d
-        → (if bytes_eq tag k then is_text name d else member_fits (belongs_within rows Serialize patterns steps) list closed k d) ≡ true
+        → option_map_or (λ (m : Member). m.has d)
+        (if bytes_eq tag k then Some (tag_member tag name) else member_named (map (field_member Serialize (belongs_within rows Serialize patterns steps)) list) k)
+        (not closed) ≡ true
     first (inl here) =
-        ap (λ (b : Bool). if b then is_text name d else member_fits (belongs_within rows Serialize patterns steps) list closed k d)
+        ap (λ (b : Bool). option_map_or (λ (m : Member). m.has d)
+        (if b then Some (tag_member tag name) else member_named (map (field_member Serialize (belongs_within rows Serialize patterns steps)) list) k) (not closed))
         ((bytes_eq-Decides tag k).1 (sym here.0)) ∙ is_name name d here.1
     first (inr field) =
         let f = field.1.0 in
         let known = low f.ty (named_number fs k f field.1.1) in
-        ap (λ (b : Bool). if b then is_text name d else member_fits (belongs_within rows Serialize patterns steps) list closed k d) field.0
-        ∙ ap (λ (l : List Field). member_fits (belongs_within rows Serialize patterns steps) l closed k d) same
+        ap (λ (b : Bool). option_map_or (λ (m : Member). m.has d)
+        (if b then Some (tag_member tag name) else member_named (map (field_member Serialize (belongs_within rows Serialize patterns steps)) list) k) (not closed)) field.0
+        ∙ ap (λ (l : List Field). field_fits (belongs_within rows Serialize patterns steps) l closed k d) same
+        ∙ member_at (belongs_within rows Serialize patterns steps) fs k d (not closed)
         ∙ ap (λ (o : Option Field). option_map_or (λ g. belongs_within rows Serialize patterns steps g.ty d) o (not closed)) field.1.1
         ∙ small rows patterns steps h d many (omega arith) f.ty known.0 known.1 field.1.2
 
@@ -242,12 +252,13 @@ tagged_holds rows patterns tag name fs closed ms d steps low apart avoids all re
     let each = read_members (InTagged rows patterns tag name fs) ms found r.0
     (fields_in rows patterns tag name fs avoids ms (of_fields rows fs apart ms all)) (inl (refl, refl), tt) r.1 in
     subst (λ v. has_tagged Serialize (belongs_within rows Serialize patterns steps) [] tag (fs ++ []) closed name v ≡ true) r.2
-    (both_true (is_some (get_member tag r.0)) (every_member (λ k w. tagged_fits (belongs_within rows Serialize patterns steps) (fs ++ []) closed tag name k w) r.0 && has_required Serialize (fs ++ []) r.0)
-    (stays tag ms found r.0 (ap is_some (get_member-here tag (string name) no_members)) r.1)
-    (both_true (every_member (λ k w. tagged_fits (belongs_within rows Serialize patterns steps) (fs ++ []) closed tag name k w) r.0)
-    (has_required Serialize (fs ++ []) r.0)
+    (both_true (every_member (λ k w. beside_tag_fits (belongs_within rows Serialize patterns steps) (fs ++ []) closed tag name k w) r.0)
+    (is_some (get_member tag r.0) && has_each_field (belongs_within rows Serialize patterns steps) (fs ++ []) r.0)
     (tagged_hold rows patterns tag name fs (fs ++ []) closed steps (members_depth r.0) r.0 low (append-nil fs) enough (omega arith) each)
-    (subst (λ (l : List Field). has_required Serialize l r.0 ≡ true) (sym (append-nil fs)) (has_keys_of rows fs ms all r.0 found r.1))))
+    (both_true (is_some (get_member tag r.0)) (has_each_field (belongs_within rows Serialize patterns steps) (fs ++ []) r.0)
+    (stays tag ms found r.0 (ap is_some (get_member-here tag (string name) no_members)) r.1)
+    (subst (λ (l : List Field). has_each_field (belongs_within rows Serialize patterns steps) l r.0 ≡ true) (sym (append-nil fs))
+    (has_keys_of rows (belongs_within rows Serialize patterns steps) fs ms all r.0 found r.1))))
 
 beside_gives : (tag name : Text) (case : Case) (w : Log → Log → Type 0) (Q : json.Members → Type 0) → GivesMembers w Q
     → GivesMembers (Beside tag name case w) (FirstMember tag (IsName (spelled case kind.Variant name)) Q)
@@ -296,27 +307,32 @@ adjacent_unit_agrees rows checked n tag content closed name case row count =
     tagged_holds rows patterns tag t [] closed ms d steps (λ m c. absurd (omega (arith, c.1))) tt tt none reads (omega arith))))
     (struct_gives count (Beside tag name case Done) (FirstMember tag (IsName t) NoMembers) (beside_gives tag name case Done NoMembers done_gives))
 
+-- what a member may have, beside a tag and a content
+abbrev beside_fits : Text → Text → Text → (Data → Bool) → Bool → Text → Data → Bool
+beside_fits tag name content test closed k w =
+    option_map_or (λ (m : Member). m.has w) (member_named (tag_member tag name ∷ must_have content test ∷ []) k) (not closed)
+
 -- the tag with its name, or the content
 abbrev InAdjacent : Text → Text → Text → Json → Text → Data → Type 0
 InAdjacent tag name content j k d = ((k ≡ tag) × (d ≡ string name)) ⊎ ((k ≡ content) × (of_json j ≡ Some d))
 
 adjacent_hold : (tag name content : Text) (test : Data → Bool) (closed : Bool) (j : Json) (h : ℕ) (ms : Members) → bytes_eq tag content ≡ false
     → ((d : Data) → of_json j ≡ Some d → depth d ≤ h → test d ≡ true) → members_depth ms ≤ h → AllMembers (InAdjacent tag name content j) ms
-    → every_member (adjacent_fits tag name content test closed) ms ≡ true
+    → every_member (beside_fits tag name content test closed) ms ≡ true
 adjacent_hold tag name content test closed j h no_members differ passes deep all = refl
 adjacent_hold tag name content test closed j h (member k d ms) differ passes deep all =
-    both_true (adjacent_fits tag name content test closed k d) (every_member (adjacent_fits tag name content test closed) ms) (first all.0)
+    both_true (beside_fits tag name content test closed k d) (every_member (beside_fits tag name content test closed) ms) (first all.0)
     (adjacent_hold tag name content test closed j h ms differ passes (omega arith) all.1)
   where
-    first : InAdjacent tag name content j k d
-        → (if bytes_eq tag k then is_text name d else if bytes_eq content k then test d else not closed) ≡ true
-    first (inl here) =
-        ap (λ (b : Bool). if b then is_text name d else if bytes_eq content k then test d else not closed)
-        ((bytes_eq-Decides tag k).1 (sym here.0)) ∙ is_name name d here.1
+    at : Bool → Bool → Bool
+    at b c = option_map_or (λ (m : Member). m.has d)
+        (if b then Some (tag_member tag name) else if c then Some (must_have content test) else None) (not closed)
+
+    first : InAdjacent tag name content j k d → at (bytes_eq tag k) (bytes_eq content k) ≡ true
+    first (inl here) = ap (λ (b : Bool). at b (bytes_eq content k)) ((bytes_eq-Decides tag k).1 (sym here.0)) ∙ is_name name d here.1
     first (inr there) =
-        ap (λ (b : Bool). if b then is_text name d else if bytes_eq content k then test d else not closed)
-        (subst (λ (t : Text). bytes_eq tag t ≡ false) (sym there.0) differ)
-        ∙ ap (λ (b : Bool). if b then test d else not closed) ((bytes_eq-Decides content k).1 (sym there.0))
+        ap (λ (b : Bool). at b (bytes_eq content k)) (subst (λ (t : Text). bytes_eq tag t ≡ false) (sym there.0) differ)
+        ∙ ap (λ (b : Bool). at false b) ((bytes_eq-Decides content k).1 (sym there.0))
         ∙ passes d there.1 (omega arith)
 
 -- a full payload has its value under the content's key
@@ -346,12 +362,13 @@ beside_holds rows patterns tag content closed name p j d steps low differ passes
     let enough : suc (members_depth r.0) * length rows ≤ steps = subst (λ v. depth v * length rows ≤ steps) (sym r.2) few in
     let each = read_members (InAdjacent tag name content j) ms found r.0 (λ v is. inr (refl, is), tt) (inl (refl, refl), tt) r.1 in
     subst (λ v. has_beside tag name content test closed v ≡ true) r.2
-    (both_true (is_some (get_member tag r.0)) (is_some (get_member content r.0) && every_member (adjacent_fits tag name content test closed) r.0)
-    (stays tag ms found r.0 (ap is_some (get_member-here tag (string name) no_members)) r.1)
-    (both_true (is_some (get_member content r.0)) (every_member (adjacent_fits tag name content test closed) r.0)
-    (comes content ms found r.0 (inl refl) r.1)
+    (both_true (every_member (beside_fits tag name content test closed) r.0)
+    (is_some (get_member tag r.0) && (is_some (get_member content r.0) && true))
     (adjacent_hold tag name content test closed j (members_depth r.0) r.0 differ
-    (λ v is deep. passes v is (inside_enough rows p (depth v) steps low (wide (depth v) (members_depth r.0) deep enough))) (omega arith) each)))
+    (λ v is deep. passes v is (inside_enough rows p (depth v) steps low (wide (depth v) (members_depth r.0) deep enough))) (omega arith) each)
+    (both_true (is_some (get_member tag r.0)) (is_some (get_member content r.0) && true)
+    (stays tag ms found r.0 (ap is_some (get_member-here tag (string name) no_members)) r.1)
+    (both_true (is_some (get_member content r.0)) true (comes content ms found r.0 (inl refl) r.1) refl)))
   where
     wide : (a h : ℕ) → a ≤ h → suc h * length rows ≤ steps → suc a * length rows ≤ steps
     wide a h less few = omega (arith, mul-le (suc a) (length rows) (suc h) (length rows) (omega arith) (omega arith))

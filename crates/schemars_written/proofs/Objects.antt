@@ -33,7 +33,8 @@ use Rattle.schemars_types.specs.Edges.{rank, names_at}
 use Rattle.schemars_types.specs.Faults.{IsChecked}
 use Rattle.schemars_types.specs.KeyOptions.{key_options, is_key_allowed, all_options, shape_options, distinct_options, or_any_text}
 use Rattle.schemars_types.proofs.Settling.{all_options-shape}
-use Rattle.schemars_types.specs.Meaning.{belongs_within, every_member, member_fits, field_named, has_fields, has_required, is_required}
+use Rattle.schemars_types.specs.Meaning.{belongs_within, every_member, field_named, has_fields, is_required}
+use Rattle.schemars_written.proofs.Members.{field_fits, has_each_field, member_at}
 use Rattle.schemars_types.specs.declared.contract.Contract.TheVariants.{Serialize}
 use Rattle.schemars_written.specs.Gives as gives
 use Rattle.schemars_written.specs.Gives.{IsPlain, Gives, GivesMembers, SpellsMembers, LeadsMembers, NoMembers, FirstMember, EachMember, IsObject, Done, Struct}
@@ -254,39 +255,40 @@ fields_hold : (rows : List Row) (patterns : Patterns) (fs list : List Field) (cl
     → ((m : ℕ) → Contains (map (λ x. x.ty) fs) m → (m < length rows) × (rank rows m < length rows))
     → (list ≡ fs) → suc h * length rows ≤ steps → members_depth ms ≤ h
     → AllMembers (λ k d. (f : Field) × (field_named fs k ≡ Some f) × Fits rows patterns f.ty d) ms
-    → every_member (λ k w. member_fits (belongs_within rows Serialize patterns steps) list closed k w) ms ≡ true
+    → every_member (λ k w. field_fits (belongs_within rows Serialize patterns steps) list closed k w) ms ≡ true
 fields_hold rows patterns fs list closed steps h no_members known same many deep all = refl
 fields_hold rows patterns fs list closed steps h (member k d ms) known same many deep all =
     let f = all.0.0 in
     let low = known f.ty (named_number fs k f all.0.1) in
-    let first : member_fits (belongs_within rows Serialize patterns steps) list closed k d ≡ true =
-    ap (λ (l : List Field). member_fits (belongs_within rows Serialize patterns steps) l closed k d) same
+    let first : field_fits (belongs_within rows Serialize patterns steps) list closed k d ≡ true =
+    ap (λ (l : List Field). field_fits (belongs_within rows Serialize patterns steps) l closed k d) same
+    ∙ member_at (belongs_within rows Serialize patterns steps) fs k d (not closed)
     ∙ ap (λ (o : Option Field). option_map_or (λ g. belongs_within rows Serialize patterns steps g.ty d) o (not closed)) all.0.1
     ∙ small rows patterns steps h d many (omega arith) f.ty low.0 low.1 all.0.2 in
-    both_true (member_fits (belongs_within rows Serialize patterns steps) list closed k d)
-    (every_member (λ k w. member_fits (belongs_within rows Serialize patterns steps) list closed k w) ms) first
+    both_true (field_fits (belongs_within rows Serialize patterns steps) list closed k d)
+    (every_member (λ k w. field_fits (belongs_within rows Serialize patterns steps) list closed k w) ms) first
     (fields_hold rows patterns fs list closed steps h ms known same many (omega arith) all.1)
 
-pub has_keys_of : (rows : List Row) (fs : List Field) (ms : json.Members) → Matches rows fs ms → (all found : Members) → of_members ms found ≡ Some all
-    → has_required Serialize fs all ≡ true
-has_keys_of rows [] ms given all found reads = refl
-has_keys_of rows (f ∷ fs) json.no_members (inl given) all found reads = absurd given
-has_keys_of rows (f ∷ fs) (json.member k j ms) (inl given) all found reads =
+pub has_keys_of : (rows : List Row) (part : ℕ → Data → Bool) (fs : List Field) (ms : json.Members) → Matches rows fs ms → (all found : Members) → of_members ms found ≡ Some all
+    → has_each_field part fs all ≡ true
+has_keys_of rows part [] ms given all found reads = refl
+has_keys_of rows part (f ∷ fs) json.no_members (inl given) all found reads = absurd given
+has_keys_of rows part (f ∷ fs) (json.member k j ms) (inl given) all found reads =
     let r = member_parts (of_json j) (λ d. of_members ms (put k d found)) all reads in
     let here : is_some (get_member f.name all) ≡ true =
     ap is_some (ap (λ (x : Text). get_member x all) (sym given.0))
     ∙ stays k ms (put k r.0 found) all (ap is_some (get_member-put k r.0 found)) r.2 in
-    both_true (not (is_required Serialize f.required) || is_some (get_member f.name all)) (has_required Serialize fs all)
+    both_true (not (is_required Serialize f.required) || is_some (get_member f.name all)) (has_each_field part fs all)
     (or_right (not (is_required Serialize f.required)) (is_some (get_member f.name all)) here)
-    (has_keys_of rows fs ms given.2 all (put k r.0 found) r.2)
+    (has_keys_of rows part fs ms given.2 all (put k r.0 found) r.2)
   where
     or_right : (a b : Bool) → b ≡ true → (a || b) ≡ true
     or_right true b h = refl
     or_right false b h = h
-has_keys_of rows (f ∷ fs) ms (inr given) all found reads =
-    both_true (not (is_required Serialize f.required) || is_some (get_member f.name all)) (has_required Serialize fs all)
+has_keys_of rows part (f ∷ fs) ms (inr given) all found reads =
+    both_true (not (is_required Serialize f.required) || is_some (get_member f.name all)) (has_each_field part fs all)
     (ap (λ (b : Bool). not b || is_some (get_member f.name all)) given.0)
-    (has_keys_of rows fs ms given.1 all found reads)
+    (has_keys_of rows part fs ms given.1 all found reads)
 
 members_are : (rows : List Row) (fs : List Field) (patterns : Patterns) (ms : json.Members) → EachJson (OfField rows fs) ms
     → EachJson (λ k j. (d : Data) → of_json j ≡ Some d → (f : Field) × (field_named fs k ≡ Some f) × Fits rows patterns f.ty d) ms
@@ -308,10 +310,10 @@ fields_belong rows patterns fs closed ms d steps low apart all reads few =
     let each = read_members (λ k d. (f : Field) × (field_named fs k ≡ Some f) × Fits rows patterns f.ty d) ms no_members r.0
     (members_are rows fs patterns ms (of_fields rows fs apart ms all)) tt r.1 in
     subst (λ v. has_fields Serialize (belongs_within rows Serialize patterns steps) [] (fs ++ []) closed v ≡ true) r.2
-    (both_true (every_member (λ k w. member_fits (belongs_within rows Serialize patterns steps) (fs ++ []) closed k w) r.0)
-    (has_required Serialize (fs ++ []) r.0)
+    (both_true (every_member (λ k w. field_fits (belongs_within rows Serialize patterns steps) (fs ++ []) closed k w) r.0)
+    (has_each_field (belongs_within rows Serialize patterns steps) (fs ++ []) r.0)
     (fields_hold rows patterns fs (fs ++ []) closed steps (members_depth r.0) r.0 low (append-nil fs) enough (omega arith) each)
-    (subst (λ (l : List Field). has_required Serialize l r.0 ≡ true) (sym (append-nil fs)) (has_keys_of rows fs ms all r.0 no_members r.1)))
+    (subst (λ (l : List Field). has_each_field (belongs_within rows Serialize patterns steps) l r.0 ≡ true) (sym (append-nil fs)) (has_keys_of rows (belongs_within rows Serialize patterns steps) fs ms all r.0 no_members r.1)))
 
 pub struct_means : (rows : List Row) → IsChecked rows → (n : ℕ) (fs : List Field) (closed : Bool) → HasShape rows n (shape.struct (plain_fields fs closed))
     → (j : Json) → IsObject (Matches rows fs) j → Means rows n j
