@@ -1,5 +1,5 @@
 # On a machine with the Rattle kit. `make help` lists the targets.
-.PHONY: help run lint validate program library install wheel node page openapi-example test test-bindings
+.PHONY: help run lint validate derive program library install wheel node page openapi-example test test-bindings
 
 TABLE = examples/vec-option-u8.json
 DIALECT = 2020-12
@@ -19,6 +19,7 @@ help:
 	@echo 'make run [TABLE="FILE.."] [DIALECT=..] [FLAGS=..] prints the document of each table, without proofs'
 	@echo 'make lint [TABLE="FILE.."]                      tells what is wrong with each table, and whether it is plain'
 	@echo 'make validate SCHEMA=FILE VALUES=FILE [DIALECT=..] tells which values the document accepts, and why not the others'
+	@echo 'make derive                                     writes the generated implementations anew, from their declarations'
 	@echo 'make program                                    proves everything below the programs, and builds them'
 	@echo 'make library [PREFIX=/usr/local]                builds the C library of what is proved, in out/library'
 	@echo 'make install [PREFIX=/usr/local]                copies the programs, the C library and their manual pages'
@@ -46,6 +47,10 @@ lint:
 validate:
 	@echo 'a checked run without proofs: a minute or two; `make program` proves and builds once' >&2
 	@cd crates/schemavalid && rt try --data schema.json=$(abspath $(SCHEMA)) < $(abspath $(VALUES)) -- $(DIALECT) schema.json
+
+# Writes the generated implementations of `JsonSchema` anew, from the declarations in the sources.
+derive: $(deriver)
+	@tools/derived $(deriver)
 
 # Proves the libraries, which takes about an hour on two cores, and builds the programs.
 program:
@@ -113,12 +118,13 @@ openapi-example: $(built)
 
 # The merge gate: every proof from nothing, the must-fail edits, the tests and the programs. What pages
 # and examples show has to be what the case files have, and the files, lines and words that pages name
-# have to be there. Then the C library is built and called, the memory that a row costs is measured, and each growth of
+# have to be there. The generated implementations have to be what the program writes now. Then the C library is built and called, the memory that a row costs is measured, and each growth of
 # the memory of the programs that were built is refused in turn.
 test:
 	tools/cases --check
 	tools/places --check
 	rt ci
+	tools/derived --check $(deriver)
 	@$(MAKE) --no-print-directory library
 	tools/library $(library)
 	tools/memory $(built)

@@ -1,7 +1,7 @@
 //! The body of a `json_schema`, and what it says of its parts.
 use crate::imports::Imports;
 use crate::lines::Lines;
-use crate::texts::literal;
+use crate::names::plain;
 use schemaderive_known::Row;
 use schemaderive_options::Context;
 use schemaderive_syntax::{Fault, Place};
@@ -19,6 +19,8 @@ pub struct Types<'t> {
     pub rows: &'t [Row],
     /// the declarations that each row leads to
     pub mentions: &'t [Vec<usize>],
+    /// the row of the type that is described
+    pub own: usize,
 }
 
 /// The body of a `json_schema`, and what it says of its parts.
@@ -75,20 +77,57 @@ impl Body {
         Ok(ty)
     }
 
-    /// The parts of a dictionary of which it says something.
+    /// The parts of a dictionary of which it says something. More than eight are in groups of four at
+    /// most, and so are the groups, so that the check finds each of them in a few steps.
     pub fn parts(&self) -> Result<String, AllocError> {
+        let alloc = self.alloc();
         if self.says.is_empty() {
-            return String::from_str(self.alloc(), "Unit {0}");
+            return String::from_str(alloc, "Unit {0}");
         }
-        let mut parts = String::new(self.alloc());
-        for clause in &self.says {
-            if !parts.is_empty() {
-                parts.push_str(" × ")?;
+        if self.says.len() <= FLAT {
+            return product(alloc, &self.says);
+        }
+        let mut parts = grouped(alloc, &self.says)?;
+        for _ in 0..self.says.len() {
+            if parts.len() <= GROUP {
+                break;
             }
-            parts.push_str(clause.as_str())?;
+            parts = grouped(alloc, &parts)?;
         }
-        Ok(parts)
+        product(alloc, &parts)
     }
+}
+
+// How many parts are not grouped.
+const FLAT: usize = 8;
+
+// How many parts are in a group.
+const GROUP: usize = 4;
+
+// Parts as one.
+fn product(alloc: Global, parts: &[String]) -> Result<String, AllocError> {
+    let mut product = String::new(alloc);
+    for part in parts {
+        if !product.is_empty() {
+            product.push_str(" × ")?;
+        }
+        product.push_str(part.as_str())?;
+    }
+    Ok(product)
+}
+
+// Groups of parts, each as one.
+fn grouped(alloc: Global, parts: &[String]) -> Result<Vec<String>, AllocError> {
+    let mut groups = Vec::new(alloc);
+    for group in parts.chunks(GROUP) {
+        let whole = product(alloc, group)?;
+        groups.push(if group.len() == 1 {
+            whole
+        } else {
+            format!(in alloc; "({})", whole.as_str())?
+        })?;
+    }
+    Ok(groups)
 }
 
 impl<'t> Types<'t> {
@@ -102,7 +141,8 @@ impl<'t> Types<'t> {
             Some(row) if !row.ty.is_empty() => Ok(imports.short(row.ty.as_str())?),
             Some(row) => {
                 let reason = "the library has no implementation for this type";
-                Err(self.context.refused_name(place, row.name.as_str(), reason))
+                let name = plain(self.context.alloc, row.name.as_str())?;
+                Err(self.context.refused_name(place, name.as_str(), reason))
             }
             None => Err(self.context.refused(place, "this type has no row")),
         }
@@ -121,13 +161,13 @@ impl<'t> Types<'t> {
         false
     }
 
-    /// The id and the name of a row, as literals.
+    /// The id and the name of a row.
     pub fn id_and_name(&self, row: usize) -> Result<(String, String), AllocError> {
         let alloc = self.context.alloc;
         match self.rows.get(row) {
             Some(row) => Ok((
-                literal(alloc, row.id.as_str())?,
-                literal(alloc, row.name.as_str())?,
+                String::from_str(alloc, row.id.as_str())?,
+                String::from_str(alloc, row.name.as_str())?,
             )),
             None => Ok((String::new(alloc), String::new(alloc))),
         }

@@ -42,6 +42,8 @@ pub struct Imports {
     modules: BTreeMap<String, BTreeMap<String, String>>,
     // the words of clauses
     words: BTreeMap<String, bool>,
+    // the words of std's prelude
+    prelude: BTreeMap<String, bool>,
 }
 
 impl Imports {
@@ -52,6 +54,7 @@ impl Imports {
             paths: BTreeMap::new(alloc),
             modules: BTreeMap::new(alloc),
             words: BTreeMap::new(alloc),
+            prelude: BTreeMap::new(alloc),
         };
         for name in TAKEN {
             let name = String::from_str(alloc, name)?;
@@ -102,6 +105,25 @@ impl Imports {
         self.add_to("schemars::impls", name)
     }
 
+    /// Keeps a name for a parameter, and tells whether it stood for nothing else.
+    pub fn keep(&mut self, name: &str) -> Result<bool, AllocError> {
+        match self.paths.get(name) {
+            Some(there) => Ok(there.as_str() == name),
+            None => {
+                let key = String::from_str(self.alloc, name)?;
+                self.paths.insert(key, String::from_str(self.alloc, name)?)?;
+                Ok(true)
+            }
+        }
+    }
+
+    /// Brings in a word of std's prelude.
+    pub fn prelude(&mut self, word: &str) -> Result<(), AllocError> {
+        let word = String::from_str(self.alloc, word)?;
+        self.prelude.insert(word, true)?;
+        Ok(())
+    }
+
     /// Brings in a word of clauses.
     pub fn word(&mut self, word: &str) -> Result<(), AllocError> {
         let word = String::from_str(self.alloc, word)?;
@@ -135,21 +157,19 @@ impl Imports {
 
     /// Adds the lines that bring the names in.
     pub fn push_lines(&self, lines: &mut Lines) -> Result<(), AllocError> {
+        let mut prelude = Vec::new(self.alloc);
+        for (word, _) in self.prelude.iter() {
+            prelude.push(word.as_str())?;
+        }
+        push_words(lines, "Rattle.std.specs.Prelude", &prelude)?;
         let mut words = Vec::new(self.alloc);
         for word in WORDS {
             if self.words.contains_key(word) {
                 words.push(word)?;
             }
         }
-        if !words.is_empty() {
-            let list = crate::lines::joined(self.alloc, &words)?;
-            let line = format!(in self.alloc;
-                "ghost use Rattle.schemars.specs.Words.{{{}}};",
-                list.as_str()
-            )?;
-            lines.line(0, line.as_str())?;
-            lines.line(0, "")?;
-        }
+        push_words(lines, "Rattle.schemars.specs.Words", &words)?;
+        lines.line(0, "")?;
         self.push_modules(lines, true)?;
         self.push_modules(lines, false)
     }
@@ -167,6 +187,16 @@ impl Imports {
         }
         Ok(())
     }
+}
+
+// Adds a line that brings in words of a module, unless there are none.
+fn push_words(lines: &mut Lines, module: &str, words: &[&str]) -> Result<(), AllocError> {
+    if words.is_empty() {
+        return Ok(());
+    }
+    let list = crate::lines::joined(lines.alloc, words)?;
+    let line = format!(in lines.alloc; "ghost use {module}.{{{}}};", list.as_str())?;
+    lines.line(0, line.as_str())
 }
 
 fn is_in_crate(module: &str) -> bool {

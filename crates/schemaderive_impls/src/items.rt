@@ -1,9 +1,11 @@
 //! Implementations, one a type.
 use crate::body::{Body, INDENT, Types};
+use crate::headers::Header;
 use crate::imports::Imports;
 use crate::keywords::ENTRY;
 use crate::lines::Lines;
 use crate::members::has_flattened;
+use crate::names::{ID, Member, NAME, clause_of, has_parameters, made_of};
 use crate::own_rows::steps_of;
 use crate::texts::literal;
 use schemaderive_definitions::{Choices, Content, Definition, Form, Part};
@@ -21,8 +23,8 @@ pub struct Subject {
     pub number: usize,
     /// the number of its row
     pub row: usize,
-    /// the type, with its whole path
-    pub ty: String,
+    /// for which type it is
+    pub header: Header,
     /// what it is; none if it has the row of another type
     pub definition: Option<Definition>,
 }
@@ -40,13 +42,13 @@ pub fn push_item(
     subject: &Subject,
 ) -> Result<(), Fault> {
     let alloc = types.context.alloc;
-    let ty = imports.short(subject.ty.as_str())?;
-    let head = format!(in alloc; "impl JsonSchema for {ty} {{")?;
+    let ty = imports.short(subject.header.ty.as_str())?;
+    let generics = imports.short(subject.header.generics.as_str())?;
+    let head = format!(in alloc; "impl{generics} JsonSchema for {ty} {{")?;
     lines.line(0, head.as_str())?;
     match (&subject.definition, types.rows.get(subject.row)) {
         (Some(definition), Some(row)) => {
             let body = body_of(types, imports, ancestors, definition)?;
-            refuse_other_letters(types, subject.place, row)?;
             push_says(alloc, imports, lines, row, &body)?;
             push_names(alloc, lines, row)?;
             push_method(lines, TYPE_ENTRY, body.lines.text.as_str())?;
@@ -62,13 +64,14 @@ pub fn push_item(
 
 const IN_PLACE: &str = "fn inline_schema() -> bool {";
 
-const NAME: &str = "fn schema_name(alloc: Global) -> Result<CowStr<'static>, AllocError> {";
+const NAME_HEAD: &str = "fn schema_name(alloc: Global) -> Result<CowStr<'static>, AllocError> {";
 
-const FIXED_NAME: &str = "fn schema_name(_alloc: Global) -> Result<CowStr<'static>, AllocError> {";
+const FIXED_NAME_HEAD: &str =
+    "fn schema_name(_alloc: Global) -> Result<CowStr<'static>, AllocError> {";
 
-const ID: &str = "fn schema_id(alloc: Global) -> Result<CowStr<'static>, AllocError> {";
+const ID_HEAD: &str = "fn schema_id(alloc: Global) -> Result<CowStr<'static>, AllocError> {";
 
-const FIXED_ID: &str = "fn schema_id(_alloc: Global) -> Result<CowStr<'static>, AllocError> {";
+const FIXED_ID_HEAD: &str = "fn schema_id(_alloc: Global) -> Result<CowStr<'static>, AllocError> {";
 
 const TYPE_ENTRY: &str =
     "fn json_schema(alloc: Global, types: &mut Types) -> Result<TypeEntry, TypesError> {";
@@ -94,23 +97,14 @@ fn push_delegation(alloc: Global, lines: &mut Lines, other: &str) -> Result<(), 
     lines.line(4, says.as_str())?;
     for (head, call) in [
         (IN_PLACE, "inline_schema()"),
-        (NAME, "schema_name(alloc)"),
-        (ID, "schema_id(alloc)"),
+        (NAME_HEAD, "schema_name(alloc)"),
+        (ID_HEAD, "schema_id(alloc)"),
         (TYPE_ENTRY, "json_schema(alloc, types)"),
     ] {
         let line = format!(in alloc; "<{other} as JsonSchema>::{call}")?;
         push_short_method(lines, head, line.as_str())?;
     }
     Ok(())
-}
-
-// Clauses cite the letters of a name one by one, and know those of ASCII alone.
-fn refuse_other_letters(types: &Types<'_>, place: Place, row: &Row) -> Result<(), Fault> {
-    if row.name.as_str().is_ascii() && row.id.as_str().is_ascii() {
-        return Ok(());
-    }
-    let reason = "the name of a type has other letters than those of ASCII";
-    Err(types.context.refused_name(place, row.name.as_str(), reason))
 }
 
 // What a type says of its row.
@@ -121,20 +115,20 @@ fn push_says(
     row: &Row,
     body: &Body,
 ) -> Result<(), AllocError> {
-    let id = literal(alloc, row.id.as_str())?;
+    let id = clause_of(imports, alloc, row.id.as_str(), ID)?;
     let parts = body.parts()?;
     let (id, parts) = (id.as_str(), parts.as_str());
-    imports.word("codes")?;
     if row.id.as_str() == row.name.as_str() && !row.is_inline {
         imports.word("own")?;
-        let says = format!(in alloc; "ghost says = {{ own (codes {id}) (λ d. {parts}) }};")?;
+        let says = format!(in alloc; "ghost says = {{ own ({id}) (λ d. {parts}) }};")?;
         return lines.line(4, says.as_str());
     }
     imports.word("Unsaid")?;
-    let name = literal(alloc, row.name.as_str())?;
+    let name = clause_of(imports, alloc, row.name.as_str(), NAME)?;
     let inline = if row.is_inline { "true" } else { "false" };
+    imports.prelude(inline)?;
     let says = format!(in alloc;
-        "ghost says = {{ record {{ id = codes {id}; name = codes {name}; inline = {inline}; making = Unsaid; parts = λ d. {parts} }} }};"
+        "ghost says = {{ record {{ id = {id}; name = {name}; inline = {inline}; making = Unsaid; parts = λ d. {parts} }} }};"
     )?;
     lines.line(4, says.as_str())
 }
@@ -146,18 +140,40 @@ fn push_names(alloc: Global, lines: &mut Lines, row: &Row) -> Result<(), AllocEr
         IN_PLACE,
         if row.is_inline { "true" } else { "false" },
     )?;
-    let name = borrowed(alloc, row.name.as_str())?;
-    push_short_method(lines, FIXED_NAME, name.as_str())?;
-    if row.id.as_str() == row.name.as_str() {
-        return push_short_method(lines, ID, "Self::schema_name(alloc)");
+    push_text_method(
+        alloc,
+        lines,
+        FIXED_NAME_HEAD,
+        NAME_HEAD,
+        row.name.as_str(),
+        NAME,
+    )?;
+    if row.id.as_str() == row.name.as_str() && !has_parameters(row.id.as_str()) {
+        return push_short_method(lines, ID_HEAD, "Self::schema_name(alloc)");
     }
-    let id = borrowed(alloc, row.id.as_str())?;
-    push_short_method(lines, FIXED_ID, id.as_str())
+    push_text_method(alloc, lines, FIXED_ID_HEAD, ID_HEAD, row.id.as_str(), ID)
 }
 
-fn borrowed(alloc: Global, text: &str) -> Result<String, AllocError> {
-    let text = literal(alloc, text)?;
-    format!(in alloc; "Ok(CowStr::Borrowed({}))", text.as_str())
+// A method that returns an id or a name. Its head is the first if there is nothing to be asked for.
+fn push_text_method(
+    alloc: Global,
+    lines: &mut Lines,
+    fixed_head: &str,
+    head: &str,
+    text: &str,
+    member: Member,
+) -> Result<(), AllocError> {
+    let mut body = Lines::new(alloc);
+    if !has_parameters(text) {
+        let text = literal(alloc, text)?;
+        let line = format!(in alloc; "Ok(CowStr::Borrowed({}))", text.as_str())?;
+        body.line(INDENT, line.as_str())?;
+        return push_method(lines, fixed_head, body.text.as_str());
+    }
+    let made = made_of(&mut body, INDENT, text, member)?;
+    let line = format!(in alloc; "Ok(CowStr::Owned({made}))")?;
+    body.line(INDENT, line.as_str())?;
+    push_method(lines, head, body.text.as_str())
 }
 
 // The body that makes the entry of a type.

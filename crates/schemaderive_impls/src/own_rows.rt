@@ -1,8 +1,9 @@
 //! Types that lead back to the type that is described, which are named by their ids.
-use crate::body::{Body, Types};
+use crate::body::{Body, INDENT, Types};
 use crate::imports::Imports;
+use crate::names::{ID, Member, NAME, clause_of, has_parameters, made_of, plain};
 use crate::texts::literal;
-use schemaderive_known::Makeup;
+use schemaderive_known::{Makeup, Row};
 use schemaderive_syntax::{Fault, Place};
 use std::alloc::{AllocError, Global};
 
@@ -70,7 +71,8 @@ fn drop_inner(steps: &mut Vec<Step>) {
     }
 }
 
-// The step of a row, and the row that it is made of unless it is that of a declaration.
+// The step of a row, and the row that it is made of unless it is that of a declaration. With
+// arguments the row of the type itself alone is named.
 fn step_at(
     types: &Types<'_>,
     imports: &mut Imports,
@@ -78,37 +80,24 @@ fn step_at(
     row: usize,
     place: Place,
 ) -> Result<(Step, Option<usize>), Fault> {
-    let unsaid = "what contains itself is named in Options, lists, sets, arrays and maps alone";
     let Some(entry) = types.rows.get(row) else {
-        return Err(types.context.refused(place, unsaid));
+        return Err(types.context.refused(place, UNSAID));
     };
     let Some((call, field_call, word)) = functions(entry.makeup) else {
-        return Err(
-            types
-                .context
-                .refused_name(place, entry.name.as_str(), unsaid),
-        );
+        return Err(unsaid(types, entry, place)?);
     };
-    let mut key = None;
     let mut inner = entry.parts.last().copied();
     if let Makeup::Declared(_) = entry.makeup {
-        if inner.is_some() {
-            return Err(
-                types
-                    .context
-                    .refused_name(place, entry.name.as_str(), unsaid),
-            );
+        if inner.is_some() && row != types.own {
+            return Err(unsaid(types, entry, place)?);
         }
         inner = None;
     }
+    let mut key = None;
     if entry.makeup == Makeup::Map {
         let of_key = entry.parts.first().copied().unwrap_or(row);
         if types.leads_to(of_key, ancestors) {
-            return Err(
-                types
-                    .context
-                    .refused_name(place, entry.name.as_str(), unsaid),
-            );
+            return Err(unsaid(types, entry, place)?);
         }
         key = Some(types.short(imports, of_key, place)?);
     }
@@ -125,6 +114,14 @@ fn step_at(
     Ok((step, inner))
 }
 
+const UNSAID: &str = "what contains itself is named in Options, lists, sets, arrays and maps alone";
+
+// The refusal of a row that is made of the type in another way.
+fn unsaid(types: &Types<'_>, entry: &Row, place: Place) -> Result<Fault, AllocError> {
+    let name = plain(types.context.alloc, entry.name.as_str())?;
+    Ok(types.context.refused_name(place, name.as_str(), UNSAID))
+}
+
 impl Step {
     // A function with the type of the keys, if there is one.
     fn head(&self, alloc: Global, function: &str) -> Result<String, AllocError> {
@@ -135,24 +132,25 @@ impl Step {
     }
 
     // What is said of the row.
-    fn clause(&self, alloc: Global) -> Result<String, AllocError> {
-        let (word, id, name) = (self.word, self.id.as_str(), self.name.as_str());
+    fn clause(&self, imports: &mut Imports, alloc: Global) -> Result<String, AllocError> {
+        let id = clause_of(imports, alloc, self.id.as_str(), ID)?;
+        let name = clause_of(imports, alloc, self.name.as_str(), NAME)?;
+        let (word, id, name) = (self.word, id.as_str(), name.as_str());
         let first = match &self.key {
             Some(key) => format!(in alloc; " ⟦<{} as JsonSchema>⟧.says", key.as_str())?,
             None if self.length.is_empty() => String::new(alloc),
             None => format!(in alloc; " {}", self.length.as_str())?,
         };
-        format!(in alloc; "{word}{} (codes {id}) (codes {name}) d", first.as_str())
+        format!(in alloc; "{word}{} ({id}) ({name}) d", first.as_str())
     }
 }
 
 impl Body {
     /// Says of rows what their steps say.
     pub fn say_steps(&mut self, imports: &mut Imports, steps: &[Step]) -> Result<(), AllocError> {
-        imports.word("codes")?;
         for step in steps {
             imports.word(step.word)?;
-            let clause = step.clause(self.alloc())?;
+            let clause = step.clause(imports, self.alloc())?;
             self.says.push(clause)?;
         }
         Ok(())
@@ -176,8 +174,21 @@ impl Body {
         Ok(Some(last))
     }
 
+    // An id or a name as an argument. One with parameters is made first, in lines of its own.
+    fn text_argument(&mut self, text: &str, member: Member) -> Result<String, AllocError> {
+        let alloc = self.alloc();
+        if !has_parameters(text) {
+            return literal(alloc, text);
+        }
+        let made = made_of(&mut self.lines, INDENT, text, member)?;
+        self.lines.set(INDENT, member.variable, made.as_str())?;
+        format!(in alloc; "{}.as_str()", member.variable)
+    }
+
     fn step_call(&mut self, head: &str, step: &Step) -> Result<(), AllocError> {
-        let (id, name, length) = (step.id.as_str(), step.name.as_str(), step.length.as_str());
+        let id = self.text_argument(step.id.as_str(), ID)?;
+        let name = self.text_argument(step.name.as_str(), NAME)?;
+        let (id, name, length) = (id.as_str(), name.as_str(), step.length.as_str());
         if length.is_empty() {
             return self.call(head, &["alloc", "types", id, name]);
         }
@@ -198,8 +209,10 @@ impl Body {
         imports.call(last.field_call)?;
         let head = last.head(self.alloc(), last.field_call)?;
         let field = literal(self.alloc(), name)?;
-        let field = field.as_str();
-        let (id, called, length) = (last.id.as_str(), last.name.as_str(), last.length.as_str());
+        let id = self.text_argument(last.id.as_str(), ID)?;
+        let called = self.text_argument(last.name.as_str(), NAME)?;
+        let (field, id, called) = (field.as_str(), id.as_str(), called.as_str());
+        let length = last.length.as_str();
         let head = head.as_str();
         if length.is_empty() {
             return self.call(

@@ -1,5 +1,6 @@
 //! The implementations of the types of a source.
 use crate::body::Types;
+use crate::headers::{Header, header_of};
 use crate::imports::Imports;
 use crate::items::{Subject, push_item};
 use crate::leading::{add_new, ancestors_of, mentions_of};
@@ -74,24 +75,15 @@ fn subject_of(
     number: usize,
     declaration: &Declaration<'_>,
 ) -> Result<Subject, Fault> {
-    let alloc = builder.alloc();
     let place = declaration.place;
-    if !declaration.parameters.is_empty() {
-        let reason = "an implementation for a type with parameters is not written";
-        return Err(
-            builder
-                .context
-                .refused_name(place, declaration.name, reason),
-        );
-    }
-    let ty = builder.path_to(declaration)?;
-    let mut scope = Scope::new(alloc, declaration.module.as_str())?;
+    let header = header_of(builder, declaration)?;
+    let mut scope = builder.parameter_scope(declaration)?;
     let row = match builder.standing(declaration)? {
         Standing::Itself => {
-            let own = Scope::new(alloc, declaration.module.as_str())?;
+            let own = builder.parameter_scope(declaration)?;
             let row = builder.reserve(number, declaration, own)?;
             scope.this = Some(row);
-            return defined(builder, number, scope, place, row, ty);
+            return defined(builder, number, scope, place, row, header);
         }
         Standing::Type(other) => builder.row_of(&other, &scope, place, MAX_DEPTH)?,
         Standing::Field => match one_field(&declaration.body) {
@@ -103,7 +95,7 @@ fn subject_of(
         place,
         number,
         row,
-        ty,
+        header,
         definition: None,
     })
 }
@@ -115,14 +107,14 @@ fn defined(
     scope: Scope,
     place: Place,
     row: usize,
-    ty: String,
+    header: Header,
 ) -> Result<Subject, Fault> {
     let definition = definition_of(builder, number, &scope)?;
     Ok(Subject {
         place,
         number,
         row,
-        ty,
+        header,
         definition: Some(definition),
     })
 }
@@ -138,14 +130,18 @@ fn file_of(builder: &Builder<'_>, subjects: &[Subject], first: &str) -> Result<S
         &mentions,
     )?;
     let ancestors = ancestors_of(alloc, &leads)?;
-    let types = Types {
-        context: &builder.context,
-        rows: &builder.rows,
-        mentions: &mentions,
-    };
     let mut imports = Imports::new(alloc)?;
+    for subject in subjects {
+        keep_parameters(builder, &mut imports, subject)?;
+    }
     let mut items = Lines::new(alloc);
     for subject in subjects {
+        let types = Types {
+            context: &builder.context,
+            rows: &builder.rows,
+            mentions: &mentions,
+            own: subject.row,
+        };
         let named = match ancestors.get(subject.number) {
             Some(named) => named.as_slice(),
             None => &[],
@@ -154,6 +150,25 @@ fn file_of(builder: &Builder<'_>, subjects: &[Subject], first: &str) -> Result<S
         push_item(&types, &mut imports, &mut items, named, subject)?;
     }
     Ok(with_head(alloc, &imports, &items, first)?)
+}
+
+// Keeps the names of a type's parameters from standing for something else in the file.
+fn keep_parameters(
+    builder: &Builder<'_>,
+    imports: &mut Imports,
+    subject: &Subject,
+) -> Result<(), Fault> {
+    for name in &subject.header.parameters {
+        if !imports.keep(name.as_str())? {
+            let reason = "the file has this name for something else than a parameter";
+            return Err(
+                builder
+                    .context
+                    .refused_name(subject.place, name.as_str(), reason),
+            );
+        }
+    }
+    Ok(())
 }
 
 // The text of a file with these items.

@@ -30,6 +30,8 @@ pub struct Binding {
     pub name: String,
     /// what it stands for
     pub value: Value,
+    /// whether the values of the type have it
+    pub is_used: bool,
 }
 
 /// Where names are looked up.
@@ -51,6 +53,26 @@ impl Scope {
             bindings: Vec::new(alloc),
             this: None,
         })
+    }
+
+    /// What the parameter with this name stands for, if the values of the type have it.
+    pub fn used(&self, name: &str) -> Option<&Value> {
+        for binding in &self.bindings {
+            if binding.is_used && binding.name.as_str() == name {
+                return Some(&binding.value);
+            }
+        }
+        None
+    }
+
+    /// Whether the values of the type have one of the parameters.
+    pub fn has_used(&self) -> bool {
+        for binding in &self.bindings {
+            if binding.is_used {
+                return true;
+            }
+        }
+        false
     }
 
     /// What the parameter with this name stands for.
@@ -86,7 +108,7 @@ pub struct Builder<'a> {
     pub items: BTreeMap<String, Item>,
     /// the rows
     pub rows: Vec<Row>,
-    /// the rows by their ids
+    /// the rows by their ids, or in implementations by their types
     pub ids: BTreeMap<String, usize>,
     /// the declarations whose rows are reserved
     pub instances: Vec<Instance>,
@@ -123,24 +145,34 @@ impl<'a> Builder<'a> {
         self.context.alloc
     }
 
-    /// The row with this id.
-    pub fn row_by_id(&self, id: &str) -> Option<usize> {
-        self.ids.get(id).copied()
+    /// The row of a type with this id. In implementations types are told apart by how they are
+    /// written, since several may have one id.
+    pub fn row_by_id(&self, id: &str, ty: &str) -> Option<usize> {
+        self.ids.get(self.key_of(id, ty)).copied()
     }
 
-    /// Adds a row, unless there is one with its id, and returns its number. What is made of a type
-    /// without an implementation has none.
+    // What a row is known by.
+    fn key_of<'t>(&self, id: &'t str, ty: &'t str) -> &'t str {
+        if self.home.is_none() || ty.is_empty() {
+            return id;
+        }
+        ty
+    }
+
+    /// Adds a row, unless its type has one, and returns its number. What is made of a type without
+    /// an implementation has none.
     pub fn add(&mut self, row: Row) -> Result<usize, AllocError> {
         let mut row = row;
-        if let Some(number) = self.row_by_id(row.id.as_str()) {
-            return Ok(number);
-        }
-        let number = self.rows.len();
-        let id = String::from_str(self.alloc(), row.id.as_str())?;
-        self.ids.insert(id, number)?;
         if self.lack_types(&row.parts) {
             row.ty.clear();
         }
+        if let Some(number) = self.row_by_id(row.id.as_str(), row.ty.as_str()) {
+            return Ok(number);
+        }
+        let number = self.rows.len();
+        let key = self.key_of(row.id.as_str(), row.ty.as_str());
+        let key = String::from_str(self.alloc(), key)?;
+        self.ids.insert(key, number)?;
         self.rows.push(row)?;
         Ok(number)
     }

@@ -83,10 +83,11 @@ impl<'a> Builder<'a> {
     ) -> Result<usize, Fault> {
         let alloc = self.alloc();
         let id = self.instance_id(declaration, &scope)?;
-        if let Some(row) = self.row_by_id(id.as_str()) {
+        let ty = self.declared_type(declaration, &scope)?;
+        if let Some(row) = self.row_by_id(id.as_str(), ty.as_str()) {
             return Ok(row);
         }
-        let number_of_row = self.reserved(number, declaration, id.as_str(), &scope)?;
+        let number_of_row = self.reserved(number, declaration, id.as_str(), ty, &scope)?;
         let mut scope = scope;
         scope.this = Some(number_of_row);
         self.instances.push(Instance {
@@ -103,6 +104,7 @@ impl<'a> Builder<'a> {
         number: usize,
         declaration: &Declaration<'_>,
         id: &str,
+        ty: String,
         scope: &Scope,
     ) -> Result<usize, Fault> {
         let alloc = self.alloc();
@@ -112,11 +114,12 @@ impl<'a> Builder<'a> {
         row.is_inline = options.is_inline;
         row.makeup = Makeup::Declared(number);
         for binding in &scope.bindings {
-            if let Value::Row(part) = &binding.value {
-                row.parts.push(*part)?;
+            match &binding.value {
+                Value::Row(part) if binding.is_used => row.parts.push(*part)?,
+                _ => {}
             }
         }
-        row.ty = self.declared_type(declaration, scope)?;
+        row.ty = ty;
         Ok(self.add(row)?)
     }
 
@@ -145,34 +148,35 @@ impl<'a> Builder<'a> {
         if declaration.parameters.len() != scope.bindings.len() {
             return Ok(String::new(alloc));
         }
-        let mut ty = self.path_to(declaration)?;
-        for (number, binding) in scope.bindings.iter().enumerate() {
-            ty.push_str(if number == 0 { "<" } else { ", " })?;
+        let mut arguments = String::new(alloc);
+        for _ in &declaration.lifetimes {
+            push_argument(&mut arguments, "'static")?;
+        }
+        for binding in &scope.bindings {
             match &binding.value {
-                Value::Row(row) => ty.push_str(self.ty(*row))?,
-                Value::Constant(text) => ty.push_str(text.as_str())?,
+                Value::Row(row) if self.ty(*row).is_empty() => return Ok(String::new(alloc)),
+                Value::Row(row) => push_argument(&mut arguments, self.ty(*row))?,
+                Value::Constant(text) => push_argument(&mut arguments, text.as_str())?,
             }
         }
-        if !scope.bindings.is_empty() {
-            ty.push('>')?;
-        }
+        let mut ty = self.path_to(declaration)?;
+        push_arguments(&mut ty, arguments.as_str())?;
         Ok(ty)
     }
 
     fn instance_id(&self, declaration: &Declaration<'_>, scope: &Scope) -> Result<String, Fault> {
         let alloc = self.alloc();
         let module = declaration.module.as_str();
-        let mut id = joined(alloc, module, declaration.name)?;
-        for (number, binding) in scope.bindings.iter().enumerate() {
-            id.push_str(if number == 0 { "<" } else { ", " })?;
+        let mut arguments = String::new(alloc);
+        for binding in &scope.bindings {
             match &binding.value {
-                Value::Row(row) => id.push_str(self.id(*row))?,
-                Value::Constant(text) => id.push_str(text.as_str())?,
+                _ if !binding.is_used => {}
+                Value::Row(row) => push_argument(&mut arguments, self.id(*row))?,
+                Value::Constant(text) => push_argument(&mut arguments, text.as_str())?,
             }
         }
-        if !scope.bindings.is_empty() {
-            id.push('>')?;
-        }
+        let mut id = joined(alloc, module, declaration.name)?;
+        push_arguments(&mut id, arguments.as_str())?;
         Ok(id)
     }
 
@@ -195,18 +199,33 @@ impl<'a> Builder<'a> {
             cases,
             true,
         )?;
-        if scope.bindings.is_empty() {
+        self.refuse_other_letters(declaration, base.as_str())?;
+        if !scope.has_used() {
             return Ok(base);
         }
         if is_renamed(options) {
             return self.filled_name(base.as_str(), declaration, scope);
         }
         let mut name = base;
-        for (number, binding) in scope.bindings.iter().enumerate() {
-            name.push_str(if number == 0 { "_for_" } else { "_and_" })?;
-            self.push_value(&mut name, &binding.value)?;
+        let mut joint = "_for_";
+        for binding in &scope.bindings {
+            if binding.is_used {
+                name.push_str(joint)?;
+                self.push_value(&mut name, &binding.value)?;
+                joint = "_and_";
+            }
         }
         Ok(name)
+    }
+
+    // Clauses cite the letters of a name one by one, and know those of ASCII alone.
+    fn refuse_other_letters(&self, declaration: &Declaration<'_>, name: &str) -> Result<(), Fault> {
+        let is_known = name.is_ascii() && declaration.name.is_ascii();
+        if self.home.is_none() || (is_known && declaration.module.as_str().is_ascii()) {
+            return Ok(());
+        }
+        let reason = "the name of a type has other letters than those of ASCII";
+        Err(self.context.refused_name(declaration.place, name, reason))
     }
 
     // Adds what a parameter stands for to a name.
@@ -241,7 +260,7 @@ impl<'a> Builder<'a> {
                 }
                 ('}', true) => {
                     is_inside = false;
-                    match scope.get(parameter.as_str()) {
+                    match scope.used(parameter.as_str()) {
                         Some(value) => self.push_value(&mut name, value)?,
                         None => {
                             let reason = "this name has a parameter that the type has not";
@@ -263,6 +282,24 @@ impl<'a> Builder<'a> {
         }
         Ok(name)
     }
+}
+
+// Adds an argument behind the others.
+fn push_argument(arguments: &mut String, argument: &str) -> Result<(), AllocError> {
+    if !arguments.is_empty() {
+        arguments.push_str(", ")?;
+    }
+    arguments.push_str(argument)
+}
+
+// Adds arguments in angle brackets, unless there are none.
+fn push_arguments(text: &mut String, arguments: &str) -> Result<(), AllocError> {
+    if arguments.is_empty() {
+        return Ok(());
+    }
+    text.push('<')?;
+    text.push_str(arguments)?;
+    text.push('>')
 }
 
 fn is_renamed(options: &ContainerOptions) -> bool {

@@ -11,5 +11,5 @@ mod types;
 
 pub use builder::{Binding, Builder, Instance, Item, Scope, Value};
 pub use instances::Standing;
-pub use parameters::one_field;
+pub use parameters::{CLOSING, OPENING, one_field, used_parameters};
 pub use resolving::Resolved;

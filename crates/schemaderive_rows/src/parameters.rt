@@ -1,6 +1,52 @@
-//! Which parameters of a declaration occur in its fields.
-use schemaderive_syntax::{Body, Declaration, Field, Fields, MetaValue, Parameter, TypeExpr};
+//! The parameters of a declaration, and which of them occur in its fields.
+use crate::builder::{Binding, Builder, Scope, Value};
+use schemaderive_known::Row;
+use schemaderive_syntax::{
+    Body, Declaration, Fault, Field, Fields, MetaValue, Parameter, TypeExpr,
+};
 use std::alloc::{AllocError, Global};
+
+/// What is before the name of a parameter in the id and the name of a row.
+pub const OPENING: char = '⟨';
+
+/// What is behind it.
+pub const CLOSING: char = '⟩';
+
+impl<'a> Builder<'a> {
+    /// The scope of a declaration in which each parameter stands for itself: a row whose id and name
+    /// are the name of the parameter, in brackets that no other name has.
+    ///
+    /// # Errors
+    ///
+    /// A parameter is a constant.
+    pub fn parameter_scope(&mut self, declaration: &Declaration<'_>) -> Result<Scope, Fault> {
+        let alloc = self.alloc();
+        let used = used_parameters(alloc, declaration)?;
+        let mut scope = Scope::new(alloc, declaration.module.as_str())?;
+        for (number, parameter) in declaration.parameters.iter().enumerate() {
+            let Parameter::Type(name, _) = parameter else {
+                let place = declaration.place;
+                let reason = "an implementation for a type with a constant is not written";
+                return Err(self.context.refused_name(place, declaration.name, reason));
+            };
+            let row = self.parameter_row(name)?;
+            scope.bindings.push(Binding {
+                name: String::from_str(alloc, name)?,
+                value: Value::Row(row),
+                is_used: used.get(number) != Some(&false),
+            })?;
+        }
+        Ok(scope)
+    }
+
+    // The row of a parameter.
+    fn parameter_row(&mut self, name: &str) -> Result<usize, AllocError> {
+        let alloc = self.alloc();
+        let id = format!(in alloc; "{}{name}{}", OPENING, CLOSING)?;
+        let row = Row::new(alloc, id.as_str(), id.as_str(), String::new(alloc))?;
+        self.add(row.typed(alloc, name)?)
+    }
+}
 
 /// The only field of a struct.
 pub fn one_field<'a, 'b>(body: &'b Body<'a>) -> Option<&'b Field<'a>> {
@@ -22,7 +68,7 @@ pub fn used_parameters(
     for parameter in &declaration.parameters {
         used.push(match parameter {
             Parameter::Constant(_) => true,
-            Parameter::Type(name) => occurs(&declaration.body, name),
+            Parameter::Type(name, _) => occurs(&declaration.body, name),
         })?;
     }
     Ok(used)

@@ -240,7 +240,7 @@ impl<'a> Builder<'a> {
         }
     }
 
-    // A scope with what parameters stand for, but for those that are marked as unused.
+    // A scope with what parameters stand for. In a table those that are marked as unused are left out.
     #[cycle(rows)]
     fn bound(
         &mut self,
@@ -257,13 +257,15 @@ impl<'a> Builder<'a> {
             return Err(self.context.refused(place, "this nests too deeply"));
         }
         for (number, parameter) in parameters.iter().enumerate() {
-            if used.get(number) == Some(&false) {
+            let is_used = used.get(number) != Some(&false);
+            if !is_used && self.home.is_none() {
                 continue;
             }
             let Some(argument) = arguments.get(number) else {
                 return Err(self.context.refused(place, "an argument is missing here"));
             };
-            let binding = self.binding(parameter, argument, scope, place, depth - 1)?;
+            let mut binding = self.binding(parameter, argument, scope, place, depth - 1)?;
+            binding.is_used = is_used;
             inner.bindings.push(binding)?;
         }
         Ok(inner)
@@ -284,11 +286,12 @@ impl<'a> Builder<'a> {
             return Err(self.context.refused(place, "this nests too deeply"));
         }
         match parameter {
-            Parameter::Type(name) => {
+            Parameter::Type(name, _) => {
                 let row = self.row_of(argument, scope, place, depth - 1)?;
                 Ok(Binding {
                     name: String::from_str(alloc, name)?,
                     value: Value::Row(row),
+                    is_used: true,
                 })
             }
             Parameter::Constant(name) => {
@@ -296,6 +299,7 @@ impl<'a> Builder<'a> {
                 Ok(Binding {
                     name: String::from_str(alloc, name)?,
                     value: Value::Constant(text),
+                    is_used: true,
                 })
             }
         }

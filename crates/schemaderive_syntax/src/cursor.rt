@@ -85,6 +85,18 @@ impl<'a> Cursor<'a> {
         found
     }
 
+    /// Goes past a lifetime if it is next.
+    pub fn take_lifetime(&mut self) -> bool {
+        let found = match self.peek(0) {
+            Some(token) => token.kind == TokenKind::Lifetime,
+            None => false,
+        };
+        if found {
+            let _ = self.advance();
+        }
+        found
+    }
+
     /// Goes past two colons if they are next.
     pub fn take_colons(&mut self) -> bool {
         let found = self.is_symbol(0, ':') && self.is_symbol(1, ':');
@@ -198,6 +210,37 @@ impl<'a> Cursor<'a> {
             self.skip_tree(alloc)?;
         }
         Ok(Cursor::new(self.between(start, self.position), self.place()))
+    }
+
+    /// Goes past the next comma that is in no bracket, or up to the angle bracket that is closed before
+    /// it, and returns a cursor on what is before it.
+    ///
+    /// # Errors
+    ///
+    /// A group is not closed.
+    pub fn up_to_next_parameter(&mut self, alloc: Global) -> Result<Cursor<'a>, Fault> {
+        let start = self.position;
+        let mut angles = 0usize;
+        let mut in_arrow = false;
+        for _ in self.position..self.tokens.len() {
+            let Some(token) = self.peek(0) else {
+                break;
+            };
+            if angles == 0 && (token.is_symbol(',') || token.is_symbol('>')) {
+                break;
+            }
+            if token.is_symbol('<') {
+                angles = angles.saturating_add(1);
+            }
+            if token.is_symbol('>') && !in_arrow {
+                angles = angles.saturating_sub(1);
+            }
+            in_arrow = token.is_symbol('-');
+            self.skip_tree(alloc)?;
+        }
+        let before = Cursor::new(self.between(start, self.position), self.place());
+        let _ = self.take_symbol(',');
+        Ok(before)
     }
 
     /// Goes up to the next comma that is in no group, and returns a cursor on what is before it. Angle

@@ -3,17 +3,26 @@ use crate::cursor::Cursor;
 use crate::fault::{Fault, Place, refused};
 use crate::metas::{Meta, read_attributes};
 use crate::token::{Token, TokenKind};
-use crate::type_expr::{TypeExpr, read_type};
+use crate::type_expr::{TypeExpr, read_bounds, read_type};
 use crate::uses::{Uses, read_use};
 use std::alloc::{AllocError, Global};
 
 /// A parameter of a declaration. Lifetimes are none.
-#[derive(Clone, Copy)]
+#[derive(Drop)]
 pub enum Parameter<'a> {
-    /// a type
-    Type(&'a str),
+    /// a type, and the traits that it has to have
+    Type(&'a str, Vec<TypeExpr>),
     /// a constant
     Constant(&'a str),
+}
+
+// The parameters of a declaration.
+#[derive(Drop)]
+struct Parameters<'a> {
+    // its lifetimes
+    lifetimes: Vec<&'a str>,
+    // the others
+    list: Vec<Parameter<'a>>,
 }
 
 /// A field.
@@ -73,8 +82,12 @@ pub struct Declaration<'a> {
     pub place: Place,
     /// its attributes
     pub attributes: Vec<Meta<'a>>,
-    /// its parameters
+    /// its lifetimes
+    pub lifetimes: Vec<&'a str>,
+    /// its other parameters
     pub parameters: Vec<Parameter<'a>>,
+    /// where its `where` begins
+    pub conditions: Option<Place>,
     /// what it declares
     pub body: Body<'a>,
 }
@@ -223,6 +236,7 @@ fn read_declaration<'a>(
     let place = cursor.place();
     let name = cursor.name(alloc)?;
     let parameters = read_parameters(alloc, cursor)?;
+    let conditions = place_of_where(alloc, *cursor)?;
     skip_where(alloc, cursor)?;
     let body = if is_enum {
         Body::Enum(read_variants(alloc, cursor)?)
@@ -234,8 +248,23 @@ fn read_declaration<'a>(
         name,
         place,
         attributes,
-        parameters,
+        lifetimes: parameters.lifetimes,
+        parameters: parameters.list,
+        conditions,
         body,
+    })
+}
+
+// Where the conditions of a declaration begin, which are behind fields without names.
+fn place_of_where(alloc: Global, cursor: Cursor<'_>) -> Result<Option<Place>, Fault> {
+    let mut cursor = cursor;
+    if cursor.is_symbol(0, '(') {
+        let _fields = cursor.group(alloc)?;
+    }
+    Ok(if cursor.is_word("where") {
+        Some(cursor.place())
+    } else {
+        None
     })
 }
 
@@ -256,18 +285,18 @@ fn read_alias<'a>(
     source.aliases.push(Alias {
         module,
         name,
-        parameters,
+        parameters: parameters.list,
         ty,
     })?;
     Ok(())
 }
 
 // The parameters in angle brackets, if they come next.
-fn read_parameters<'a>(
-    alloc: Global,
-    cursor: &mut Cursor<'a>,
-) -> Result<Vec<Parameter<'a>>, Fault> {
-    let mut parameters = Vec::new(alloc);
+fn read_parameters<'a>(alloc: Global, cursor: &mut Cursor<'a>) -> Result<Parameters<'a>, Fault> {
+    let mut parameters = Parameters {
+        lifetimes: Vec::new(alloc),
+        list: Vec::new(alloc),
+    };
     let place = cursor.place();
     if !cursor.take_symbol('<') {
         return Ok(parameters);
@@ -276,44 +305,20 @@ fn read_parameters<'a>(
         if cursor.take_symbol('>') {
             return Ok(parameters);
         }
-        let constant = cursor.take_word("const");
+        let is_constant = cursor.take_word("const");
         let Some(token) = cursor.advance() else {
             break;
         };
-        if token.kind == TokenKind::Word {
-            let name = token.text.as_str();
-            parameters.push(if constant {
-                Parameter::Constant(name)
-            } else {
-                Parameter::Type(name)
-            })?;
+        let name = token.text.as_str();
+        let bounds = read_bounds(alloc, cursor.up_to_next_parameter(alloc)?)?;
+        match token.kind {
+            TokenKind::Lifetime => parameters.lifetimes.push(name)?,
+            TokenKind::Word if is_constant => parameters.list.push(Parameter::Constant(name))?,
+            TokenKind::Word => parameters.list.push(Parameter::Type(name, bounds))?,
+            _ => {}
         }
-        skip_bounds(alloc, cursor)?;
     }
     Err(refused(alloc, place, "this bracket is not closed"))
-}
-
-// Goes past what is said of a parameter.
-fn skip_bounds(alloc: Global, cursor: &mut Cursor<'_>) -> Result<(), Fault> {
-    let mut angles = 0usize;
-    let mut in_arrow = false;
-    for _ in 0..cursor.len() {
-        if angles == 0 && (cursor.take_symbol(',') || cursor.is_symbol(0, '>')) {
-            break;
-        }
-        let Some(token) = cursor.peek(0) else {
-            break;
-        };
-        if token.is_symbol('<') {
-            angles = angles.saturating_add(1);
-        }
-        if token.is_symbol('>') && !in_arrow {
-            angles = angles.saturating_sub(1);
-        }
-        in_arrow = token.is_symbol('-');
-        cursor.skip_tree(alloc)?;
-    }
-    Ok(())
 }
 
 // Goes past the conditions of a declaration whose fields have names.

@@ -48,6 +48,32 @@ pub fn read_type(alloc: Global, tokens: Cursor<'_>) -> Result<TypeExpr, Fault> {
     Ok(TypeExpr::Other(place))
 }
 
+/// Reads the traits behind the colon of a parameter, up to its default. Lifetimes are none of them.
+///
+/// # Errors
+///
+/// A bracket is not closed.
+pub fn read_bounds(alloc: Global, tokens: Cursor<'_>) -> Result<Vec<TypeExpr>, Fault> {
+    let mut cursor = tokens;
+    let mut bounds = Vec::new(alloc);
+    let _ = cursor.take_symbol(':');
+    for _ in 0..tokens.len() {
+        if cursor.is_empty() || cursor.is_symbol(0, '=') {
+            break;
+        }
+        if cursor.take_lifetime() || cursor.take_symbol('+') {
+            continue;
+        }
+        let place = cursor.place();
+        let bound = type_at(alloc, &mut cursor, MAX_DEPTH)?;
+        if cursor.place() == place {
+            let _ = cursor.advance();
+        }
+        bounds.push(bound)?;
+    }
+    Ok(bounds)
+}
+
 // The type that comes next.
 #[cycle(types)]
 fn type_at(alloc: Global, cursor: &mut Cursor<'_>, depth: usize) -> Result<TypeExpr, Fault> {
@@ -77,11 +103,7 @@ fn type_at(alloc: Global, cursor: &mut Cursor<'_>, depth: usize) -> Result<TypeE
 // Goes past what may stand before the type of a reference.
 fn skip_reference(cursor: &mut Cursor<'_>) {
     let _ = cursor.take_symbol('&');
-    if let Some(token) = cursor.peek(0) {
-        if token.kind == TokenKind::Lifetime {
-            let _ = cursor.advance();
-        }
-    }
+    let _ = cursor.take_lifetime();
     let _ = cursor.take_word("mut");
 }
 
