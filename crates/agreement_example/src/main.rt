@@ -1,6 +1,11 @@
 //! Prints a team as serde writes it, which each document of the team's row accepts.
 #![tactic(auto)]
 
+mod amount;
+mod event;
+mod message;
+mod order;
+mod page;
 mod person;
 mod schemas;
 mod team;

@@ -1,6 +1,6 @@
 -- A loop over the entries of a map, and what calls give.
-use Rattle.std.proofs.Common.{◌≡◌, ℕ, zero, suc, ◌<◌, ◌≤◌, get_or, drop, List, [], ◌∷◌, ◌++◌, length, Bool, true, false, Some, Result, Ok, Err, IfOk, inl, inr, refl, sym, ap, ◌∙◌, subst, append_assoc, append-nil, arith}
-use Rattle.std.specs.Prelude.{All, map, string_bytes, String}
+use Rattle.std.proofs.Common.{◌≡◌, ℕ, zero, suc, ◌<◌, ◌≤◌, get_or, drop, List, [], ◌∷◌, ◌++◌, length, Bool, true, false, Option, Some, None, Result, Ok, Err, IfOk, inl, inr, refl, sym, ap, ◌∙◌, subst, append_assoc, append-nil, arith}
+use Rattle.std.specs.Prelude.{All, IfSome, map, string_bytes, String}
 use Rattle.std.specs.declared.alloc.Global.{Global}
 use Rattle.std.proofs.lemmas.List.Elements.{All-push}
 use Rattle.json.specs.Lex.{tokens}
@@ -11,16 +11,19 @@ use Rattle.serde_json.specs.View.{view}
 use Rattle.serde_json.specs.declared.value.Value.{Value}
 use Rattle.schemars_schema.specs.Json.{Text}
 use Rattle.schemars_shapes.specs.Shape as shape
-use Rattle.schemars_shapes.specs.Shape.{Field, fields_of, field_of, flattened_of, payload_of, variant_of, internal_payload_of, internal_variant_of}
+use Rattle.schemars_shapes.specs.Shape.{Field, fields_of, field_of, flattened_of, Payload, Tagging, struct_payload, by_tag, by_tag_and_content, shape_of, payload_of, variant_of, internal_payload_of, internal_variant_of}
 use Rattle.schemars_shapes.specs.declared.variant.Variant as src-variant
 use Rattle.schemars_shapes.specs.declared.variant.InternalVariant as src-internal
+use Rattle.schemars_shapes.specs.declared.variant.Internal as src-inside
+use Rattle.schemars_shapes.specs.declared.variant.Adjacent as src-beside
+use Rattle.schemars_shapes.specs.declared.shape.Shape.TheVariants as src-shape
 use Rattle.schemars_shapes.specs.declared.shape.Field as src-field
 use Rattle.schemars_shapes.specs.declared.shape.Fields as src-fields
 use Rattle.schemars_shapes.specs.declared.shape.Flattened as src-flattened
 use Rattle.schemars_types.specs.Rows.{Row}
 use Rattle.schemars_types.specs.Faults.{IsChecked}
 use Rattle.schemars_written.specs.Gives.{Gives}
-use Rattle.schemars_written.specs.Fits.{Means, HasShape, HasList, HasFields, NextField, LastField, HasVariant}
+use Rattle.schemars_written.specs.Fits.{Means, HasShape, HasList, HasFields, NextField, NextOptional, LastField, HasOwnFields, HasStruct, HasVariant, HasVariantAt}
 use Rattle.schemars_written.specs.Writes.{Belongs, BelongsAsRead}
 use Rattle.schemars_written.proofs.Final.{as_read}
 
@@ -90,12 +93,25 @@ pub field_at : (name : Text) (R : ℕ → Type 0) (others : List Field → Type 
 field_at name R others xs i a is low named row more =
     subst (λ (ys : List src-field.Field). NextField name R others (map field_of ys)) (sym (drop_at xs i a low is)) (named, row, more)
 
+-- the field at place i, which may be left out, and those after it
+pub optional_at : (name : Text) (R : ℕ → Type 0) (others : List Field → Type 0) (xs : List src-field.Field) (i : ℕ) (a : src-field.Field)
+    → a ≡ get_or xs i a → i < length xs → string_bytes a.name ≡ name → R a.ty → a.required.serialize ≡ false
+    → others (map field_of (drop (suc i) xs)) → NextOptional name R others (map field_of (drop i xs))
+optional_at name R others xs i a is low named row free more =
+    subst (λ (ys : List src-field.Field). NextOptional name R others (map field_of ys)) (sym (drop_at xs i a low is)) (named, row, free, more)
+
 pub last_at : (xs : List src-field.Field) (i : ℕ) → length xs ≤ i → LastField (map field_of (drop i xs))
 last_at xs i all = subst (λ (ys : List src-field.Field). LastField (map field_of ys)) (sym (none_left xs i all)) tt
 
 pub to_fields : (rows : List Row) (n : ℕ) (P : List Field → Type 0) (xs : List src-field.Field) → HasList rows n (map field_of xs)
     → P (map field_of (drop 0 xs)) → HasFields rows n P
 to_fields rows n P xs is p = (map field_of xs, is.0, is.1, p)
+
+-- the fields of a variant
+pub to_struct : (rows : List Row) (n : ℕ) (tagging : Tagging) (name : Text) (x : src-fields.Fields) → HasVariantAt rows n tagging name (struct_payload (fields_of x))
+    → (xs : List src-field.Field) → HasOwnFields x (map field_of xs) → (P : List Field → Type 0) → P (map field_of (drop 0 xs)) → HasStruct rows n tagging name P
+to_struct rows n tagging name x row xs own P p =
+    (map field_of xs, x.closed, (row.0, row.1, subst (λ y. HasVariant name (struct_payload y) row.0) own row.2), p)
 
 -- ---- variants by their places
 
@@ -114,3 +130,35 @@ inside_at name (y ∷ ys) zero x is low named = inl (
   ap (λ (z : src-internal.InternalVariant). internal_payload_of z.payload) (sym is),
 )
 inside_at name (y ∷ ys) (suc i) x is low named = inr (inside_at name ys i x is (omega arith) named)
+
+-- ---- variants of enums that are tagged by keys
+
+pub inside_named : {B : Type 0} (rows : List Row) (n : ℕ) (x : src-inside.Internal) → HasShape rows n (shape_of (src-shape.Internal x))
+    → (tag name : Text) → string_bytes x.tag ≡ tag → (xs : List src-internal.InternalVariant) → xs ≡ x.variants.items → (o : Option B) (f : B → Payload)
+    → IfSome o (λ p. HasVariant name (f p) (map internal_variant_of xs))
+    → IfSome o (λ p. (closed : Bool) × HasVariantAt rows n (by_tag tag closed) name (f p))
+inside_named rows n x is tag name tagged xs same None f has = has
+inside_named rows n x is tag name tagged xs same (Some p) f has = (
+  x.closed,
+  (
+    map internal_variant_of x.variants.items,
+    subst (λ (t : Text). HasShape rows n (shape.enum (by_tag t x.closed) (map internal_variant_of x.variants.items))) tagged is,
+    subst (λ ys. HasVariant name (f p) (map internal_variant_of ys)) same has,
+  ),
+)
+
+pub beside_named : {B : Type 0} (rows : List Row) (n : ℕ) (x : src-beside.Adjacent) → HasShape rows n (shape_of (src-shape.Adjacent x))
+    → (tag content name : Text) → string_bytes x.tag ≡ tag → string_bytes x.content ≡ content
+    → (xs : List src-variant.Variant) → xs ≡ x.variants.items → (o : Option B) (f : B → Payload)
+    → IfSome o (λ p. HasVariant name (f p) (map variant_of xs))
+    → IfSome o (λ p. (closed : Bool) × HasVariantAt rows n (by_tag_and_content tag content closed) name (f p))
+beside_named rows n x is tag content name tagged keyed xs same None f has = has
+beside_named rows n x is tag content name tagged keyed xs same (Some p) f has = (
+  x.closed,
+  (
+    map variant_of x.variants.items,
+    subst (λ (k : Text). HasShape rows n (shape.enum (by_tag_and_content tag k x.closed) (map variant_of x.variants.items))) keyed
+        (subst (λ (t : Text). HasShape rows n (shape.enum (by_tag_and_content t (string_bytes x.content) x.closed) (map variant_of x.variants.items))) tagged is),
+    subst (λ ys. HasVariant name (f p) (map variant_of ys)) same has,
+  ),
+)
