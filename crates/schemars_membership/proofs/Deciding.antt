@@ -1,25 +1,57 @@
 -- A verdict of a document that means a row decides whether a value belongs to the row.
-use Rattle.std.proofs.Common.{◌≡◌, ◌∙◌, ℕ, Bool, true, false, refl, ap, subst, List}
+use Rattle.std.proofs.Common.{◌≡◌, ◌∙◌, ◌⊎◌, inl, inr, ℕ, ◌<◌, ◌≤◌, Bool, true, false, refl, sym, ap, subst, List, length, arith}
+use Rattle.std.specs.Prelude.{nat_lt, codes}
+use Rattle.std.proofs.lemmas.Bool.Decides.{nat_tests}
+use borrow.Author.Tests.{ltb-true}
 use Rattle.serde_json.specs.Data.{Data}
+use Rattle.serde_json.specs.View.{view}
 use Rattle.schemars_schema.specs.Acceptance.{draft2020_12}
 use Rattle.schemars_schema.specs.Json.{Text, IsJson}
 use Rattle.schemars_schema.specs.Verdict.{verdict, is_yes}
 use Rattle.schemars_types.specs.Rows.{Row}
 use Rattle.schemars_types.specs.declared.contract.Contract.{Contract}
-use Rattle.schemars_headline.specs.Headline.{Headline, IsDraftPath, RootHeadline}
+use Rattle.schemars_headline.specs.Headline.{Headline, IsDraftPath, MeansItsType, RootHeadline}
 use Rattle.schemars_headline.specs.State.{State, path_of, HasOwnDefinitions}
-use Rattle.schemars_validator.specs.Asked.{Accepts}
+use Rattle.schemars_types.specs.Faults.{IsAccepted}
+use Rattle.schemars_generate.specs.Through.{IsRefused}
+use Rattle.schemars_generate.specs.declared.error.GenerateError.{GenerateError}
+use Rattle.schemars_generate.specs.declared.error.GenerateError.TheVariants.{OutOfMemory, UnknownType, DefinitionsPath}
+use Rattle.schemars_validator.specs.Asked as paths
+use Rattle.schemars_validator.specs.Asked.{Accepts, IsOf, dialect_of}
+use Rattle.schemars_validator.specs.Expressions.{AreExpressionsOf}
+use Rattle.schemars_validator.specs.declared.draft.Draft.TheVariants.{Draft2020_12}
 use Rattle.schemars_validator.specs.declared.validator.Validator.{Validator}
-use Rattle.schemars_membership.specs.Membership.{Belongs, IsOfType}
+use Rattle.schemars_membership.specs.Membership.{Belongs, IsDocumentRefusal, IsMember, IsOfType, IsRowRefusal}
 
 settled : (b : Bool) → is_yes (verdict b) ≡ b
 settled true = refl
 settled false = refl
 
 pub decided : (validator : Validator) (rows : List Row) (contract : Contract) (n : ℕ) (v : Data) (answer : Bool)
-    → IsOfType validator rows contract n → IsJson v → Accepts validator v answer → Belongs rows contract n v answer
+    → IsOfType validator rows contract n → IsJson v → Accepts validator v answer
+    → Belongs validator.expressions.items rows contract n v answer
 decided validator rows contract n v answer means json (says, (patterns, read, followed, enough, is), answers) =
-    (patterns, answers ∙ ap is_yes is ∙ ap is_yes (means.accepts_its_values patterns v json followed enough) ∙ settled _)
+    (patterns, read, answers ∙ ap is_yes is ∙ ap is_yes (means.accepts_its_values patterns v json followed enough) ∙ settled _)
+
+-- a row of an accepted table that a generator refuses
+pub row_refused : (s : State) (rows : List Row) (n : ℕ) (e : GenerateError) → s.rows ≡ rows → IsAccepted rows
+    → (e ≡ UnknownType n → length s.rows ≤ n) → (length s.rows ≤ n → e ≡ UnknownType n)
+    → (e ≡ UnknownType n) ⊎ IsRefused s n e → IsDocumentRefusal rows n e
+row_refused s rows n e same accepted unknown beyond why = inr (accepted, go why)
+  where
+    within : (e ≡ UnknownType n → ⊥) → n < length rows
+    within h = below (nat_lt n (length rows)) refl
+      where
+        below : (b : Bool) → nat_lt n (length rows) ≡ b → n < length rows
+        below true is = ltb-true n (length rows) is
+        below false is =
+            let long : length rows ≤ n = grind (arith, nat_tests) in
+            absurd (h (beyond (rw same long)))
+
+    go : (e ≡ UnknownType n) ⊎ IsRefused s n e → IsRowRefusal rows n e
+    go (inl is) = inl (is, subst (λ r. length r ≤ n) same (unknown is))
+    go (inr (inl is)) = inr (within (λ other. let two : OutOfMemory ≡ UnknownType n = sym is ∙ other in cc), inl is)
+    go (inr (inr (is, cannot))) = inr (within (λ other. let two : DefinitionsPath ≡ UnknownType n = sym is ∙ other in cc), inr is)
 
 -- the headline of a generator whose table, contract and path are these
 pub headline_over : (s : State) (rows : List Row) (contract : Contract) (path : Text) (n : ℕ) (document : Data)
@@ -29,3 +61,18 @@ headline_over s rows contract path n document same_rows same_contract same_path 
     subst (λ r. Headline draft2020_12 r contract path n document) same_rows
     (subst (λ c. Headline draft2020_12 s.rows c path n document) same_contract
     (subst (λ p. Headline draft2020_12 s.rows s.settings.contract p n document) same_path (root own drafts)))
+
+-- a validator of a document that means a row
+of_type : (validator : Validator) (rows : List Row) (contract : Contract) (n : ℕ) (document : Data) → IsOf Draft2020_12 document validator
+    → MeansItsType draft2020_12 rows contract (codes "/$defs") n document → IsOfType validator rows contract n
+of_type validator rows contract n document (same, is) means =
+    subst (λ d. MeansItsType (dialect_of d) rows contract (paths.path_of d) n (view validator.document.now)) (sym same)
+    (subst (λ d. MeansItsType draft2020_12 rows contract (codes "/$defs") n d) (sym is) means)
+
+pub is_member : (validator : Validator) (rows : List Row) (contract : Contract) (n : ℕ) (v document : Data) (answer : Bool)
+    → IsOf Draft2020_12 document validator → MeansItsType draft2020_12 rows contract (codes "/$defs") n document
+    → AreExpressionsOf document validator.expressions.items
+    → (IsOfType validator rows contract n → Belongs validator.expressions.items rows contract n v answer)
+    → IsMember rows contract n v answer
+is_member validator rows contract n v document answer is means expressions answers =
+    (document, validator.expressions.items, means, expressions, answers (of_type validator rows contract n document is means))

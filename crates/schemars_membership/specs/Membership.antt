@@ -1,20 +1,52 @@
--- Whether values belong to the type of a document.
-use Rattle.std.specs.Prelude.{◌≡◌, ℕ, Bool, List}
+-- Whether values belong to the type of a document, and why that is not decided.
+use Rattle.std.specs.Prelude.{◌≡◌, ◌≤◌, ◌<◌, ◌⊎◌, ℕ, Bool, List, length, codes}
 use Rattle.serde_json.specs.Data.{Data}
 use Rattle.serde_json.specs.View.{view}
-use Rattle.schemars_schema.specs.Acceptance.{Patterns}
+use Rattle.schemars_schema.specs.Acceptance.{Patterns, draft2020_12}
 use Rattle.schemars_types.specs.Rows.{Row}
+use Rattle.schemars_types.specs.Faults.{IsAccepted}
 use Rattle.schemars_types.specs.declared.contract.Contract.{Contract}
 use Rattle.schemars_types.specs.Meaning.{belongs}
-use Rattle.schemars_headline.specs.Headline.{MeansItsType}
+use Rattle.schemars_headline.specs.Headline.{Headline, MeansItsType}
+use Rattle.schemars_generate.specs.Refusals.{IsTableRefusal}
+use Rattle.schemars_generate.specs.declared.error.GenerateError as generating
 use Rattle.schemars_validator.specs.Asked.{dialect_of, path_of}
+use Rattle.schemars_validator.specs.Texts.{IsReadBy}
+use Rattle.schemars_validator.specs.Expressions.{AreExpressionsOf}
+use Rattle.schemars_validator.specs.Refused.{IsRefusal}
+use Rattle.schemars_validator.specs.declared.draft.Draft.TheVariants.{Draft2020_12}
+use Rattle.schemars_validator.specs.declared.expressions.Expression.{Expression}
 use Rattle.schemars_validator.specs.declared.validator.Validator.{Validator}
+use Rattle.schemars_membership.specs.declared.error.MembershipError as membership
 
--- the answer is whether a value belongs to row n under some reading of patterns
-abbrev pub Belongs : List Row → Contract → ℕ → Data → Bool → Type 0
-Belongs rows contract n v answer = (patterns : Patterns) × (answer ≡ belongs rows contract patterns n v)
+-- the answer is whether a value belongs to row n, where a text matches a pattern as these expressions answer
+abbrev pub Belongs : List Expression → List Row → Contract → ℕ → Data → Bool → Type 0
+Belongs expressions rows contract n v answer =
+    (patterns : Patterns) × IsReadBy expressions v patterns × (answer ≡ belongs rows contract patterns n v)
+
+-- and the expressions are those of a document that means the row
+abbrev pub IsMember : List Row → Contract → ℕ → Data → Bool → Type 0
+IsMember rows contract n v answer = (document : Data) × (expressions : List Expression)
+    × MeansItsType draft2020_12 rows contract (codes "/$defs") n document × AreExpressionsOf document expressions
+    × Belongs expressions rows contract n v answer
 
 -- the validator's document means row n
 abbrev pub IsOfType : Validator → List Row → Contract → ℕ → Type 0
 IsOfType validator rows contract n =
     MeansItsType (dialect_of validator.draft) rows contract (path_of validator.draft) n (view validator.document.now)
+
+-- a row of an accepted table has no document: there is no such row, or its definitions cannot be placed, or memory runs out
+abbrev pub IsRowRefusal : List Row → ℕ → generating.GenerateError → Type 0
+IsRowRefusal rows n e = ((e ≡ generating.TheVariants.UnknownType n) × (length rows ≤ n))
+    ⊎ ((n < length rows) × ((e ≡ generating.TheVariants.OutOfMemory) ⊎ (e ≡ generating.TheVariants.DefinitionsPath)))
+
+-- why there is no document of row n: the table is refused, or the row
+abbrev pub IsDocumentRefusal : List Row → ℕ → generating.GenerateError → Type 0
+IsDocumentRefusal rows n e = IsTableRefusal rows e ⊎ (IsAccepted rows × IsRowRefusal rows n e)
+
+-- why it is not decided whether a value belongs to row n: it has no document, or the validator refuses the document
+abbrev pub IsUndecided : List Row → Contract → ℕ → membership.MembershipError → Type 0
+IsUndecided rows contract n (membership.TheVariants.Generate e) = IsDocumentRefusal rows n e
+IsUndecided rows contract n (membership.TheVariants.Document refusal) = (document : Data)
+    × Headline draft2020_12 rows contract (codes "/$defs") n document × IsRefusal Draft2020_12 document refusal
+IsUndecided rows contract n membership.TheVariants.OutOfMemory = Unit {0}

@@ -1,4 +1,6 @@
 //! Why it is not decided whether a value belongs to a type.
+ghost use Rattle.std.specs.Prelude.{◌≡◌};
+
 use schemars_generate::GenerateError;
 use schemars_validator::Refusal;
 use std::alloc::AllocError;
@@ -15,18 +17,30 @@ pub enum MembershipError {
 }
 
 impl From<GenerateError> for MembershipError {
+    ghost use Rattle.schemars_membership.specs.declared.error.MembershipError.TheVariants.{Generate};
+
+    ghost from_gives = { λ given error. error ≡ Generate given };
+
     fn from(error: GenerateError) -> MembershipError {
         MembershipError::Generate(error)
     }
 }
 
 impl From<Refusal> for MembershipError {
+    ghost use Rattle.schemars_membership.specs.declared.error.MembershipError.TheVariants.{Document};
+
+    ghost from_gives = { λ given error. error ≡ Document given };
+
     fn from(refusal: Refusal) -> MembershipError {
         MembershipError::Document(refusal)
     }
 }
 
 impl From<AllocError> for MembershipError {
+    ghost use Rattle.schemars_membership.specs.declared.error.MembershipError.TheVariants.{OutOfMemory};
+
+    ghost from_gives = { λ _ error. error ≡ OutOfMemory };
+
     fn from(_: AllocError) -> MembershipError {
         MembershipError::OutOfMemory
     }

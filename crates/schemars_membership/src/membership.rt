@@ -1,11 +1,11 @@
 //! The document of a type, and the values that belong to the type by it.
-ghost use Rattle.std.specs.Prelude.{ℕ, List, IfOk, codes};
+ghost use Rattle.std.specs.Prelude.{ℕ, List, IfOk, IfErr, codes};
 ghost use Rattle.serde_json.specs.View.{view};
 ghost use Rattle.schemars_schema.specs.Acceptance.{draft2020_12};
 ghost use Rattle.schemars_types.specs.Rows.{Row};
 ghost use Rattle.schemars_types.specs.declared.contract.Contract.{Contract as Which};
 ghost use Rattle.schemars_headline.specs.Headline.{Headline, IsPlainFor};
-ghost use Rattle.schemars_membership.specs.Membership.{Belongs, IsOfType};
+ghost use Rattle.schemars_membership.specs.Membership.{Belongs, IsDocumentRefusal, IsMember, IsOfType, IsUndecided};
 
 use crate::error::MembershipError;
 use schemars_generate::{GenerateError, SchemaGenerator, SchemaSettings};
@@ -21,14 +21,16 @@ use std::alloc::{AllocError, Global};
 ///
 /// # Errors
 ///
-/// Those of `SchemaGenerator::with_types` and `into_root_schema_for_type`.
+/// Those of `Types::check`, `UnknownType` if there is no such row, `DefinitionsPath` where notes of the
+/// row are in the way of the definitions, and `OutOfMemory`.
 pub fn type_document(
     alloc: Global,
     types: Types,
     n: TypeNo,
     contract: Contract,
 ) -> Result<Schema, GenerateError>
-    ensures { IfOk result (Headline draft2020_12 types contract (codes "/$defs") n) }
+    ensures means { IfOk result (Headline draft2020_12 types contract (codes "/$defs") n) }
+    ensures refused { IfErr result (IsDocumentRefusal types n) }
 {
     let mut settings = SchemaSettings::<NoTransform>::draft2020_12(alloc);
     settings.contract = contract;
@@ -49,7 +51,7 @@ pub fn is_member(
     value: &Value,
 ) -> Result<bool, AllocError>
     ensures { (rows : List Row) (contract : Which) (n : ℕ) → IsOfType validator.now rows contract n
-        → IfOk result (Belongs rows contract n (view value.now)) }
+        → IfOk result (Belongs validator.now.expressions.items rows contract n (view value.now)) }
 {
     look(value);
     validator.is_valid(alloc, value)
@@ -59,8 +61,8 @@ pub fn is_member(
 ///
 /// # Errors
 ///
-/// Where the table has a fault, or its document has a pattern that is no expression, and where memory
-/// runs out.
+/// Those of `type_document`, and those of `Validator::new` for the document: that it has a pattern that
+/// is no expression, or a keyword that is not read; and where memory runs out.
 pub fn belongs(
     alloc: Global,
     types: Types,
@@ -68,8 +70,9 @@ pub fn belongs(
     contract: Contract,
     value: &Value,
 ) -> Result<bool, MembershipError>
-    ensures { IsPlainFor draft2020_12 contract types
-        → IfOk result (Belongs types contract n (view value.now)) }
+    ensures decides { IsPlainFor draft2020_12 contract types
+        → IfOk result (IsMember types contract n (view value.now)) }
+    ensures undecided { IfErr result (IsUndecided types contract n) }
 {
     let document = type_document(alloc, types, n, contract)?;
     let validator = Validator::new(alloc, Draft::Draft2020_12, document.as_value())?;

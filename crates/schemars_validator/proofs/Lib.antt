@@ -1,2 +1,8 @@
 -- Lemmas that several proofs share.
 pub mod Pairs
+pub mod Translated
+pub mod Following
+pub mod Telling
+pub mod Elements
+pub mod Refusing
+mod Examples

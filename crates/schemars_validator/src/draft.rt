@@ -1,9 +1,25 @@
 //! The dialects of JSON Schema.
 ghost use Rattle.std.specs.Prelude.{◌≡◌};
 ghost use Rattle.schemars_validator.specs.Asked.{dialect_of, path_of};
+ghost use Rattle.schemars_validator.specs.Unread.{is_named_by};
 
-use schemars_schema::consts::meta_schemas;
+use schemars_schema::edits::is_listed;
 use schemars_validate::Dialect;
+
+const DRAFT07: [&str; 2] = [
+    "http://json-schema.org/draft-07/schema#",
+    "http://json-schema.org/draft-07/schema",
+];
+
+const DRAFT2019_09: [&str; 2] = [
+    "https://json-schema.org/draft/2019-09/schema",
+    "https://json-schema.org/draft/2019-09/schema#",
+];
+
+const DRAFT2020_12: [&str; 2] = [
+    "https://json-schema.org/draft/2020-12/schema",
+    "https://json-schema.org/draft/2020-12/schema#",
+];
 
 /// A dialect of JSON Schema.
 #[derive(Clone, Copy, Debug, PartialEq, Eq)]
@@ -40,14 +56,15 @@ impl Draft {
 
     /// Whether `$schema` may say this: the draft's own meta-schema, with `#` behind it or without it. In
     /// OpenAPI it is no keyword.
-    pub fn is_named_by(self, meta_schema: &str) -> bool {
-        let own = match self {
-            Draft::Draft07 => meta_schemas::DRAFT07,
-            Draft::Draft2019_09 => meta_schemas::DRAFT2019_09,
-            Draft::Draft2020_12 => meta_schemas::DRAFT2020_12,
-            Draft::OpenApi3 => return true,
-        };
-        meta_schema.trim_end_matches('#') == own.trim_end_matches('#')
+    pub fn is_named_by(self, meta_schema: &str) -> bool
+        ensures { result ≡ is_named_by self meta_schema.now }
+    {
+        match self {
+            Draft::Draft07 => is_listed(meta_schema, &DRAFT07),
+            Draft::Draft2019_09 => is_listed(meta_schema, &DRAFT2019_09),
+            Draft::Draft2020_12 => is_listed(meta_schema, &DRAFT2020_12),
+            Draft::OpenApi3 => true,
+        }
     }
 
     /// The JSON Pointer at which its documents have their definitions.

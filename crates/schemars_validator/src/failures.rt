@@ -3,11 +3,13 @@ ghost use Rattle.std.specs.Prelude.{◌≡◌, IfOk, IsTrue, OnOk};
 ghost use Rattle.schemars_validator.specs.Asked.{has_some};
 
 use crate::keywords::BY_ITSELF;
-use crate::places::{item_place, member_place};
+use crate::places::member_place;
+use crate::probes::{UNEVALUATED, with_keywords, with_others_judged, without};
 use crate::reading::Reading;
 use crate::sentences::{Choice, sentence_about, sentence_of_choice};
+use crate::ways::{Way, parts_of, ways_listed, ways_to};
 use schemars_schema::Schema;
-use schemars_validate::{Dialect, Patterns, Verdict, resolved, validate};
+use schemars_validate::{Dialect, Verdict, resolved, validate};
 use serde_json::{Map, Value};
 use std::alloc::{AllocError, Global};
 
@@ -136,18 +138,26 @@ fn explain_object(
     at: &At<'_>,
     failures: &mut Vec<Failure>,
 ) -> Result<(), AllocError> {
+    let alloc = asked.alloc;
     let before = failures.len();
     explain_itself(asked, keywords, at, failures)?;
     explain_required(asked, keywords, at, failures)?;
-    explain_reference(asked, left, keywords, at, failures)?;
-    explain_members(asked, left, keywords, at, failures)?;
-    explain_items(asked, left, keywords, at, failures)?;
-    explain_all(asked, left, keywords, at, failures)?;
+    explain_ways(
+        asked,
+        left,
+        &way_of_reference(asked, keywords)?,
+        at,
+        failures,
+    )?;
+    explain_parts(asked, left, keywords, at, failures)?;
+    let all = ways_listed(alloc, keywords, "allOf")?;
+    explain_ways(asked, left, &all, at, failures)?;
     explain_choices(asked, left, keywords, at, failures)?;
     if failures.len() == before {
-        // what remains denies members that no keyword judges
-        let error = "has a member that no keyword allows";
-        add(asked, at, "unevaluatedProperties", error, failures)?;
+        explain_unjudged(asked, left, keywords, at, failures)?;
+    }
+    if failures.len() == before {
+        add(asked, at, "", "is not accepted", failures)?;
     }
     Ok(())
 }
@@ -195,212 +205,101 @@ fn explain_required(
     Ok(())
 }
 
-// A schema of some of the keywords.
-fn with_keywords(
-    alloc: Global,
-    keywords: &Map<String, Value>,
-    names: &[&str],
-) -> Result<Value, AllocError> {
-    let mut some = Map::new(alloc);
-    for name in names {
-        if let Some(value) = keywords.get(*name) {
-            drop(some.insert(String::from_str(alloc, name)?, value.clone()?)?);
+// ---- schemas of the same value, and of its parts
+
+// What the reference leads to.
+fn way_of_reference<'a>(
+    asked: &Asked<'a>,
+    keywords: &'a Map<String, Value>,
+) -> Result<Vec<Way<'a>>, AllocError> {
+    let mut ways = Vec::new(asked.alloc);
+    if let Some(Value::String(name)) = keywords.get("$ref") {
+        if let Some(schema) = resolved(asked.alloc, asked.document, name.as_str())? {
+            ways.push(Way {
+                keyword: "$ref",
+                key: None,
+                schema,
+            })?;
         }
     }
-    Ok(Value::Object(some))
+    Ok(ways)
 }
 
-// ---- parts
-
+// Adds why schemas under keywords of the object at the place deny the value.
 #[cycle(explain)]
-fn explain_reference(
+fn explain_ways(
     asked: &Asked<'_>,
     left: u32,
-    keywords: &Map<String, Value>,
+    ways: &[Way<'_>],
     at: &At<'_>,
     failures: &mut Vec<Failure>,
 ) -> Result<(), AllocError> {
-    let Some(Value::String(name)) = keywords.get("$ref") else {
-        return Ok(());
-    };
-    match resolved(asked.alloc, asked.document, name.as_str())? {
-        Some(schema) => explain_same(asked, left, schema, at, "$ref", failures),
-        None => Ok(()),
+    for way in ways {
+        let place = way.place_in(asked.alloc, at.keywords)?;
+        let inner = At {
+            instance: at.instance,
+            keywords: place.as_str(),
+            value: at.value,
+        };
+        explain(asked, left, way.schema, &inner, failures)?;
     }
-}
-
-// Another schema of the same value.
-#[cycle(explain)]
-fn explain_same(
-    asked: &Asked<'_>,
-    left: u32,
-    schema: &Value,
-    at: &At<'_>,
-    keyword: &str,
-    failures: &mut Vec<Failure>,
-) -> Result<(), AllocError> {
-    let place = member_place(asked.alloc, at.keywords, keyword)?;
-    let inner = At {
-        instance: at.instance,
-        keywords: place.as_str(),
-        value: at.value,
-    };
-    explain(asked, left, schema, &inner, failures)
+    Ok(())
 }
 
 #[cycle(explain)]
-fn explain_members(
+fn explain_parts(
     asked: &Asked<'_>,
     left: u32,
     keywords: &Map<String, Value>,
     at: &At<'_>,
     failures: &mut Vec<Failure>,
 ) -> Result<(), AllocError> {
-    let Value::Object(members) = at.value else {
+    for (key, value) in parts_of(asked.alloc, at.value)? {
+        let instance = key.place_in(asked.alloc, at.instance)?;
+        let inner = At {
+            instance: instance.as_str(),
+            keywords: at.keywords,
+            value,
+        };
+        let ways = ways_to(asked.alloc, asked.reading, keywords, key)?;
+        explain_ways(asked, left, &ways, &inner, failures)?;
+    }
+    Ok(())
+}
+
+// The members that no keyword but `unevaluatedProperties` judges, and that it denies.
+#[cycle(explain)]
+fn explain_unjudged(
+    asked: &Asked<'_>,
+    left: u32,
+    keywords: &Map<String, Value>,
+    at: &At<'_>,
+    failures: &mut Vec<Failure>,
+) -> Result<(), AllocError> {
+    let (Some(schema), Value::Object(members)) = (keywords.get(UNEVALUATED), at.value) else {
         return Ok(());
     };
+    let rest = without(asked.alloc, keywords, UNEVALUATED)?;
+    if is_denied(asked, &rest, at.value)? {
+        return Ok(());
+    }
     for (name, member) in members.iter() {
-        let instance = member_place(asked.alloc, at.instance, name.as_str())?;
-        let inner = At {
-            instance: instance.as_str(),
-            keywords: at.keywords,
-            value: member,
-        };
-        explain_member(asked, left, keywords, name.as_str(), &inner, failures)?;
+        let probe = with_others_judged(asked.alloc, &rest, schema, members, name.as_str())?;
+        if is_denied(asked, &probe, at.value)? {
+            let instance = member_place(asked.alloc, at.instance, name.as_str())?;
+            let place = member_place(asked.alloc, at.keywords, UNEVALUATED)?;
+            let inner = At {
+                instance: instance.as_str(),
+                keywords: place.as_str(),
+                value: member,
+            };
+            explain(asked, left, schema, &inner, failures)?;
+        }
     }
     Ok(())
 }
 
-// A member, by `properties`, `patternProperties` and `additionalProperties`.
-#[cycle(explain)]
-fn explain_member(
-    asked: &Asked<'_>,
-    left: u32,
-    keywords: &Map<String, Value>,
-    name: &str,
-    at: &At<'_>,
-    failures: &mut Vec<Failure>,
-) -> Result<(), AllocError> {
-    let mut covered = false;
-    if let Some(Value::Object(properties)) = keywords.get("properties") {
-        if let Some(schema) = properties.get(name) {
-            covered = true;
-            explain_named(asked, left, schema, at, "properties", name, failures)?;
-        }
-    }
-    if let Some(Value::Object(patterns)) = keywords.get("patternProperties") {
-        for (pattern, schema) in patterns.iter() {
-            if asked.reading.matches(pattern.as_str(), name) {
-                covered = true;
-                let pattern = pattern.as_str();
-                explain_named(
-                    asked,
-                    left,
-                    schema,
-                    at,
-                    "patternProperties",
-                    pattern,
-                    failures,
-                )?;
-            }
-        }
-    }
-    match keywords.get("additionalProperties") {
-        Some(schema) if !covered => {
-            explain_same(asked, left, schema, at, "additionalProperties", failures)
-        }
-        _ => Ok(()),
-    }
-}
-
-// A schema under a name in a keyword.
-#[cycle(explain)]
-fn explain_named(
-    asked: &Asked<'_>,
-    left: u32,
-    schema: &Value,
-    at: &At<'_>,
-    keyword: &str,
-    name: &str,
-    failures: &mut Vec<Failure>,
-) -> Result<(), AllocError> {
-    let place = member_place(asked.alloc, at.keywords, keyword)?;
-    let inner = At {
-        instance: at.instance,
-        keywords: place.as_str(),
-        value: at.value,
-    };
-    explain_same(asked, left, schema, &inner, name, failures)
-}
-
-#[cycle(explain)]
-fn explain_items(
-    asked: &Asked<'_>,
-    left: u32,
-    keywords: &Map<String, Value>,
-    at: &At<'_>,
-    failures: &mut Vec<Failure>,
-) -> Result<(), AllocError> {
-    let Value::Array(items) = at.value else {
-        return Ok(());
-    };
-    for (n, item) in items.iter().enumerate() {
-        let instance = item_place(asked.alloc, at.instance, n)?;
-        let inner = At {
-            instance: instance.as_str(),
-            keywords: at.keywords,
-            value: item,
-        };
-        explain_item(asked, left, keywords, n, &inner, failures)?;
-    }
-    Ok(())
-}
-
-// An item, by `prefixItems`, `items` and `additionalItems`.
-#[cycle(explain)]
-fn explain_item(
-    asked: &Asked<'_>,
-    left: u32,
-    keywords: &Map<String, Value>,
-    n: usize,
-    at: &At<'_>,
-    failures: &mut Vec<Failure>,
-) -> Result<(), AllocError> {
-    let (first, others) = match keywords.get("items") {
-        Some(Value::Array(_)) => ("items", "additionalItems"),
-        _ => ("prefixItems", "items"),
-    };
-    if let Some(Value::Array(schemas)) = keywords.get(first) {
-        if let Some(schema) = schemas.get(n) {
-            let place = format!(in asked.alloc; "{n}")?;
-            return explain_named(asked, left, schema, at, first, place.as_str(), failures);
-        }
-    }
-    match keywords.get(others) {
-        Some(schema) => explain_same(asked, left, schema, at, others, failures),
-        None => Ok(()),
-    }
-}
-
-// ---- schemas of the same value
-
-#[cycle(explain)]
-fn explain_all(
-    asked: &Asked<'_>,
-    left: u32,
-    keywords: &Map<String, Value>,
-    at: &At<'_>,
-    failures: &mut Vec<Failure>,
-) -> Result<(), AllocError> {
-    let Some(Value::Array(schemas)) = keywords.get("allOf") else {
-        return Ok(());
-    };
-    for (n, schema) in schemas.iter().enumerate() {
-        let place = format!(in asked.alloc; "{n}")?;
-        explain_named(asked, left, schema, at, "allOf", place.as_str(), failures)?;
-    }
-    Ok(())
-}
+// ---- choices
 
 #[cycle(explain)]
 fn explain_choices(
@@ -419,7 +318,8 @@ fn explain_choices(
                 let error = sentence_of_choice(asked.alloc, choice, fitting)?;
                 add(asked, at, choice.keyword(), error.as_str(), failures)?;
                 if fitting == 0 {
-                    explain_each(asked, left, schemas, at, choice.keyword(), failures)?;
+                    let ways = ways_listed(asked.alloc, keywords, choice.keyword())?;
+                    explain_each(asked, left, &ways, at, failures)?;
                 }
             }
         }
@@ -432,18 +332,13 @@ fn explain_choices(
 fn explain_each(
     asked: &Asked<'_>,
     left: u32,
-    schemas: &Value,
+    ways: &[Way<'_>],
     at: &At<'_>,
-    keyword: &str,
     failures: &mut Vec<Failure>,
 ) -> Result<(), AllocError> {
-    let Value::Array(schemas) = schemas else {
-        return Ok(());
-    };
-    for (n, schema) in schemas.iter().enumerate() {
-        let place = format!(in asked.alloc; "{n}")?;
+    for way in ways {
         let mut own = Vec::new(asked.alloc);
-        explain_named(asked, left, schema, at, keyword, place.as_str(), &mut own)?;
+        explain_ways(asked, left, &[*way], at, &mut own)?;
         if !has_other_type(&own, at.instance) {
             for failure in own {
                 failures.push(failure)?;

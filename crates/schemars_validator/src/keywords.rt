@@ -1,4 +1,7 @@
-//! Keywords by what their values are.
+//! Keywords by what their values are, and those that are not read.
+ghost use Rattle.std.specs.Prelude.{◌≡◌};
+ghost use Rattle.schemars_validator.specs.Unread.{is_unread, is_unread_in, is_unread_from_2019_09};
+
 use crate::draft::Draft;
 use schemars_schema::edits::is_listed;
 
@@ -50,16 +53,25 @@ const UNREAD_FROM_2019_09: [&str; 3] = [
 ];
 
 /// Whether a keyword of the dialect judges values and is not read.
-pub fn is_unread(draft: Draft, keyword: &str) -> bool {
-    is_listed(keyword, &UNREAD)
-        || match draft {
-            Draft::OpenApi3 => false,
-            Draft::Draft07 => is_listed(keyword, &UNREAD_IN_DRAFTS),
-            Draft::Draft2019_09 => is_unread_from_2019_09(keyword) || keyword == "$recursiveRef",
-            Draft::Draft2020_12 => is_unread_from_2019_09(keyword) || keyword == "$dynamicRef",
-        }
+pub fn is_unread(draft: Draft, keyword: &str) -> bool
+    ensures { result ≡ is_unread draft keyword.now }
+{
+    is_listed(keyword, &UNREAD) || is_unread_in(draft, keyword)
 }
 
-fn is_unread_from_2019_09(keyword: &str) -> bool {
+fn is_unread_in(draft: Draft, keyword: &str) -> bool
+    ensures { result ≡ is_unread_in draft keyword.now }
+{
+    match draft {
+        Draft::OpenApi3 => false,
+        Draft::Draft07 => is_listed(keyword, &UNREAD_IN_DRAFTS),
+        Draft::Draft2019_09 => is_unread_from_2019_09(keyword) || keyword == "$recursiveRef",
+        Draft::Draft2020_12 => is_unread_from_2019_09(keyword) || keyword == "$dynamicRef",
+    }
+}
+
+fn is_unread_from_2019_09(keyword: &str) -> bool
+    ensures { result ≡ is_unread_from_2019_09 keyword.now }
+{
     is_listed(keyword, &UNREAD_IN_DRAFTS) || is_listed(keyword, &UNREAD_FROM_2019_09)
 }

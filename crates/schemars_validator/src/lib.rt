@@ -6,12 +6,15 @@ mod ecma;
 mod expressions;
 mod failures;
 mod keywords;
+mod members;
 mod places;
+mod probes;
 mod reading;
 mod refusal;
 mod sentences;
 mod unread;
 mod validator;
+mod ways;
 
 pub use draft::Draft;
 pub use failures::Failure;

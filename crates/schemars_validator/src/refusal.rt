@@ -1,7 +1,8 @@
 //! Why a document is not taken.
 ghost use Rattle.std.specs.Prelude.{◌≡◌};
 
-use std::alloc::AllocError;
+use crate::expressions::Expression;
+use std::alloc::{AllocError, AllocFailed};
 use std::fmt::{self, Display, Formatter, Write};
 
 /// A keyword that judges values and is not read, or a reference that is not followed.
@@ -30,6 +31,16 @@ impl From<AllocError> for Refusal {
     ghost from_gives = { λ _ refusal. refusal ≡ OutOfMemory };
 
     fn from(_: AllocError) -> Refusal {
+        Refusal::OutOfMemory
+    }
+}
+
+impl From<AllocFailed<Expression>> for Refusal {
+    ghost use Rattle.schemars_validator.specs.declared.refusal.Refusal.TheVariants.{OutOfMemory};
+
+    ghost from_gives = { λ _ refusal. refusal ≡ OutOfMemory };
+
+    fn from(_: AllocFailed<Expression>) -> Refusal {
         Refusal::OutOfMemory
     }
 }

@@ -1,14 +1,15 @@
 //! A document that is asked about many values.
-ghost use Rattle.std.specs.Prelude.{◌≡◌, ◌≤◌, IfOk, OnOk, true};
+ghost use Rattle.std.specs.Prelude.{◌≡◌, ◌≤◌, IfOk, OnOk, IfErr};
 ghost use Rattle.serde_json.specs.View.{view};
-ghost use Rattle.schemars_schema.specs.SchemaData.{is_schema};
 ghost use Rattle.schemars_schema.specs.Acceptance.{bound};
 ghost use Rattle.schemars_validate.specs.Meant.{meant};
 ghost use Rattle.schemars_validator.specs.Asked.{Accepts, IsOf, Says, has_some, is_no, pairs_of, path_of};
 ghost use Rattle.schemars_validator.specs.Texts.{IsReadBy};
+ghost use Rattle.schemars_validator.specs.Expressions.{AreExpressionsOf};
+ghost use Rattle.schemars_validator.specs.Refused.{IsRead, IsRefusal};
 
 use crate::draft::Draft;
-use crate::expressions::{Expression, expressions_in};
+use crate::expressions::{Expression, compiled, patterns_in};
 use crate::failures::{Failure, failures_of};
 use crate::places::{Place, schemas_in};
 use crate::reading::{Reading, read};
@@ -18,6 +19,7 @@ use schemars_schema::Schema;
 use schemars_validate::{Verdict, bound, depth, validate};
 use serde_json::Value;
 use std::alloc::{AllocError, Global};
+use std::collections::HashSet;
 
 /// What a document says of a value, and each keyword that the value does not meet.
 #[derive(Debug, Drop)]
@@ -45,7 +47,9 @@ impl<'d> Validator<'d> {
     /// where memory runs out.
     pub fn new(alloc: Global, draft: Draft, document: &'d Value) -> Result<Validator<'d>, Refusal>
         ensures taken { IfOk result (λ v. IsOf draft (view document.now) v) }
-        ensures schema { OnOk result (is_schema (view document.now) ≡ true) }
+        ensures read { OnOk result (IsRead draft (view document.now)) }
+        ensures expressions { IfOk result (λ v. AreExpressionsOf (view document.now) v.expressions.items) }
+        ensures refused { IfErr result (IsRefusal draft (view document.now)) }
     {
         if !Schema::is_schema(document) {
             return Err(Refusal::NotASchema);
@@ -55,11 +59,14 @@ impl<'d> Validator<'d> {
         if !unread.is_empty() {
             return Err(Refusal::Unread(unread));
         }
+        let patterns = patterns_in(alloc, &schemas)?;
+        let expressions = compiled(alloc, &patterns)?;
+        let references = count_of_references(alloc, &schemas)?;
         Ok(Validator {
             draft,
             document,
-            expressions: expressions_in(alloc, &schemas)?,
-            references: count_of_references(&schemas),
+            expressions,
+            references,
         })
     }
 
@@ -143,12 +150,13 @@ fn all_references(references: u64, value: &Value) -> Option<u64> {
     deep.checked_mul(references.checked_add(2)?)
 }
 
-fn count_of_references(schemas: &[Place<'_>]) -> u64 {
-    let mut count: u64 = 0;
+// The places of references, each once.
+fn count_of_references(alloc: Global, schemas: &[Place<'_>]) -> Result<u64, AllocError> {
+    let mut places = HashSet::new(alloc);
     for schema in schemas {
         if schema.keywords.get("$ref").is_some() {
-            count = count.saturating_add(1);
+            places.insert(String::from_str(alloc, schema.pointer.as_str())?)?;
         }
     }
-    count
+    Ok(places.len() as u64)
 }

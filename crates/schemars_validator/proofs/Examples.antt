@@ -1,0 +1,74 @@
+-- The definitions at examples, computed.
+use Rattle.std.proofs.Common.{◌≡◌, [], ◌∷◌, true, refl, map}
+use Rattle.std.specs.Prelude.{codes}
+use Rattle.std.specs.Str.{chars}
+use Rattle.std.specs.Fmt.{digits}
+use lib.Utf8.{encode}
+use Rattle.serde_json.specs.Data.{Data, boolean, string, array, object, Items, no_items, item, Members, no_members, member}
+use Rattle.schemars_schema.specs.Json.{Text}
+use Rattle.schemars_validator.specs.declared.draft.Draft.TheVariants.{Draft07, Draft2020_12, OpenApi3}
+use Rattle.schemars_validator.specs.Translation.{expression_of}
+use Rattle.schemars_validator.specs.Standing.{schemas_at, schemas_inside, schemas_under, schemas_listed, schemas_named}
+use Rattle.schemars_validator.specs.Unread.{unread_among}
+use Rattle.schemars_validator.specs.Expressions.{patterns_in}
+
+-- ---- patterns
+
+classes_of_escapes : expression_of (codes "^\\d+.$") ≡ codes "^[0-9]+[^\\n\\r\\x{2028}\\x{2029}]$"
+unfolding expression_of chars encode
+classes_of_escapes = refl
+
+brackets : expression_of (codes "[^[\\b&][]") ≡ codes "[^\\[\\x08\\&][[a&&b]]"
+unfolding expression_of chars encode
+brackets = refl
+
+backslash : expression_of (codes "a\\") ≡ codes "a\\"
+unfolding expression_of chars encode
+backslash = refl
+
+-- ---- places
+
+-- {"allOf": [true, {"not": {}}], "enum": [{"not": {}}], "properties": {"a/~": {}}}
+abbrev choices : Items
+choices = item (boolean true) (item (object (member (codes "not") (object no_members) no_members)) no_items)
+
+abbrev document : Data
+document = object (member (codes "allOf") (array choices)
+    (member (codes "enum") (array choices)
+    (member (codes "properties") (object (member (codes "a/~") (object no_members) no_members)) no_members)))
+
+places : map (λ s. s.0) (schemas_at [] document)
+    ≡ [] ∷ codes "/allOf/1" ∷ codes "/allOf/1/not" ∷ codes "/properties/a~1~0" ∷ []
+unfolding schemas_at schemas_inside schemas_under schemas_listed schemas_named chars encode digits
+places = refl
+
+-- ---- keywords that are not read
+
+-- {"$id": "a", "if": {}, "multipleOf": true}
+abbrev conditional : Members
+conditional = member (codes "$id") (string (codes "a")) (member (codes "if") (object no_members)
+    (member (codes "multipleOf") (boolean true) no_members))
+
+unread : unread_among Draft2020_12 document (codes "/not") conditional
+    ≡ (codes "/not/$id", codes "$id") ∷ (codes "/not/if", codes "if") ∷ (codes "/not/multipleOf", codes "multipleOf") ∷ []
+unfolding chars encode
+unread = refl
+
+unread_whole : unread_among OpenApi3 document [] conditional ≡ (codes "/multipleOf", codes "multipleOf") ∷ []
+unfolding chars encode
+unread_whole = refl
+
+-- {"$schema": "a"}
+other_dialect : unread_among Draft07 document [] (member (codes "$schema") (string (codes "a")) no_members)
+    ≡ (codes "/$schema", codes "$schema") ∷ []
+unfolding chars encode
+other_dialect = refl
+
+-- ---- patterns of a schema
+
+-- {"pattern": "a", "patternProperties": {"b": true}}
+asked : patterns_in (codes "/not") (member (codes "pattern") (string (codes "a"))
+    (member (codes "patternProperties") (object (member (codes "b") (boolean true) no_members)) no_members))
+    ≡ (codes "/not/pattern", codes "a") ∷ (codes "/not/patternProperties", codes "b") ∷ []
+unfolding chars encode
+asked = refl

@@ -1,0 +1,10 @@
+-- The names so far, and those that are left.
+use Rattle.std.proofs.Common.{◌≡◌, ◌++◌}
+use Rattle.serde_json.specs.View.{members_view}
+use Rattle.schemars_validator.specs.Expressions.{asked_of, each_name}
+use Rattle.schemars_validator.proofs.expressions.add_each_name.Given as goal
+
+abbrev pub invariant-loop-pattern : goal.invariant-loop-pattern
+invariant-loop-pattern l =
+    asked_of l.asked.items ++ each_name l.place (members_view l.pattern-iterator)
+    ≡ asked_of l.fn.asked.items ++ each_name l.place (members_view l.schemas.entries)
