@@ -1,7 +1,8 @@
-//! Prints a team as serde writes it, which each document of the team's row accepts.
+//! Prints values as serde writes them, which each document of their rows accepts.
 #![tactic(auto)]
 
 mod amount;
+mod enum_schemas;
 mod event;
 mod message;
 mod order;
@@ -10,13 +11,19 @@ mod person;
 mod schemas;
 mod team;
 
+use crate::amount::Amount;
+use crate::event::Event;
+use crate::message::Message;
+use crate::order::Order;
+use crate::page::Page;
 use crate::person::Person;
 use crate::team::Team;
 use anyhow::Result;
 use schemars_accepted::to_accepted_value;
 use schemars_agreement::Agrees;
-use schemars_impls::register;
+use schemars_impls::{JsonSchema, register};
 use schemars_types::Types;
+use serde_json::Value;
 use std::alloc::{AllocError, Global};
 use std::collections::BTreeMap;
 
@@ -33,7 +40,35 @@ fn main(rt: HostRuntime) -> Result<()> {
         let written = to_accepted_value(alloc, &types, team, &value)?;
         println!(rt; "{written}")?;
     }
+    for written in others(alloc)? {
+        println!(rt; "{written}")?;
+    }
     Ok(())
+}
+
+fn others(alloc: Global) -> Result<Vec<Value>> {
+    let mut all = Vec::new(alloc);
+    let (title, note) = (String::from_str(alloc, "Start")?, None);
+    all.push(written(alloc, &Page { title, note })?)?;
+    all.push(written(alloc, &Event::Moved(1, -1))?)?;
+    all.push(written(alloc, &Amount::Between(2, 5))?)?;
+    let (body, to) = (String::from_str(alloc, "hello")?, None);
+    all.push(written(alloc, &Message::Text { body, to })?)?;
+    all.push(written(alloc, &Order::Wait(3))?)?;
+    Ok(all)
+}
+
+// Returns what serde writes for the value, which the documents of its row accept, or null if the
+// row is another.
+fn written<T: Agrees + JsonSchema>(alloc: Global, value: &T) -> Result<Value> {
+    let mut types = Types::new(alloc);
+    let n = register::<T>(alloc, &mut types)?;
+    types.check(alloc)?;
+    if n < types.len() && T::has_row(&types, n) {
+        Ok(to_accepted_value(alloc, &types, n, value)?)
+    } else {
+        Ok(Value::Null)
+    }
 }
 
 fn example(alloc: Global) -> Result<Team, AllocError> {
