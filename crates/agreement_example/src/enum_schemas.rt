@@ -9,7 +9,11 @@ use crate::event::Event;
 use crate::message::Message;
 use crate::order::Order;
 use crate::page::Page;
-use schemars_impls::{JsonSchema, OPTIONAL, REQUIRED, add_field, add_internal_struct, add_internal_unit, add_newtype, add_one, add_struct, add_tuple, add_unit, adjacent_entry, external_entry, internal_entry, struct_entry, untagged_entry};
+use schemars_impls::{
+    JsonSchema, OPTIONAL, REQUIRED, add_field, add_internal_struct, add_internal_unit, add_newtype,
+    add_one, add_struct, add_tuple, add_unit, adjacent_entry, external_entry, internal_entry,
+    struct_entry, untagged_entry,
+};
 use schemars_types::{TypeEntry, Types, TypesError};
 use std::alloc::{AllocError, Global};
 use std::borrow::CowStr;
