@@ -6,6 +6,7 @@
 
 mod fault;
 mod reading;
+mod schemas;
 mod settings;
 
 use crate::fault::Fault;
