@@ -24,7 +24,8 @@ use Rattle.agreement_example.specs.declared.event.Event.TheVariants as event
 pub as_is : (R : Text → Type 0) (name : Text) → R name → R (spelled AsIs Variant name)
 as_is R name has = subst R (sym (spelled-AsIs Variant name)) has
 
-pub event_law : (rows : List Row) (n : ℕ) (x : Event) → IsChecked rows → IsEventRow rows n → IsEvent x → Gives (event_writes x) (Means rows n)
+pub event_law : (rows : List Row) (n : ℕ) (x : Event) → IsChecked rows → IsEventRow rows n → IsEvent x
+    → Gives (event_writes x) (Means rows n)
 event_law rows n event.Started checked row valid =
     unit_law rows checked n (codes "started") AsIs (as_is (HasUnit rows n by_name) (codes "started") row.0)
 event_law rows n (event.Renamed name) checked row valid = newtype_law rows checked n (codes "renamed") AsIs (IsText rows)
@@ -32,7 +33,8 @@ event_law rows n (event.Renamed name) checked row valid = newtype_law rows check
     (λ m r. text_agrees rows m (string_bytes name) r)
 event_law rows n (event.Moved x y) checked row valid = tuple_law rows checked n (codes "moved") AsIs (MovedItems rows)
     (as_is (λ t. HasTuple rows n by_name t (MovedItems rows)) (codes "moved") row.2) 2 (Then (Sends (signed x)) (Sends (signed y)))
-    (next_item rows (IsI8 rows) (NextItem (IsI8 rows) LastItem) (Sends (signed x)) (Sends (signed y)) (λ m r. i8_law rows m x checked r valid.0)
+    (next_item rows (IsI8 rows) (NextItem (IsI8 rows) LastItem) (Sends (signed x)) (Sends (signed y))
+    (λ m r. i8_law rows m x checked r valid.0)
     (last_item rows (IsI8 rows) (Sends (signed y)) (λ m r. i8_law rows m y checked r valid.1)))
 event_law rows n (event.Joined name age) checked row valid =
     let age_sent = WritesOption (λ v. Sends (unsigned v)) age in

@@ -23,16 +23,19 @@ use Rattle.agreement_example.specs.declared.order.Order.{Order}
 use Rattle.agreement_example.specs.declared.order.Order.TheVariants as order
 use Rattle.agreement_example.specs.EventLaws.{as_is}
 
-pub amount_law : (rows : List Row) (n : ℕ) (x : Amount) → IsChecked rows → IsAmountRow rows n → IsAmount x → Gives (amount_writes x) (Means rows n)
+pub amount_law : (rows : List Row) (n : ℕ) (x : Amount) → IsChecked rows → IsAmountRow rows n → IsAmount x
+    → Gives (amount_writes x) (Means rows n)
 amount_law rows n amount.Unknown checked row valid = untagged_unit_law rows checked n (codes "unknown") row.0
 amount_law rows n (amount.Count v) checked row valid =
     untagged_newtype_law rows checked n (codes "count") (IsU64 rows) row.1 (Sends (unsigned v)) (λ m r. u64_law rows m v checked r valid)
 amount_law rows n (amount.Between a b) checked row valid =
     untagged_tuple_law rows checked n (codes "between") (BetweenItems rows) row.2 2 (Then (Sends (unsigned a)) (Sends (unsigned b)))
-    (next_item rows (IsU64 rows) (NextItem (IsU64 rows) LastItem) (Sends (unsigned a)) (Sends (unsigned b)) (λ m r. u64_law rows m a checked r valid.0)
+    (next_item rows (IsU64 rows) (NextItem (IsU64 rows) LastItem) (Sends (unsigned a)) (Sends (unsigned b))
+    (λ m r. u64_law rows m a checked r valid.0)
     (last_item rows (IsU64 rows) (Sends (unsigned b)) (λ m r. u64_law rows m b checked r valid.1)))
 amount_law rows n (amount.Named name) checked row valid =
-    untagged_fields_law rows checked n (codes "named") (NameField rows) row.3 1 (Field (codes "name") (Sends (text (string_bytes name))) Done)
+    untagged_fields_law rows checked n (codes "named") (NameField rows) row.3 1
+    (Field (codes "name") (Sends (text (string_bytes name))) Done)
     (next_field rows (codes "name") (IsText rows) LastField (Sends (text (string_bytes name))) Done
     (λ m r. text_agrees rows m (string_bytes name) r) (last_field rows))
 
@@ -41,7 +44,8 @@ anything : (x : Option (String Global)) → OfSome (λ s. ⊤) x
 anything None = tt
 anything (Some s) = tt
 
-pub message_law : (rows : List Row) (n : ℕ) (x : Message) → IsChecked rows → IsMessageRow rows n → ⊤ → Gives (message_writes x) (Means rows n)
+pub message_law : (rows : List Row) (n : ℕ) (x : Message) → IsChecked rows → IsMessageRow rows n → ⊤
+    → Gives (message_writes x) (Means rows n)
 message_law rows n message.Ping checked row valid = internal_unit_law rows checked n (codes "type") row.0.0 (codes "ping") AsIs
     (as_is (HasUnit rows n (by_tag (codes "type") row.0.0)) (codes "ping") row.0.1) 1
 message_law rows n (message.Text body to) checked row valid =
@@ -59,17 +63,20 @@ message_law rows n (message.Text body to) checked row valid =
     (λ k s is any. text_agrees rows k (string_bytes s) is) r to (anything to))
     (last_field rows)))
 
-pub order_law : (rows : List Row) (n : ℕ) (x : Order) → IsChecked rows → IsOrderRow rows n → IsOrder x → Gives (order_writes x) (Means rows n)
+pub order_law : (rows : List Row) (n : ℕ) (x : Order) → IsChecked rows → IsOrderRow rows n → IsOrder x
+    → Gives (order_writes x) (Means rows n)
 order_law rows n order.Stop checked row valid = adjacent_unit_law rows checked n (codes "kind") (codes "with") row.0.0 (codes "stop") AsIs
     (as_is (HasUnit rows n (by_tag_and_content (codes "kind") (codes "with") row.0.0)) (codes "stop") row.0.1) 1
-order_law rows n (order.Wait v) checked row valid = adjacent_newtype_law rows checked n (codes "kind") (codes "with") row.1.0 (codes "wait") AsIs (IsU32 rows)
+order_law rows n (order.Wait v) checked row valid = adjacent_newtype_law rows checked n (codes "kind") (codes "with") row.1.0
+    (codes "wait") AsIs (IsU32 rows)
     (as_is (λ t. HasNewtype rows n (by_tag_and_content (codes "kind") (codes "with") row.1.0) t (IsU32 rows)) (codes "wait") row.1.1)
     (Sends (unsigned v)) (λ m r. u32_law rows m v checked r valid) 2
 order_law rows n (order.Move x y) checked row valid =
     adjacent_tuple_law rows checked n (codes "kind") (codes "with") row.2.0 (codes "move") AsIs (MovedItems rows)
     (as_is (λ t. HasTuple rows n (by_tag_and_content (codes "kind") (codes "with") row.2.0) t (MovedItems rows)) (codes "move") row.2.1) 2
     (Then (Sends (signed x)) (Sends (signed y)))
-    (next_item rows (IsI8 rows) (NextItem (IsI8 rows) LastItem) (Sends (signed x)) (Sends (signed y)) (λ m r. i8_law rows m x checked r valid.0)
+    (next_item rows (IsI8 rows) (NextItem (IsI8 rows) LastItem) (Sends (signed x)) (Sends (signed y))
+    (λ m r. i8_law rows m x checked r valid.0)
     (last_item rows (IsI8 rows) (Sends (signed y)) (λ m r. i8_law rows m y checked r valid.1))) 2
 order_law rows n (order.Say words) checked row valid =
     adjacent_fields_law rows checked n (codes "kind") (codes "with") row.3.0 (codes "say") AsIs (WordsField rows)
