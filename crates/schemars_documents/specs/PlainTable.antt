@@ -99,7 +99,8 @@ IsPlainShape (shape.struct x) = AreDistinct x.list × AreNoted x.list
 IsPlainShape (shape.enum shape.by_name xs) = AreDistinctVariants xs × ArePlainVariants xs
 IsPlainShape (shape.enum shape.by_nothing xs) = ArePlainVariants xs
 IsPlainShape (shape.enum (shape.by_tag tag closed) xs) = AreDistinctVariants xs × ArePlainVariants xs × AreTagged tag xs
-IsPlainShape (shape.enum (shape.by_tag_and_content tag content closed) xs) = (bytes_eq tag content ≡ false) × AreDistinctVariants xs × ArePlainVariants xs
+IsPlainShape (shape.enum (shape.by_tag_and_content tag content closed) xs) =
+    (bytes_eq tag content ≡ false) × AreDistinctVariants xs × ArePlainVariants xs
 IsPlainShape (shape.literal d) = IsPlainLiteral d
 IsPlainShape _ = Unit {0}
 

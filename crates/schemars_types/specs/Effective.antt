@@ -38,7 +38,8 @@ required_only_if r f = record {
 -- the fields of a flattened Option may all be missing, unless it has to be there
 abbrev pub part_fields : List Row → (ℕ → List Field) → Flattened → List Field
 part_fields rows own p =
-    if is_some (option_at rows p.ty) then map (required_only_if p.required) (own (without_options rows p.ty)) else own (without_options rows p.ty)
+    if is_some (option_at rows p.ty) then map (required_only_if p.required) (own (without_options rows p.ty))
+    else own (without_options rows p.ty)
 
 -- a shape that is not a struct has no fields to flatten
 abbrev pub shape_fields : (Flattened → List Field) → Shape → List Field
