@@ -1,10 +1,9 @@
 //! The body of a `json_schema`, and what it says of its parts.
-use crate::imports::Imports;
-use crate::lines::Lines;
 use crate::names::plain;
 use schemaderive_known::Row;
 use schemaderive_options::Context;
 use schemaderive_syntax::{Fault, Place};
+use schemaderive_text::{Imports, Lines};
 use std::alloc::{AllocError, Global};
 
 /// How far the lines of a body are indented.

@@ -4,15 +4,12 @@
 mod body;
 mod choices;
 mod headers;
-mod imports;
 mod items;
 mod keywords;
 mod leading;
-mod lines;
 mod members;
 mod names;
 mod own_rows;
-mod texts;
 mod writer;
 
 pub use writer::{Implementations, implementations_of};
