@@ -118,7 +118,7 @@ pub unsigned_agrees : (rows : List Row) (n v : ℕ) (kind : IntKind) → HasShap
     → Gives (λ old new. Logs old new (event.unsigned v)) (Means rows n)
 unsigned_agrees rows n v kind is small of_kind = unsigned_gives v (Means rows n) (natural_means rows n v kind is small of_kind)
 
-integer_means : (rows : List Row) (n : ℕ) (z : ℤ) (kind : IntKind) → HasShape rows n (shape.int kind) → IsWithin64 z → is_of_kind kind z ≡ true
+pub integer_means : (rows : List Row) (n : ℕ) (z : ℤ) (kind : IntKind) → HasShape rows n (shape.int kind) → IsWithin64 z → is_of_kind kind z ≡ true
     → Means rows n (json.number (signed_decimal z))
 integer_means rows n (pos v) kind is small of_kind = natural_means rows n v kind is small of_kind
 integer_means rows n (negsuc v) kind is small of_kind =
@@ -155,7 +155,7 @@ text_agrees rows n t is = one (event.text t) (Means rows n) (λ s mid plain took
   grind (arith, common_steps, took),
 ))
 
-one_character : (c : ℕ) → code_points (encode_utf8 c) == 1 ≡ true
+pub one_character : (c : ℕ) → code_points (encode_utf8 c) == 1 ≡ true
 one_character c = rw (one-character c) refl
 
 pub char_agrees : (rows : List Row) (n c : ℕ) → HasShape rows n shape.char → Gives (λ old new. Logs old new (event.character c)) (Means rows n)

@@ -50,7 +50,7 @@ Fitting rows patterns steps tagging name p notes d = has_variant Serialize (belo
     (choices_within rows Serialize patterns steps) tagging d (expanded_variant (flattened_in rows) (part_enums rows) (variant name p notes)) ≡ true
 
 -- what a variant has, its enum has
-enum_fits : (rows : List Row) (patterns : Patterns) (n : ℕ) (tagging : Tagging) (name : Text) (p : Payload) → (row : HasVariantAt rows n tagging name p)
+pub enum_fits : (rows : List Row) (patterns : Patterns) (n : ℕ) (tagging : Tagging) (name : Text) (p : Payload) → (row : HasVariantAt rows n tagging name p)
     → (d : Data) → ((steps : ℕ) (notes : Members) → depth d * length rows + rank rows n < suc steps → Fitting rows patterns steps tagging name p notes d)
     → Fits rows patterns n d
 enum_fits rows patterns n tagging name p row d each =
@@ -183,7 +183,7 @@ untagged_agrees rows checked n name p row w given = weaker w (PayloadMeans rows 
 -- ---- tagged inside
 
 -- a name under the tag, and then other members
-at_tag : (rows : List Row) (n : ℕ) (tag name : Text) (Q : json.Members → Type 0)
+pub at_tag : (rows : List Row) (n : ℕ) (tag name : Text) (Q : json.Members → Type 0)
     → ((ms : json.Members) → Q ms → Means rows n (json.object (json.member tag (json.string name) ms)))
     → (j : Json) → IsObject (FirstMember tag (IsName name) Q) j → Means rows n j
 at_tag rows n tag name Q each json.null all = absurd all
@@ -260,7 +260,7 @@ tagged_holds rows patterns tag name fs closed ms d steps low apart avoids all re
     (subst (λ (l : List Field). has_each_field (belongs_within rows Serialize patterns steps) l r.0 ≡ true) (sym (append-nil fs))
     (has_keys_of rows (belongs_within rows Serialize patterns steps) fs ms all r.0 found r.1))))
 
-beside_gives : (tag name : Text) (case : Case) (w : Log → Log → Type 0) (Q : json.Members → Type 0) → GivesMembers w Q
+pub beside_gives : (tag name : Text) (case : Case) (w : Log → Log → Type 0) (Q : json.Members → Type 0) → GivesMembers w Q
     → GivesMembers (Beside tag name case w) (FirstMember tag (IsName (spelled case kind.Variant name)) Q)
 beside_gives tag name case w Q given = member_gives tag (λ old new. Logs old new (event.field_key tag AsIs)) (Named name case) w
     (IsName (spelled case kind.Variant name)) Q (field_key_gives tag) (named_gives name case) given

@@ -52,7 +52,7 @@ u64_law rows n v checked row valid = unsigned_agrees rows n v U64 row valid (gri
 pub usize_law : Unsigned Usize 64
 usize_law rows n v checked row valid = unsigned_agrees rows n v Usize row valid (grind (arith, nat_tests))
 
-within : (w : _) (z : ℤ) → FitsSigned w z → FitsSigned w64 z → IsWithin64 z
+pub within : (w : _) (z : ℤ) → FitsSigned w z → FitsSigned w64 z → IsWithin64 z
 within w (pos v) fits wide = omega (arith, ints)
 within w (negsuc v) fits wide = omega (arith, ints)
 

@@ -105,7 +105,7 @@ pub shallower : (rows : List Row) (patterns : Patterns) (m : ℕ) (d : Data) →
 shallower rows patterns m d fits h steps deep few =
     fits steps (omega (arith, mul-le (depth d) (length rows) h (length rows) deep (omega arith)))
 
-item_parts : (o : Option Data) (os : Option Items) (ds : Items) → option_and_then (λ d. option_map (item d) os) o ≡ Some ds
+pub item_parts : (o : Option Data) (os : Option Items) (ds : Items) → option_and_then (λ d. option_map (item d) os) o ≡ Some ds
     → (d : Data) × (es : Items) × (o ≡ Some d) × (os ≡ Some es) × (item d es ≡ ds)
 item_parts None os ds h = absurd (cc)
 item_parts (Some d) None ds h = absurd (cc)
@@ -119,7 +119,7 @@ pub both_true : (a b : Bool) → a ≡ true → b ≡ true → (a && b) ≡ true
 both_true true b h k = k
 both_true false b h k = h
 
-items_fit : (rows : List Row) (patterns : Patterns) (m k : ℕ) (js : json.Items) (ds : Items) → Each (Means rows m) k js → of_items js ≡ Some ds
+pub items_fit : (rows : List Row) (patterns : Patterns) (m k : ℕ) (js : json.Items) (ds : Items) → Each (Means rows m) k js → of_items js ≡ Some ds
     → (h steps : ℕ) → items_depth ds ≤ h → h * length rows + rank rows m < steps
     → every_item (belongs_within rows Serialize patterns steps m) ds ≡ true
 items_fit rows patterns m zero json.no_items ds all reads h steps deep few =

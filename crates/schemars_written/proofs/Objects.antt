@@ -315,6 +315,11 @@ fields_belong rows patterns fs closed ms d steps low apart all reads few =
     (fields_hold rows patterns fs (fs ++ []) closed steps (members_depth r.0) r.0 low (append-nil fs) enough (omega arith) each)
     (subst (λ (l : List Field). has_each_field (belongs_within rows Serialize patterns steps) l r.0 ≡ true) (sym (append-nil fs)) (has_keys_of rows (belongs_within rows Serialize patterns steps) fs ms all r.0 no_members r.1)))
 
+-- the own names of a struct differ
+pub names_apart : (rows : List Row) → IsChecked rows → (n : ℕ) (x : shape.Fields) → HasShape rows n (shape.struct x) → Apart x.list
+names_apart rows checked n x is = (subst (λ (ls : List (List Text)). AreDistinctLists ls)
+    (ap (λ o. option_map_or (λ (e : Entry). names_of e.shape) o []) is.1 ∙ ap names_of is.2) (checked.names_differ n)).0
+
 pub struct_means : (rows : List Row) → IsChecked rows → (n : ℕ) (fs : List Field) (closed : Bool) → HasShape rows n (shape.struct (plain_fields fs closed))
     → (j : Json) → IsObject (Matches rows fs) j → Means rows n j
 struct_means rows checked n fs closed is json.null all = absurd all
@@ -327,14 +332,7 @@ struct_means rows checked n fs closed is (json.object ms) all = λ patterns d re
     fields_belong rows patterns fs closed ms d steps
     (λ m c. let low = part_low rows checked n m (shape.struct (plain_fields fs closed)) is
     (subst (λ (xs : List ℕ). Contains xs m) (sym (append-nil (map (λ f. f.ty) fs))) c) in (low, checked.rank_bound m low))
-    (names_apart rows checked n fs closed is) all reads (omega arith))
-  where
-    names_apart : (rows : List Row) → IsChecked rows → (n : ℕ) (fs : List Field) (closed : Bool)
-        → HasShape rows n (shape.struct (plain_fields fs closed)) → Apart fs
-    names_apart rows checked n fs closed is =
-        let names = checked.names_differ n in
-        (subst (λ (ls : List (List Text)). AreDistinctLists ls)
-        (ap (λ o. option_map_or (λ (e : Entry). names_of e.shape) o []) is.1 ∙ ap names_of is.2) names).0
+    (names_apart rows checked n (plain_fields fs closed) is) all reads (omega arith))
 
 pub struct_agrees : (rows : List Row) → IsChecked rows → (n : ℕ) (fs : List Field) (closed : Bool) → HasShape rows n (shape.struct (plain_fields fs closed))
     → (count : ℕ) (w : Log → Log → Type 0) → GivesMembers w (Matches rows fs) → Gives (Struct count w) (Means rows n)
