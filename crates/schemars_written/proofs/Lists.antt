@@ -13,18 +13,18 @@ use Rattle.serde.specs.Event.{Event, Log, Logs, WritesEach, WritesSeq, WritesOpt
 use Rattle.serde_json.specs.Data.{Data, depth, items_depth, null, array, Items, no_items, item}
 use Rattle.serde_json.specs.Events.{items_len}
 use Rattle.serde_json.specs.Read.{of_json, of_items}
-use Rattle.serde_json.specs.Sent.{State, Takes, TakesAll}
+use Rattle.serde_json.specs.Sent.{TakesAll}
 use Rattle.schemars_schema.specs.Acceptance.{Patterns, is_null}
 use Rattle.schemars_shapes.specs.Shape as shape
 use Rattle.schemars_shapes.specs.Shape.{Shape, Entry, numbers_of}
-use Rattle.schemars_types.specs.Rows.{Row, entry_at}
+use Rattle.schemars_types.specs.Rows.{Row}
 use Rattle.schemars_types.specs.Edges.{rank}
 use Rattle.schemars_types.specs.Faults.{IsChecked}
 use Rattle.schemars_types.specs.Meaning.{belongs_within, every_item, each_of}
 use Rattle.schemars_types.specs.declared.contract.Contract.TheVariants.{Serialize}
-use Rattle.schemars_written.specs.Gives.{IsPlain, Leads, Spells, Gives, SpellsItems, GivesItems, LeadsItems, First, NoItems, Each, IsArray}
+use Rattle.schemars_written.specs.Gives.{IsPlain, Gives, GivesItems, First, NoItems, Each, IsArray}
 use Rattle.schemars_written.specs.Fits.{Fits, Means, HasShape, OfSome}
-use Rattle.schemars_written.proofs.Atoms.{one, weaker, step, part_low, same_lower, known, null_gives, Some_same}
+use Rattle.schemars_written.proofs.Atoms.{weaker, step, part_low, same_lower, known, null_gives, Some_same}
 
 -- ---- Option
 

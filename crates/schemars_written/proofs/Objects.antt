@@ -1,11 +1,10 @@
 -- Maps and structs.
-use Rattle.std.proofs.Common.{◌≡◌, ◌≢◌, ◌⊎◌, inl, inr, ℕ, zero, suc, ◌+◌, ◌*◌, ◌<◌, ◌≤◌, max, List, [], ◌∷◌, ◌++◌, length, map, Bool, true, false, not, ◌&&◌, ◌||◌, ◌==◌, Option, Some, None, is_some, refl, sym, ap, ◌∙◌, subst, arith, append_assoc, append-nil, true≢false}
-use Rattle.std.specs.Prelude.{All, option_map, option_and_then, Contains, find, bytes_eq, if◌then◌else◌}
-use Rattle.std.specs.List.{IsDistinct, list_all, AllByRecursion}
+use Rattle.std.proofs.Common.{◌≡◌, ◌⊎◌, inl, inr, ℕ, suc, ◌*◌, ◌<◌, ◌≤◌, List, [], ◌∷◌, ◌++◌, length, map, Bool, true, false, not, ◌&&◌, ◌||◌, Option, Some, None, is_some, refl, sym, ap, ◌∙◌, subst, arith, append_assoc, append-nil}
+use Rattle.std.specs.Prelude.{All, option_map, option_and_then, Contains, bytes_eq, if◌then◌else◌}
+use Rattle.std.specs.List.{IsDistinct, AllByRecursion}
 use Rattle.std.specs.Option.{option_map_or}
 use Rattle.std.proofs.lemmas.Grind.{common_steps}
 use Rattle.std.proofs.lemmas.List.Elements.{All-head, All-tail}
-use Rattle.std.proofs.lemmas.Nat.{mul-le}
 use Rattle.std.proofs.lemmas.Slice.Eq.{bytes_eq-Decides}
 use Rattle.json.specs.Json as json
 use Rattle.json.specs.Json.{Json}
@@ -28,8 +27,8 @@ use Rattle.schemars_shapes.specs.Shape as shape
 use Rattle.schemars_shapes.specs.Shape.{Shape, Entry, Field, numbers_of, names_of}
 use Rattle.schemars_shapes.specs.Repeated.{AreDistinctLists}
 use Rattle.schemars_flatten.proofs.Kept.{AllMembers, all_put}
-use Rattle.schemars_types.specs.Rows.{Row, entry_at}
-use Rattle.schemars_types.specs.Edges.{rank, names_at}
+use Rattle.schemars_types.specs.Rows.{Row}
+use Rattle.schemars_types.specs.Edges.{rank}
 use Rattle.schemars_types.specs.Faults.{IsChecked}
 use Rattle.schemars_types.specs.KeyOptions.{key_options, is_key_allowed, all_options, shape_options, distinct_options, or_any_text}
 use Rattle.schemars_types.proofs.Settling.{all_options-shape}
@@ -38,9 +37,9 @@ use Rattle.schemars_written.proofs.Members.{field_fits, has_each_field, member_a
 use Rattle.schemars_types.specs.declared.contract.Contract.TheVariants.{Serialize}
 use Rattle.schemars_written.specs.Gives as gives
 use Rattle.schemars_written.specs.Gives.{IsPlain, Gives, GivesMembers, SpellsMembers, LeadsMembers, NoMembers, FirstMember, EachMember, IsObject, Done, Struct}
-use Rattle.schemars_written.specs.Fits.{Fits, Means, HasShape, HasFields, NextField, LastField}
+use Rattle.schemars_written.specs.Fits.{Fits, Means, HasShape}
 use Rattle.schemars_written.proofs.Atoms.{weaker, step, part_low, known, Some_same}
-use Rattle.schemars_written.proofs.Lists.{closer, room, shallower, both_true}
+use Rattle.schemars_written.proofs.Lists.{closer, shallower, both_true}
 
 -- ---- how members are sent
 

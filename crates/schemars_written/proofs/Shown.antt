@@ -1,5 +1,5 @@
 -- What values are read as, and that different values are read as different JSON.
-use Rattle.std.proofs.Common.{◌≡◌, ℕ, zero, suc, ◌+◌, ◌*◌, ◌<◌, ◌≤◌, ◌^◌, ℤ, pos, negsuc, List, [], ◌∷◌, ◌++◌, Bool, true, false, Some, Ordering, Less, Equal, nat_cmp, is_eq, encode_utf8, refl, sym, ap, ◌∙◌, arith}
+use Rattle.std.proofs.Common.{◌≡◌, ℕ, ◌<◌, ◌^◌, ℤ, pos, negsuc, List, [], ◌∷◌, ◌++◌, Bool, true, false, Some, Ordering, Less, Equal, nat_cmp, is_eq, encode_utf8, refl, sym, ap, ◌∙◌, arith}
 use Rattle.std.specs.Prelude.{option_map, bytes_eq, FitsSigned, String, string_bytes}
 use Rattle.std.specs.Fmt.{signed_decimal}
 use Rattle.std.specs.Int.{w8, w16, w32, w64}
@@ -16,7 +16,7 @@ use Rattle.std.proofs.lemmas.Str.{encodes_same}
 use Rattle.json.specs.Json as json
 use Rattle.serde.specs.Event as event
 use Rattle.serde.specs.Event.{Log, Logs}
-use Rattle.serde_json.specs.Data.{Data, unsigned, negative, boolean, number, string}
+use Rattle.serde_json.specs.Data.{unsigned, boolean, number, string}
 use Rattle.serde_json.specs.Find.{of_integer}
 use Rattle.serde_json.specs.Read.{of_json}
 use Rattle.schemars_schema.specs.Json.{alike, json_eq}
