@@ -1,7 +1,7 @@
 -- What an event sends belongs to the row of events.
-use Rattle.std.proofs.Common.{ℕ, ◌<◌, ◌^◌, ◌≡◌, List, sym, subst}
+use Rattle.std.proofs.Common.{ℕ, ◌<◌, ◌^◌, List, sym, subst}
 use Rattle.std.specs.Prelude.{codes, string_bytes}
-use Rattle.serde.specs.Event.{Log, Sends, text, signed, unsigned, Then, WritesOption}
+use Rattle.serde.specs.Event.{Sends, text, signed, unsigned, Then, WritesOption}
 use Rattle.serde.specs.declared.name.Case.TheVariants.{AsIs}
 use Rattle.serde.specs.declared.name.NameKind.TheVariants.{Variant}
 use Rattle.serde.specs.Spelling.{spelled}

@@ -1,8 +1,8 @@
 -- What enums of the other three forms send belongs to their rows.
-use Rattle.std.proofs.Common.{ℕ, ◌<◌, ◌^◌, ◌≡◌, Bool, List, Option, Some, None, refl}
+use Rattle.std.proofs.Common.{ℕ, List, Option, Some, None, refl}
 use Rattle.std.specs.Prelude.{codes, string_bytes, is_some, if◌then◌else◌, String, ⊤}
 use Rattle.std.specs.declared.alloc.Global.{Global}
-use Rattle.serde.specs.Event.{Log, Sends, text, signed, unsigned, Then, WritesOption}
+use Rattle.serde.specs.Event.{Sends, text, signed, unsigned, Then, WritesOption}
 use Rattle.serde.specs.declared.name.Case.TheVariants.{AsIs}
 use Rattle.schemars_shapes.specs.Shape as shape
 use Rattle.schemars_shapes.specs.Shape.{by_nothing, by_tag, by_tag_and_content}

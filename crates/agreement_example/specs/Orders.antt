@@ -7,7 +7,7 @@ use Rattle.schemars_shapes.specs.Shape as shape
 use Rattle.schemars_shapes.specs.Shape.{by_nothing, by_tag, by_tag_and_content}
 use Rattle.schemars_shapes.specs.declared.shape.IntKind.TheVariants.{U32, U64}
 use Rattle.schemars_types.specs.Rows.{Row}
-use Rattle.schemars_written.specs.Gives.{Named, Struct, Field, FieldIf, Done, Beside}
+use Rattle.schemars_written.specs.Gives.{Struct, Field, FieldIf, Done, Beside}
 use Rattle.schemars_written.specs.Fits.{HasShape, HasUnit, HasNewtype, HasTuple, HasStruct, NextItem, LastItem, NextField, NextOptional, LastField}
 use Rattle.agreement_example.specs.Events.{IsText, MovedItems}
 use Rattle.agreement_example.specs.declared.amount.Amount.{Amount}
