@@ -30,19 +30,22 @@ use Rattle.agreement_example.specs.declared.card.Card.{Card}
 
 pub note_fields_agree : (rows : List Row) → IsChecked rows → (x : Note) → IsNote x → FieldsAgree rows (NoteFields rows) (note_fields x)
 note_fields_agree rows checked x valid =
-    next_field rows (codes "words") (IsText rows) (StarsField rows) (Sends (text (string_bytes x.words))) (Field (codes "stars") (Sends (unsigned x.stars)) Done)
+    next_field rows (codes "words") (IsText rows) (StarsField rows) (Sends (text (string_bytes x.words))) (Field (codes "stars") (Sends
+    (unsigned x.stars)) Done)
     (λ m r. text_agrees rows m (string_bytes x.words) r)
     (next_field rows (codes "stars") (IsU8 rows) LastField (Sends (unsigned x.stars)) Done (λ m r. u8_law rows m x.stars checked r valid)
     (last_field rows))
 
 pub note_law : (rows : List Row) (n : ℕ) (x : Note) → IsChecked rows → HasFields rows n (NoteFields rows) → IsNote x
     → Gives (Struct 2 (note_fields x)) (Means rows n)
-note_law rows n x checked row valid = struct_law rows checked n 2 (NoteFields rows) (note_fields x) row (note_fields_agree rows checked x valid)
+note_law rows n x checked row valid = struct_law rows checked n 2 (NoteFields rows) (note_fields x) row
+    (note_fields_agree rows checked x valid)
 
 -- ---- a value beside a tag
 
 
-pub review_law : (rows : List Row) (n : ℕ) (x : Review) → IsChecked rows → IsReviewRow rows n → IsReview x → Gives (review_writes x) (Means rows n)
+pub review_law : (rows : List Row) (n : ℕ) (x : Review) → IsChecked rows → IsReviewRow rows n → IsReview x
+    → Gives (review_writes x) (Means rows n)
 review_law rows n review.Missing checked row valid = internal_unit_law rows checked n (codes "kind") row.0.0 (codes "missing") AsIs
     (as_is (HasUnit rows n (by_tag (codes "kind") row.0.0)) (codes "missing") row.0.1) 1
 review_law rows n (review.Given x) checked row valid =
@@ -55,7 +58,8 @@ review_law rows n (review.Given x) checked row valid =
 -- ---- a struct that is flattened
 
 card_joins : (rows : List Row) → Joins (CardFields rows)
-card_joins rows = next_joins (codes "id") (IsU32 rows) (TagsField rows) (next_joins (codes "tags") (AreTexts rows) (λ others. others) last_joins)
+card_joins rows = next_joins (codes "id") (IsU32 rows) (TagsField rows) (next_joins (codes "tags") (AreTexts rows)
+    (λ others. others) last_joins)
 
 card_apart : (rows : List Row) → NamesApart (CardFields rows LastField) (NoteFields rows)
 card_apart rows =
@@ -73,10 +77,13 @@ nothing_asked xs k d low = tt
 pub card_law : (rows : List Row) (n : ℕ) (x : Card) → IsChecked rows → IsCardRow rows n → IsCard x → Gives (card_writes x) (Means rows n)
 card_law rows n x checked row valid =
     flattened_law rows checked n 4 (CardFields rows) (NoteFields rows)
-    (Field (codes "id") (Sends (unsigned x.id)) (Field (codes "tags") (tags_write x.tags) (note_fields x.note))) row (card_joins rows) (card_apart rows)
-    (next_field rows (codes "id") (IsU32 rows) (TagsField rows (NoteFields rows)) (Sends (unsigned x.id)) (Field (codes "tags") (tags_write x.tags) (note_fields x.note))
+    (Field (codes "id") (Sends (unsigned x.id)) (Field (codes "tags") (tags_write x.tags) (note_fields x.note))) row (card_joins rows)
+    (card_apart rows)
+    (next_field rows (codes "id") (IsU32 rows) (TagsField rows (NoteFields rows)) (Sends (unsigned x.id)) (Field (codes "tags")
+    (tags_write x.tags) (note_fields x.note))
     (λ m r. u32_law rows m x.id checked r valid.0)
     (next_field rows (codes "tags") (AreTexts rows) (NoteFields rows) (tags_write x.tags) (note_fields x.note)
     (λ m r. set_law rows checked m (λ s. Sends (text (string_bytes s))) (λ s. ⊤) IsText string_cmp (λ s. string (string_bytes s))
-    (λ k s is v. text_shows rows k (string_bytes s) is) (λ s t v w less. texts_differ s t less) r x.tags.keys (valid.1, nothing_asked x.tags.keys))
+    (λ k s is v. text_shows rows k (string_bytes s) is) (λ s t v w less. texts_differ s t less) r x.tags.keys
+    (valid.1, nothing_asked x.tags.keys))
     (note_fields_agree rows checked x.note valid.2)))

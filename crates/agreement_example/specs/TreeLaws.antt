@@ -32,7 +32,9 @@ mutual
       → GivesItems (SendsBranches bs) (Each (Means rows n) (count bs))
   branches_law rows checked n row no_branches = no_items_give
   branches_law rows checked n row (and_branch b bs) =
-      then_give (SendsBranch b) (SendsBranches bs) (Means rows n) (Each (Means rows n) (count bs)) (branch_law rows checked n row b) (branches_law rows checked n row bs)
+      then_give (SendsBranch b) (SendsBranches bs) (Means rows n) (Each (Means rows n) (count bs)) (branch_law rows checked n row b)
+      (branches_law rows checked n row bs)
 
-pub tree_law : (rows : List Row) (n : ℕ) (t : Tree) → IsChecked rows → IsTreeRow rows n → ⊤ → Gives (SendsBranch (tree_view t)) (Means rows n)
+pub tree_law : (rows : List Row) (n : ℕ) (t : Tree) → IsChecked rows → IsTreeRow rows n → ⊤
+    → Gives (SendsBranch (tree_view t)) (Means rows n)
 tree_law rows n t checked row valid = branch_law rows checked n row (tree_view t)

@@ -1,4 +1,5 @@
-//! How types describe themselves whose maps have the fields of another, and one that contains itself.
+//! How types describe themselves whose maps have the fields of another, and one that contains
+//! itself.
 #![tactic(auto, using(schemars_impls::proofs::OwnTypes::own_types))]
 
 ghost use Rattle.std.specs.Prelude.{codes};

@@ -73,7 +73,8 @@ fn has_missing(types: &Types, n: TypeNo) -> bool
 
 fn has_given(types: &Types, n: TypeNo) -> bool
     ensures { result ≡ true → (closed : Bool) × HasNewtype types.now n
-        (by_tag (codes "kind") closed) (codes "given") (λ m. HasFields types.now m (NoteFields types.now)) }
+        (by_tag (codes "kind") closed) (codes "given")
+        (λ m. HasFields types.now m (NoteFields types.now)) }
 {
     match internal_variant(types, n, "kind", "given") {
         Some(InternalPayload::Newtype(m)) => Note::has_row(types, *m),

@@ -27,7 +27,8 @@ impl Serialize for Tree {
 
 #[cycle(send)]
 fn send<S: Serializer>(tree: &Tree, out: &mut S) -> Result<(), S::Error>
-    ensures { OnOk result (SendsBranch (tree_view tree.now) (S.written out.old) (S.written out.new)) }
+    ensures { OnOk result (SendsBranch (tree_view tree.now)
+        (S.written out.old) (S.written out.new)) }
 {
     out.begin_map(Some(2))?;
     out.key("name")?;

@@ -61,13 +61,15 @@ no_enums : (rows : List Row) (m : ℕ) (gs : List Field) (other : Bool) → HasS
 unfolding enums_within
 no_enums rows m gs other is zero = refl
 no_enums rows m gs other is (suc steps) =
-    ap (λ (o : Option Entry). option_map_or (λ (e : Entry). shape_enums (λ p. enums_within rows steps (without_options rows p.ty)) m e.shape) o []) is.1
+    ap (λ (o : Option Entry). option_map_or (λ (e : Entry). shape_enums (λ p. enums_within rows steps
+    (without_options rows p.ty)) m e.shape) o []) is.1
     ∙ ap (shape_enums (λ p. enums_within rows steps (without_options rows p.ty)) m) is.2
 
 no_option : (rows : List Row) (m : ℕ) (x : shape.Fields) → HasShape rows m (shape.struct x) → option_at rows m ≡ None
 no_option rows m x is = ap (λ (o : Option Entry). option_and_then (λ (e : Entry). option_of e.shape) o) is.1 ∙ ap option_of is.2
 
-part_has : (rows : List Row) (m : ℕ) (required : Required) (gs : List Field) (other : Bool) → HasShape rows m (shape.struct (plain_fields gs other))
+part_has : (rows : List Row) (m : ℕ) (required : Required) (gs : List Field) (other : Bool)
+    → HasShape rows m (shape.struct (plain_fields gs other))
     → m < length rows → flattened_in rows (part_of m required) ≡ gs
 part_has rows m required gs other is low =
     let none = no_option rows m (plain_fields gs other) is in
@@ -91,16 +93,19 @@ HasIt rows patterns steps fs closed d inside enums =
     (matches_of (choices_within rows Serialize patterns steps) (map enum_at (enums ++ [])) d) (fs ++ (inside ++ [])) closed d ≡ true
 
 members_mean : (rows : List Row) → IsChecked rows → (n m : ℕ) (required : Required) (fs gs : List Field) (closed other : Bool)
-    → HasShape rows n (shape.struct (with_part fs m required closed)) → HasShape rows m (shape.struct (plain_fields gs other)) → AreApart fs gs
+    → HasShape rows n (shape.struct (with_part fs m required closed)) → HasShape rows m (shape.struct (plain_fields gs other))
+    → AreApart fs gs
     → (ms : json.Members) → Matches rows (fs ++ gs) ms → Means rows n (json.object ms)
 members_mean rows checked n m required fs gs closed other is part across ms all patterns d reads =
     let part_of_n : Contains (shape.numbers_of (shape.struct (with_part fs m required closed))) m =
     last (map (λ (f : Field). f.ty) fs) in
     let low = part_low rows checked n m (shape.struct (with_part fs m required closed)) is part_of_n in
     step rows patterns n (shape.struct (with_part fs m required closed)) d is (λ steps few.
-    subst (λ inside. HasIt rows patterns steps fs closed d inside (part_enums rows (part_of m required))) (sym (part_has rows m required gs other part low))
+    subst (λ inside. HasIt rows patterns steps fs closed d inside (part_enums rows (part_of m required))) (sym
+    (part_has rows m required gs other part low))
     (subst (λ enums. HasIt rows patterns steps fs closed d gs enums) (sym (part_has_no_enums rows m required gs other part))
-    (subst (λ (list : List Field). has_fields Serialize (belongs_within rows Serialize patterns steps) [] list closed d ≡ true) (append_assoc fs gs [])
+    (subst (λ (list : List Field). has_fields Serialize (belongs_within rows Serialize patterns steps) [] list closed d ≡ true)
+    (append_assoc fs gs [])
     (fields_belong rows patterns (fs ++ gs) closed ms d steps known
     (apart_both fs gs (names_apart rows checked n (with_part fs m required closed) is)
     (names_apart rows checked m (plain_fields gs other) part) across) all reads (omega arith)))))
@@ -113,7 +118,8 @@ members_mean rows checked n m required fs gs closed other is part across ms all 
     known k c = go (Contains-append_cases (map (λ (f : Field). f.ty) fs) (map (λ (f : Field). f.ty) gs) k
         (subst (λ (ns : List ℕ). Contains ns k) (types_of_both fs gs) c))
       where
-        go : Contains (map (λ (f : Field). f.ty) fs) k ⊎ Contains (map (λ (f : Field). f.ty) gs) k → (k < length rows) × (rank rows k < length rows)
+        go : Contains (map (λ (f : Field). f.ty) fs) k ⊎ Contains (map (λ (f : Field). f.ty) gs) k
+            → (k < length rows) × (rank rows k < length rows)
         go (inl own) =
             let low = part_low rows checked n k (shape.struct (with_part fs m required closed)) is
             (Contains-append_left (map (λ (f : Field). f.ty) fs) (m ∷ []) k own) in (low, checked.rank_bound k low)
@@ -122,7 +128,8 @@ members_mean rows checked n m required fs gs closed other is part across ms all 
             (Contains-append_left (map (λ (f : Field). f.ty) gs) [] k inside) in (low, checked.rank_bound k low)
 
 struct_means : (rows : List Row) → IsChecked rows → (n m : ℕ) (required : Required) (fs gs : List Field) (closed other : Bool)
-    → HasShape rows n (shape.struct (with_part fs m required closed)) → HasShape rows m (shape.struct (plain_fields gs other)) → AreApart fs gs
+    → HasShape rows n (shape.struct (with_part fs m required closed)) → HasShape rows m (shape.struct (plain_fields gs other))
+    → AreApart fs gs
     → (j : Json) → IsObject (Matches rows (fs ++ gs)) j → Means rows n j
 struct_means rows checked n m required fs gs closed other is part across json.null all = absurd all
 struct_means rows checked n m required fs gs closed other is part across (json.boolean b) all = absurd all
@@ -160,20 +167,23 @@ pub last_apart : (inside : List Field → Type 0) → NamesApart LastField insid
 last_apart inside [] more is next = tt
 last_apart inside (f ∷ fs) more is next = absurd is
 
-pub next_apart : (name : Text) (R : ℕ → Type 0) (own inside : List Field → Type 0) → ((more : List Field) → inside more → AvoidsTag name more)
+pub next_apart : (name : Text) (R : ℕ → Type 0) (own inside : List Field → Type 0)
+    → ((more : List Field) → inside more → AvoidsTag name more)
     → NamesApart own inside → NamesApart (NextField name R own) inside
 next_apart name R own inside avoids apart [] more is next = absurd is
 next_apart name R own inside avoids apart (f ∷ fs) more is next =
     (subst (λ (t : Text). AvoidsTag t more) (sym is.0) (avoids more next), apart fs more is.2 next)
 
-pub optional_apart : (name : Text) (R : ℕ → Type 0) (own inside : List Field → Type 0) → ((more : List Field) → inside more → AvoidsTag name more)
+pub optional_apart : (name : Text) (R : ℕ → Type 0) (own inside : List Field → Type 0)
+    → ((more : List Field) → inside more → AvoidsTag name more)
     → NamesApart own inside → NamesApart (NextOptional name R own) inside
 optional_apart name R own inside avoids apart [] more is next = absurd is
 optional_apart name R own inside avoids apart (f ∷ fs) more is next =
     (subst (λ (t : Text). AvoidsTag t more) (sym is.0) (avoids more next), apart fs more is.3 next)
 
 -- own fields are sent first, and then those that are flattened
-pub flattened_law : (rows : List Row) → IsChecked rows → (n count : ℕ) (own : (List Field → Type 0) → List Field → Type 0) (inside : List Field → Type 0)
+pub flattened_law : (rows : List Row) → IsChecked rows
+    → (n count : ℕ) (own : (List Field → Type 0) → List Field → Type 0) (inside : List Field → Type 0)
     (w : Log → Log → Type 0) → HasFlattened rows n (own LastField) inside → Joins own → NamesApart (own LastField) inside
     → FieldsAgree rows (own inside) w → Gives (Struct count w) (Means rows n)
 flattened_law rows checked n count own inside w row joins apart agree =

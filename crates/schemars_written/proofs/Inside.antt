@@ -43,7 +43,8 @@ without_put k l d ms other sorted =
     at_key : (q : Text) (a : Bool) → bytes_eq q k ≡ a → (b : Bool) → bytes_eq q l ≡ b
         → get_member q (without k (put l d ms)) ≡ get_member q (put l d (without k ms))
     at_key q true is b at_l =
-        subst (λ (t : Text). get_member t (without k (put l d ms)) ≡ get_member t (put l d (without k ms))) (sym ((bytes_eq-Decides q k).0 is))
+        subst (λ (t : Text). get_member t (without k (put l d ms)) ≡ get_member t (put l d (without k ms))) (sym
+        ((bytes_eq-Decides q k).0 is))
         (without-put k l d ms other ∙ sym (get_member-put_other k l d (without k ms) (differ k l other)))
     at_key q false is true at_l =
         get_member-without q k (put l d ms) is
@@ -94,31 +95,39 @@ name_is name o is = ap (λ (x : Option Data). holds x (is_text name)) is ∙ (by
 
 -- the tag's member and those of the value are what the variant has
 members_mean : (rows : List Row) → IsChecked rows → (n m : ℕ) (tag : Text) (closed : Bool) (name : Text) (fs : List Field) (own : Bool)
-    → HasVariantAt rows n (by_tag tag closed) name (newtype_payload m) → HasShape rows m (shape.struct (plain_fields fs own)) → AvoidsTag tag fs
+    → HasVariantAt rows n (by_tag tag closed) name (newtype_payload m) → HasShape rows m (shape.struct (plain_fields fs own))
+    → AvoidsTag tag fs
     → (ms : json.Members) → Matches rows fs ms → Means rows n (json.object (json.member tag (json.string name) ms))
 members_mean rows checked n m tag closed name fs own row part avoids ms all patterns d reads =
     let first = member tag (string name) no_members in
     let r = object_parts (of_members (json.member tag (json.string name) ms) no_members) d reads in
-    let alone : no_members ≡ without tag first = sym (ap (λ (b : Bool). if b then no_members else first) ((bytes_eq-Decides tag tag).1 refl)) in
-    let out = taken tag (string name) ms first no_members r.0 (no_tag rows tag fs avoids ms all) (tt, tt) alone (get_member-here tag (string name) no_members) r.1 in
+    let alone : no_members ≡ without tag first = sym (ap (λ (b : Bool). if b then no_members else first)
+    ((bytes_eq-Decides tag tag).1 refl)) in
+    let out = taken tag (string name) ms first no_members r.0 (no_tag rows tag fs avoids ms all) (tt, tt) alone (get_member-here tag
+    (string name) no_members) r.1 in
     let fits : Fits rows patterns m (object (without tag r.0)) =
     struct_means rows checked m fs own part (json.object ms) all patterns (object (without tag r.0)) (ap (option_map object) out.0) in
     let here : Contains (payload_same (newtype_payload m)) m = (0, omega arith, refl) in
     let low = payload_low rows checked n (by_tag tag closed) row.0 row.1 name (newtype_payload m) row.2 m here in
     let lower = same_lower rows checked n m (shape.enum (by_tag tag closed) row.0) row.1
     (variant_number payload_same name (newtype_payload m) row.0 m row.2 here) low.0 in
-    let less = mul-le (members_depth (without tag r.0)) (length rows) (members_depth r.0) (length rows) (members_depth-without tag r.0) (omega arith) in
-    subst (λ v. Fits rows patterns n v) r.2 (enum_fits rows patterns n (by_tag tag closed) name (newtype_payload m) row (object r.0) (λ steps notes few.
+    let less = mul-le (members_depth (without tag r.0)) (length rows) (members_depth r.0) (length rows) (members_depth-without tag r.0)
+    (omega arith) in
+    subst (λ v. Fits rows patterns n v) r.2 (enum_fits rows patterns n (by_tag tag closed) name (newtype_payload m) row (object r.0)
+    (λ steps notes few.
     both_true (holds (get_member tag r.0) (is_text name)) (belongs_within rows Serialize patterns steps m (object (without tag r.0)))
     (name_is name (get_member tag r.0) out.1)
     (fits steps (omega (arith, less, lower)))))
 
-pub internal_newtype_agrees : (rows : List Row) → IsChecked rows → (n m : ℕ) (tag : Text) (closed : Bool) (name : Text) (case : Case) (fs : List Field)
+pub internal_newtype_agrees : (rows : List Row) → IsChecked rows
+    → (n m : ℕ) (tag : Text) (closed : Bool) (name : Text) (case : Case) (fs : List Field)
     (own : Bool) → HasVariantAt rows n (by_tag tag closed) (spelled case kind.Variant name) (newtype_payload m)
-    → HasShape rows m (shape.struct (plain_fields fs own)) → AvoidsTag tag fs → (count : ℕ) (w : Log → Log → Type 0) → GivesMembers w (Matches rows fs)
+    → HasShape rows m (shape.struct (plain_fields fs own)) → AvoidsTag tag fs → (count : ℕ) (w : Log → Log → Type 0)
+    → GivesMembers w (Matches rows fs)
     → Gives (Struct count (Beside tag name case w)) (Means rows n)
 internal_newtype_agrees rows checked n m tag closed name case fs own row part avoids count w given =
     let t = spelled case kind.Variant name in
     weaker (Struct count (Beside tag name case w)) (IsObject (FirstMember tag (IsName t) (Matches rows fs))) (Means rows n)
     (at_tag rows n tag t (Matches rows fs) (members_mean rows checked n m tag closed t fs own row part avoids))
-    (struct_gives count (Beside tag name case w) (FirstMember tag (IsName t) (Matches rows fs)) (beside_gives tag name case w (Matches rows fs) given))
+    (struct_gives count (Beside tag name case w) (FirstMember tag (IsName t) (Matches rows fs)) (beside_gives tag name case w
+    (Matches rows fs) given))

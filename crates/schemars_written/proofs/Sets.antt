@@ -33,7 +33,8 @@ shown_items shown [] = no_items
 shown_items shown (x ∷ xs) = item (shown x) (shown_items shown xs)
 
 items_give : {A : Type 0} (rows : List Row) (m : ℕ) (w : A → Log → Log → Type 0) (V : A → Type 0) (shown : A → Data)
-    → ((x : A) → V x → Gives (w x) (MeansJust rows m (shown x))) → (xs : List A) → All V xs → GivesItems (WritesEach w xs) (Shows rows m shown xs)
+    → ((x : A) → V x → Gives (w x) (MeansJust rows m (shown x))) → (xs : List A) → All V xs
+    → GivesItems (WritesEach w xs) (Shows rows m shown xs)
 items_give rows m w V shown given [] all = no_items_give
 items_give rows m w V shown given (x ∷ xs) all =
     then_give (w x) (WritesEach w xs) (MeansJust rows m (shown x)) (Shows rows m shown xs) (given x (All-head V x xs all))
@@ -98,7 +99,8 @@ set_means rows checked n m is shown xs apart (json.array js) all = λ patterns d
     (items_fit rows patterns m (length xs) js r.0 (each_means rows m shown xs js all) r.1 (items_depth r.0) steps (omega arith)
     (room (items_depth r.0) (length rows) (rank rows m) (rank rows n) steps few (checked.rank_bound m low)))))
 
-pub set_law : {A : Type 0} (rows : List Row) → IsChecked rows → (n : ℕ) (w : A → Log → Log → Type 0) (V : A → Type 0) (R : List Row → ℕ → Type 0)
+pub set_law : {A : Type 0} (rows : List Row) → IsChecked rows
+    → (n : ℕ) (w : A → Log → Log → Type 0) (V : A → Type 0) (R : List Row → ℕ → Type 0)
     (cmp : A → A → Ordering) (shown : A → Data) → ((m : ℕ) (x : A) → R rows m → V x → Gives (w x) (MeansJust rows m (shown x)))
     → ((x y : A) → V x → V y → cmp x y ≡ Less → json_eq (shown y) (shown x) ≡ false)
     → (m : ℕ) × HasShape rows n (shape.set m) × R rows m → (xs : List A) → IsStrictlySortedBy cmp xs × All V xs

@@ -36,12 +36,14 @@ use Rattle.schemars_written.proofs.Laws.{within}
 
 -- ---- what is read
 
-pub unsigned_shows : (rows : List Row) (n v : ℕ) (kind : IntKind) → HasShape rows n (shape.int kind) → v < 2 ^ 64 → is_of_kind kind (pos v) ≡ true
+pub unsigned_shows : (rows : List Row) (n v : ℕ) (kind : IntKind) → HasShape rows n (shape.int kind) → v < 2 ^ 64
+    → is_of_kind kind (pos v) ≡ true
     → Gives (λ old new. Logs old new (event.unsigned v)) (MeansJust rows n (number (unsigned v)))
 unsigned_shows rows n v kind is small of_kind = unsigned_gives v (MeansJust rows n (number (unsigned v)))
     (natural_means rows n v kind is small of_kind, ap (option_map number) (number_of-decimal v small))
 
-pub signed_shows : (rows : List Row) (n : ℕ) (z : ℤ) (kind : IntKind) → HasShape rows n (shape.int kind) → IsWithin64 z → is_of_kind kind z ≡ true
+pub signed_shows : (rows : List Row) (n : ℕ) (z : ℤ) (kind : IntKind) → HasShape rows n (shape.int kind) → IsWithin64 z
+    → is_of_kind kind z ≡ true
     → Gives (λ old new. Logs old new (event.signed z)) (MeansJust rows n (number (of_integer z)))
 signed_shows rows n z kind is small of_kind = signed_gives z (MeansJust rows n (number (of_integer z)))
     (integer_means rows n z kind is small of_kind, read z small)

@@ -15,8 +15,8 @@ impl<T: TellsApart> Agrees for BTreeSet<T> {
 
     ghost is_row = { λ rows n. (m : ℕ) × HasShape rows n (shape.set m) × T.is_row rows m };
 
-    ghost agrees = { λ rows n s checked row valid. set_law rows checked n T.writes T.valid T.is_row T.cmp T.shown
-        (λ m x r v. T.shows rows m x checked r v) T.apart row s.keys valid };
+    ghost agrees = { λ rows n s checked row valid. set_law rows checked n T.writes T.valid T.is_row
+        T.cmp T.shown (λ m x r v. T.shows rows m x checked r v) T.apart row s.keys valid };
 
     fn has_row(types: &Types, n: TypeNo) -> bool {
         match shape_at(types, n) {

@@ -12,7 +12,8 @@ send_children-returns g t c =
     let first = g.S.Serializer.written c.begin_seq.new.self in
     let last = g.S.Serializer.written c.loop-child.out in
     let len : c.len.result ≡ length all = search rules in
-    let begun = subst (λ n. Logs (g.S.Serializer.written c.args.out.now) first (seq_begins (Some n))) (len ∙ sym (count_all all)) c.in_ok-begin_seq.ensures in
+    let begun = subst (λ n. Logs (g.S.Serializer.written c.args.out.now) first (seq_begins (Some n))) (len ∙ sym
+    (count_all all)) c.in_ok-begin_seq.ensures in
     let none : drop c.loop-child.child-index xs ≡ [] = drop_all c.loop-child.child-index xs (omega arith) in
     let sent = subst (λ ys. SendsBranches (branches_of (map tree_view ys)) first last) c.deref-child-items.ensures.value
     (c.loop-child.invariant last (subst (λ ys. SendsBranches (branches_of (map tree_view ys)) last last) (sym none) refl)) in
