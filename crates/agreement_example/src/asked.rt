@@ -54,7 +54,7 @@ fn number(word: Option<&str>) -> Option<u64> {
     }
 }
 
-fn print<T: Agrees + Drawn + JsonSchema, R: Alloc<A = Global> + Print>(
+fn print<T: Agrees + Drawn + Drop + JsonSchema, R: Alloc<A = Global> + Print>(
     rt: &R,
     seed: Option<u64>,
     count: Option<u64>,
@@ -71,7 +71,7 @@ fn print<T: Agrees + Drawn + JsonSchema, R: Alloc<A = Global> + Print>(
 
 // The document of a type, for what is written.
 fn document<T: JsonSchema>(alloc: Global) -> Result<String, GenerateError> {
-    let settings = SchemaSettings::draft2020_12(alloc).for_serialize();
+    let settings: SchemaSettings = SchemaSettings::draft2020_12(alloc).for_serialize();
     let schema = settings
         .into_generator(alloc)
         .into_root_schema_for::<T>(alloc)?;
@@ -79,7 +79,7 @@ fn document<T: JsonSchema>(alloc: Global) -> Result<String, GenerateError> {
 }
 
 // Prints nothing if the row is another.
-fn print_values<T: Agrees + Drawn + JsonSchema, R: Alloc<A = Global> + Print>(
+fn print_values<T: Agrees + Drawn + Drop + JsonSchema, R: Alloc<A = Global> + Print>(
     rt: &R,
     seed: u64,
     count: u64,
@@ -94,7 +94,7 @@ fn print_values<T: Agrees + Drawn + JsonSchema, R: Alloc<A = Global> + Print>(
     Ok(())
 }
 
-fn print_each<T: Agrees + Drawn, R: Alloc<A = Global> + Print>(
+fn print_each<T: Agrees + Drawn + Drop, R: Alloc<A = Global> + Print>(
     rt: &R,
     types: &Types,
     n: TypeNo,

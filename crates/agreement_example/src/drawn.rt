@@ -16,6 +16,7 @@ use std::alloc::{AllocError, Global};
 use std::collections::{BTreeMap, BTreeSet};
 
 /// Where numbers are drawn from.
+#[derive(Drop)]
 pub struct Draw {
     state: u64,
 }

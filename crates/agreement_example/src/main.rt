@@ -74,26 +74,26 @@ fn others(alloc: Global) -> Result<Vec<Value>> {
     let (body, to) = (String::from_str(alloc, "hello")?, None);
     all.push(written(alloc, &Message::Text { body, to })?)?;
     all.push(written(alloc, &Order::Wait(3))?)?;
-    all.push(written(alloc, &Review::Given(note(alloc, "dull", 1)?))?)?;
-    all.push(written(alloc, &card(alloc)?)?)?;
-    all.push(written(alloc, &tree(alloc)?)?)?;
+    all.push(written(alloc, &Review::Given(noted(alloc, "dull", 1)?))?)?;
+    all.push(written(alloc, &blue_card(alloc)?)?)?;
+    all.push(written(alloc, &small_tree(alloc)?)?)?;
     Ok(all)
 }
 
-fn note(alloc: Global, words: &str, stars: u8) -> Result<Note, AllocError> {
+fn noted(alloc: Global, words: &str, stars: u8) -> Result<Note, AllocError> {
     let words = String::from_str(alloc, words)?;
     Ok(Note { words, stars })
 }
 
-fn card(alloc: Global) -> Result<Card, AllocError> {
+fn blue_card(alloc: Global) -> Result<Card, AllocError> {
     let mut tags = BTreeSet::new(alloc);
     tags.insert(String::from_str(alloc, "old")?)?;
     tags.insert(String::from_str(alloc, "blue")?)?;
-    let note = note(alloc, "good", 5)?;
+    let note = noted(alloc, "good", 5)?;
     Ok(Card { id: 1, tags, note })
 }
 
-fn tree(alloc: Global) -> Result<Tree, AllocError> {
+fn small_tree(alloc: Global) -> Result<Tree, AllocError> {
     let leaf = Tree {
         name: String::from_str(alloc, "leaf")?,
         children: Vec::new(alloc),
