@@ -43,7 +43,6 @@ note_law rows n x checked row valid = struct_law rows checked n 2 (NoteFields ro
 
 -- ---- a value beside a tag
 
-
 pub review_law : (rows : List Row) (n : ℕ) (x : Review) → IsChecked rows → IsReviewRow rows n → IsReview x
     → Gives (review_writes x) (Means rows n)
 review_law rows n review.Missing checked row valid = internal_unit_law rows checked n (codes "kind") row.0.0 (codes "missing") AsIs

@@ -112,7 +112,15 @@ impl JsonSchema for Tree {
     fn json_schema(alloc: Global, types: &mut Types) -> Result<TypeEntry, TypesError> {
         let mut fields = Vec::new(alloc);
         add_field::<String>(alloc, types, &mut fields, "name", REQUIRED)?;
-        add_seq_of(alloc, types, &mut fields, "children", "Tree", "Tree", REQUIRED)?;
+        add_seq_of(
+            alloc,
+            types,
+            &mut fields,
+            "children",
+            "Tree",
+            "Tree",
+            REQUIRED,
+        )?;
         Ok(struct_entry(alloc, fields, true))
     }
 }

@@ -11,7 +11,7 @@ returns-else-not-is_field-2 c = λ yes.
       some.m,
       some.ensures,
       field_at _ _ _ xs 0 c.id-item.result c.id-item.is (omega (arith, some.len_at_least)) (c.if-not-is_field.ensures.name refl)
-      (c.if-not-is_field.ensures.row refl)
+          (c.if-not-is_field.ensures.row refl)
           (field_at _ _ _ xs 1 c.tags-item.result c.tags-item.is (omega (arith, some.len_at_least)) (c.if-not-is_field-2.ensures.name refl)
           (c.if-not-is_field-2.ensures.row refl)
           (last_at xs 2 (omega (arith, some.len_below)))),
