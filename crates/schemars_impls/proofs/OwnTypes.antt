@@ -248,6 +248,19 @@ describes_and p rest = record { each = λ d h f. rest.each d h (p.each d h f) }
 pub part_behind : {t : TypeRow} {old mid : List Row} {e : TypesError} → RefusesPart t mid e → Describes t old mid → RefusesPart t old e
 part_behind p before = record { each = λ d h f. p.each d h (before.each d h f) }
 
+-- fields, flattened parts, variants and numbers in a table that keeps its rows over a group
+pub fields_stay : {old new : List Row} {fields : List Field} → KeepsRows old new → FieldsAreKnown old fields → FieldsAreKnown new fields
+fields_stay h k = fields_kept (h.keeps tt) k
+
+pub parts_stay : {old new : List Row} {parts : List Flattened} → KeepsRows old new → PartsAreKnown old parts → PartsAreKnown new parts
+parts_stay h k = parts_kept (h.keeps tt) k
+
+pub variants_stay : {old new : List Row} {xs : List Variant} → KeepsRows old new → VariantsAreKnown old xs → VariantsAreKnown new xs
+variants_stay h k = variants_kept (h.keeps tt) k
+
+pub numbers_stay : {old new : List Row} {ns : List ℕ} → KeepsRows old new → NumbersAreKnown old ns → NumbersAreKnown new ns
+numbers_stay h k = numbers_kept (h.keeps tt) k
+
 -- ---- rows that are named by texts that the code makes
 
 named-same : (W : Text → Text → Dictionary → Type 0) (d : Dictionary) {id made is name made_name name_is : Text} → id ≡ made → made ≡ is
@@ -313,6 +326,13 @@ pub ruleset own_types = (
   rows_and,
   describes_and,
   part_behind,
+  fields_stay,
+  parts_stay,
+  variants_stay,
+  numbers_stay,
+  keeps_to_part,
+  refuses_memory,
+  refuses_part,
   reserved_same,
   option_same,
   seq_same,
