@@ -8,7 +8,8 @@ use Rattle.schemars_impls.specs.Dictionary.{Dictionary, TypeRow, IsInPart, Keeps
 use Rattle.schemars_types.proofs.Registered.{nat_le-above, place_of-below}
 use Rattle.schemars_impls.specs.Fields.{FieldsAreKnown, NumbersAreKnown, PartsAreKnown, VariantsAreKnown, bare_variant, fields_with, plain_field, part}
 use Rattle.schemars_impls.specs.Keeps.{Keeps, KeepsRows}
-use Rattle.schemars_impls.proofs.Keeping.{keeps-refl, keeps-same, numbers-kept, known-one, place_of-kept, reserved_keeps}
+use Rattle.schemars_impls.specs.OwnRows.{IsReserved, IsOptionOf, IsSeqOf, IsSetOf, IsArrayOf, IsMapOf}
+use Rattle.schemars_impls.proofs.Keeping.{keeps-refl, keeps-same, keeps-trans, numbers-kept, known-one, place_of-kept, reserved_keeps}
 use Rattle.schemars_impls.proofs.Placing.{known_more, place_added, adds_none, adds_then, adds_placed}
 use Rattle.schemars_impls.proofs.Composing.{keeps_to_refl, keeps_to_part, refuses_memory, refuses_part, describes_none, describes_then, part_memory, part_refuses, rows_none, rows_then}
 use Rattle.schemars_impls.proofs.OwnRows.{self_reserved, reserve_follows, numbers_memory, numbers_unknown, part_placed, part_number, placed_number, through_none, through_then, map_follows, map_refuses, row_of_keeps}
@@ -235,6 +236,62 @@ pub rows_eight : {a b c d e f g h i j : List Row} → Keeps a b → Keeps b c �
     → Keeps h i → KeepsRows i j → KeepsRows a j
 rows_eight p q r s u v w x rest = rows_four p q r s (rows_four u v w x rest)
 
+-- ---- groups of calls
+
+pub rows_and : {a b c : List Row} → KeepsRows a b → KeepsRows b c → KeepsRows a c
+rows_and h rest = record { keeps = λ u. keeps-trans (h.keeps tt) (rest.keeps tt) }
+
+pub describes_and : {t : TypeRow} {a b c : List Row} → Describes t a b → Describes t b c → Describes t a c
+describes_and p rest = record { each = λ d h f. rest.each d h (p.each d h f) }
+
+-- a group that refuses behind others
+pub part_behind : {t : TypeRow} {old mid : List Row} {e : TypesError} → RefusesPart t mid e → Describes t old mid → RefusesPart t old e
+part_behind p before = record { each = λ d h f. p.each d h (before.each d h f) }
+
+-- fields, flattened parts, variants and numbers in a table that keeps its rows over a group
+pub fields_stay : {old new : List Row} {fields : List Field} → KeepsRows old new → FieldsAreKnown old fields → FieldsAreKnown new fields
+fields_stay h k = fields_kept (h.keeps tt) k
+
+pub parts_stay : {old new : List Row} {parts : List Flattened} → KeepsRows old new → PartsAreKnown old parts → PartsAreKnown new parts
+parts_stay h k = parts_kept (h.keeps tt) k
+
+pub variants_stay : {old new : List Row} {xs : List Variant} → KeepsRows old new → VariantsAreKnown old xs → VariantsAreKnown new xs
+variants_stay h k = variants_kept (h.keeps tt) k
+
+pub numbers_stay : {old new : List Row} {ns : List ℕ} → KeepsRows old new → NumbersAreKnown old ns → NumbersAreKnown new ns
+numbers_stay h k = numbers_kept (h.keeps tt) k
+
+-- ---- rows that are named by texts that the code makes
+
+named-same : (W : Text → Text → Dictionary → Type 0) (d : Dictionary) {id made is name made_name name_is : Text} → id ≡ made → made ≡ is
+    → name ≡ made_name → made_name ≡ name_is → W is name_is d → W id name d
+named-same W d {id = id} {is = is} {name = name} p q r s h =
+    subst (λ i. W i name d) (sym (p ∙ q)) (subst (λ n. W is n d) (sym (r ∙ s)) h)
+
+pub reserved_same : (d : Dictionary) {id made is name made_name name_is : Text} → id ≡ made → made ≡ is → name ≡ made_name
+    → made_name ≡ name_is → IsReserved is name_is d → IsReserved id name d
+reserved_same d = named-same IsReserved d
+
+pub option_same : (d : Dictionary) {id made is name made_name name_is : Text} → id ≡ made → made ≡ is → name ≡ made_name
+    → made_name ≡ name_is → IsOptionOf is name_is d → IsOptionOf id name d
+option_same d = named-same IsOptionOf d
+
+pub seq_same : (d : Dictionary) {id made is name made_name name_is : Text} → id ≡ made → made ≡ is → name ≡ made_name
+    → made_name ≡ name_is → IsSeqOf is name_is d → IsSeqOf id name d
+seq_same d = named-same IsSeqOf d
+
+pub set_same : (d : Dictionary) {id made is name made_name name_is : Text} → id ≡ made → made ≡ is → name ≡ made_name
+    → made_name ≡ name_is → IsSetOf is name_is d → IsSetOf id name d
+set_same d = named-same IsSetOf d
+
+pub array_same : (len : ℕ) (d : Dictionary) {id made is name made_name name_is : Text} → id ≡ made → made ≡ is → name ≡ made_name
+    → made_name ≡ name_is → IsArrayOf len is name_is d → IsArrayOf len id name d
+array_same len d = named-same (IsArrayOf len) d
+
+pub map_same : (key : TypeRow) (d : Dictionary) {id made is name made_name name_is : Text} → id ≡ made → made ≡ is → name ≡ made_name
+    → made_name ≡ name_is → IsMapOf key is name_is d → IsMapOf key id name d
+map_same key d = named-same (IsMapOf key) d
+
 -- What a type of one's own needs whose fields join one after another: `using` names it in the crate of the type.
 pub ruleset own_types = (
   no_fields,
@@ -266,4 +323,20 @@ pub ruleset own_types = (
   through_then,
   part_refuses,
   part_after,
+  rows_and,
+  describes_and,
+  part_behind,
+  fields_stay,
+  parts_stay,
+  variants_stay,
+  numbers_stay,
+  keeps_to_part,
+  refuses_memory,
+  refuses_part,
+  reserved_same,
+  option_same,
+  seq_same,
+  set_same,
+  array_same,
+  map_same,
 )
