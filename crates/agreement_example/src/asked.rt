@@ -2,18 +2,10 @@
 ghost use Rattle.std.specs.Prelude.{◌<◌, length};
 ghost use Rattle.schemars_types.specs.Faults.{IsChecked};
 
-use crate::amount::Amount;
-use crate::card::Card;
 use crate::drawn::{Draw, Drawn};
-use crate::event::Event;
-use crate::message::Message;
-use crate::note::Note;
-use crate::order::Order;
-use crate::page::Page;
-use crate::person::Person;
-use crate::review::Review;
-use crate::team::Team;
-use crate::tree::Tree;
+use agreement_types::{
+    Amount, Card, Event, Message, Note, Order, Page, Person, Review, Team, Tree,
+};
 use anyhow::Result;
 use schemars_accepted::to_accepted_value;
 use schemars_agreement::Agrees;

@@ -1,17 +1,9 @@
 //! Values that are drawn from seeds.
 ghost use Rattle.std.specs.Prelude.{◌<◌};
 
-use crate::amount::Amount;
-use crate::card::Card;
-use crate::event::Event;
-use crate::message::Message;
-use crate::note::Note;
-use crate::order::Order;
-use crate::page::Page;
-use crate::person::Person;
-use crate::review::Review;
-use crate::team::Team;
-use crate::tree::Tree;
+use agreement_types::{
+    Amount, Card, Event, Message, Note, Order, Page, Person, Review, Team, Tree,
+};
 use std::alloc::{AllocError, Global};
 use std::collections::{BTreeMap, BTreeSet};
 

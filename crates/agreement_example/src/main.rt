@@ -2,35 +2,13 @@
 //! lines of the input ask for.
 #![tactic(auto)]
 
-mod amount;
 mod asked;
-mod card;
 mod drawn;
-mod enum_schemas;
-mod event;
-mod message;
-mod note;
-mod note_schemas;
-mod order;
-mod page;
-mod person;
-mod review;
-mod schemas;
-mod team;
-mod tree;
 
-use crate::amount::Amount;
 use crate::asked::answer;
-use crate::card::Card;
-use crate::event::Event;
-use crate::message::Message;
-use crate::note::Note;
-use crate::order::Order;
-use crate::page::Page;
-use crate::person::Person;
-use crate::review::Review;
-use crate::team::Team;
-use crate::tree::Tree;
+use agreement_types::{
+    Amount, Card, Event, Message, Note, Order, Page, Person, Review, Team, Tree,
+};
 use anyhow::Result;
 use schemars_accepted::to_accepted_value;
 use schemars_agreement::Agrees;
