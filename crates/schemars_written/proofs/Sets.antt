@@ -1,7 +1,9 @@
 -- Sets of values that their JSON tells apart.
-use Rattle.std.proofs.Common.{◌≡◌, ℕ, List, [], ◌∷◌, length, Bool, true, false, not, ◌||◌, Some, Ordering, Less, refl, sym, ap, ◌∙◌, subst, arith}
+use Rattle.std.proofs.Common.{◌≡◌, ℕ, List, [], ◌∷◌, length, Bool, true, false, not, ◌||◌, Some, Ordering, Less, Equal, Greater, is_eq, refl, sym, ap, ◌∙◌, subst, arith}
 use Rattle.std.specs.Prelude.{All}
-use Rattle.std.specs.List.{AllByRecursion}
+use Rattle.std.specs.Cmp.{IsTotalOrder}
+use Rattle.std.specs.List.{AllByRecursion, IsDistinct}
+use Rattle.std.specs.Ordering.{ordering_reverse}
 use Rattle.std.specs.List.Sorted.{IsStrictlySortedBy}
 use Rattle.std.proofs.lemmas.List.Elements.{All-head, All-tail}
 use Rattle.json.specs.Json as json
@@ -10,6 +12,7 @@ use Rattle.serde.specs.Event.{Log, WritesEach, WritesSeq}
 use Rattle.serde_json.specs.Data.{Data, items_depth, array, Items, no_items, item}
 use Rattle.serde_json.specs.Read.{of_json, of_items}
 use Rattle.schemars_schema.specs.Json.{json_eq, is_among, are_distinct}
+use Rattle.schemars_schema.proofs.Equalities.{json_eq-sym}
 use Rattle.schemars_shapes.specs.Shape as shape
 use Rattle.schemars_types.specs.Rows.{Row}
 use Rattle.schemars_types.specs.Edges.{rank}
@@ -62,26 +65,68 @@ both_false : (a b : Bool) → a ≡ false → b ≡ false → (a || b) ≡ false
 both_false true b h k = absurd (cc)
 both_false false b h k = k
 
--- a value that is below them all is not among them
-not_among : {A : Type 0} (V : A → Type 0) (cmp : A → A → Ordering) (shown : A → Data)
-    → ((x y : A) → V x → V y → cmp x y ≡ Less → json_eq (shown y) (shown x) ≡ false) → (x : A) → V x
-    → (ys : List A) → All V ys → AllByRecursion (λ y. cmp x y ≡ Less) ys → is_among (shown_items shown ys) (shown x) ≡ false
-not_among V cmp shown apart x valid [] all below = refl
-not_among V cmp shown apart x valid (y ∷ ys) all below =
-    both_false (json_eq (shown y) (shown x)) (is_among (shown_items shown ys) (shown x)) (apart x y valid (All-head V y ys all) below.0)
-    (not_among V cmp shown apart x valid ys (All-tail V y ys all) below.1)
+-- the JSON of a value does not equal that of one below it
+abbrev Tells : {A : Type 0} → (A → Type 0) → (A → A → Ordering) → (A → Data) → Type 0
+Tells {A} V cmp shown = (x y : A) → V x → V y → cmp x y ≡ Less → json_eq (shown y) (shown x) ≡ false
 
-all_distinct : {A : Type 0} (V : A → Type 0) (cmp : A → A → Ordering) (shown : A → Data)
-    → ((x y : A) → V x → V y → cmp x y ≡ Less → json_eq (shown y) (shown x) ≡ false)
+-- nor that of any of these
+abbrev DiffersFrom : {A : Type 0} → (A → Data) → A → List A → Type 0
+DiffersFrom shown x ys = AllByRecursion (λ y. json_eq (shown y) (shown x) ≡ false) ys
+
+not_among : {A : Type 0} (shown : A → Data) (x : A) (ys : List A) → DiffersFrom shown x ys → is_among (shown_items shown ys) (shown x) ≡ false
+not_among shown x [] all = refl
+not_among shown x (y ∷ ys) all =
+    both_false (json_eq (shown y) (shown x)) (is_among (shown_items shown ys) (shown x)) all.0 (not_among shown x ys all.1)
+
+one_more : {A : Type 0} (shown : A → Data) (x : A) (xs : List A) → DiffersFrom shown x xs → are_distinct (shown_items shown xs) ≡ true
+    → are_distinct (shown_items shown (x ∷ xs)) ≡ true
+one_more shown x xs apart others =
+    both_true (not (is_among (shown_items shown xs) (shown x))) (are_distinct (shown_items shown xs)) (ap not (not_among shown x xs apart)) others
+
+-- a value that is below them all
+below_all : {A : Type 0} (V : A → Type 0) (cmp : A → A → Ordering) (shown : A → Data) → Tells V cmp shown → (x : A) → V x
+    → (ys : List A) → All V ys → AllByRecursion (λ y. cmp x y ≡ Less) ys → DiffersFrom shown x ys
+below_all V cmp shown apart x valid [] all below = tt
+below_all V cmp shown apart x valid (y ∷ ys) all below =
+    (apart x y valid (All-head V y ys all) below.0, below_all V cmp shown apart x valid ys (All-tail V y ys all) below.1)
+
+sorted_differ : {A : Type 0} (V : A → Type 0) (cmp : A → A → Ordering) (shown : A → Data) → Tells V cmp shown
     → (xs : List A) → All V xs → IsStrictlySortedBy cmp xs → are_distinct (shown_items shown xs) ≡ true
 unfolding IsStrictlySortedBy
-all_distinct V cmp shown apart [] all sorted = refl
-all_distinct V cmp shown apart (x ∷ xs) all sorted =
-    both_true (not (is_among (shown_items shown xs) (shown x))) (are_distinct (shown_items shown xs))
-    (ap not (not_among V cmp shown apart x (All-head V x xs all) xs (All-tail V x xs all) sorted.0))
-    (all_distinct V cmp shown apart xs (All-tail V x xs all) sorted.1)
+sorted_differ V cmp shown apart [] all sorted = refl
+sorted_differ V cmp shown apart (x ∷ xs) all sorted =
+    one_more shown x xs (below_all V cmp shown apart x (All-head V x xs all) xs (All-tail V x xs all) sorted.0)
+    (sorted_differ V cmp shown apart xs (All-tail V x xs all) sorted.1)
 
--- ---- the law
+-- two values that are not equal, whichever is below the other
+unequal : {A : Type 0} (V : A → Type 0) (cmp : A → A → Ordering) (shown : A → Data) → Tells V cmp shown → IsTotalOrder cmp
+    → (x y : A) → V x → V y → is_eq (cmp x y) ≡ false → json_eq (shown y) (shown x) ≡ false
+unequal V cmp shown apart total x y v w differ = go (cmp x y) refl
+  where
+    go : (r : Ordering) → cmp x y ≡ r → json_eq (shown y) (shown x) ≡ false
+    go Less is = apart x y v w is
+    go Equal is = let no : true ≡ false = sym (ap is_eq is) ∙ differ in absurd (cc)
+    go Greater is = json_eq-sym (shown y) (shown x) ∙ apart y x w v (total.antisymm y x ∙ ap ordering_reverse is)
+
+unequal_to_all : {A : Type 0} (V : A → Type 0) (eq : A → A → Bool) (cmp : A → A → Ordering) (shown : A → Data) → Tells V cmp shown
+    → IsTotalOrder cmp → ((x y : A) → eq x y ≡ is_eq (cmp x y)) → (x : A) → V x
+    → (ys : List A) → All V ys → AllByRecursion (λ y. eq x y ≡ false) ys → DiffersFrom shown x ys
+unequal_to_all V eq cmp shown apart total ties x valid [] all differ = tt
+unequal_to_all V eq cmp shown apart total ties x valid (y ∷ ys) all differ = (
+  unequal V cmp shown apart total x y valid (All-head V y ys all) (sym (ties x y) ∙ differ.0),
+  unequal_to_all V eq cmp shown apart total ties x valid ys (All-tail V y ys all) differ.1,
+)
+
+distinct_differ : {A : Type 0} (V : A → Type 0) (eq : A → A → Bool) (cmp : A → A → Ordering) (shown : A → Data) → Tells V cmp shown
+    → IsTotalOrder cmp → ((x y : A) → eq x y ≡ is_eq (cmp x y))
+    → (xs : List A) → All V xs → IsDistinct eq xs → are_distinct (shown_items shown xs) ≡ true
+unfolding IsDistinct
+distinct_differ V eq cmp shown apart total ties [] all unique = refl
+distinct_differ V eq cmp shown apart total ties (x ∷ xs) all unique =
+    one_more shown x xs (unequal_to_all V eq cmp shown apart total ties x (All-head V x xs all) xs (All-tail V x xs all) unique.0)
+    (distinct_differ V eq cmp shown apart total ties xs (All-tail V x xs all) unique.1)
+
+-- ---- the laws
 
 set_means : {A : Type 0} (rows : List Row) → IsChecked rows → (n m : ℕ) → HasShape rows n (shape.set m) → (shown : A → Data) (xs : List A)
     → are_distinct (shown_items shown xs) ≡ true → (j : Json) → IsArray (Shows rows m shown xs) j → Means rows n j
@@ -99,6 +144,18 @@ set_means rows checked n m is shown xs apart (json.array js) all = λ patterns d
     (items_fit rows patterns m (length xs) js r.0 (each_means rows m shown xs js all) r.1 (items_depth r.0) steps (omega arith)
     (room (items_depth r.0) (length rows) (rank rows m) (rank rows n) steps few (checked.rank_bound m low)))))
 
+items_law : {A : Type 0} (rows : List Row) → IsChecked rows
+    → (n : ℕ) (w : A → Log → Log → Type 0) (V : A → Type 0) (R : List Row → ℕ → Type 0)
+    (shown : A → Data) → ((m : ℕ) (x : A) → R rows m → V x → Gives (w x) (MeansJust rows m (shown x)))
+    → (m : ℕ) × HasShape rows n (shape.set m) × R rows m → (xs : List A) → All V xs → are_distinct (shown_items shown xs) ≡ true
+    → Gives (WritesSeq w xs) (Means rows n)
+items_law rows checked n w V R shown given row xs valid differ =
+    weaker (WritesSeq w xs) (IsArray (Shows rows row.0 shown xs)) (Means rows n)
+    (set_means rows checked n row.0 row.1 shown xs differ)
+    (in_seq_gives (length xs) (WritesEach w xs) (Shows rows row.0 shown xs)
+    (items_give rows row.0 w V shown (λ x v. given row.0 x row.2 v) xs valid))
+
+-- of a set whose values are in order
 pub set_law : {A : Type 0} (rows : List Row) → IsChecked rows
     → (n : ℕ) (w : A → Log → Log → Type 0) (V : A → Type 0) (R : List Row → ℕ → Type 0)
     (cmp : A → A → Ordering) (shown : A → Data) → ((m : ℕ) (x : A) → R rows m → V x → Gives (w x) (MeansJust rows m (shown x)))
@@ -106,7 +163,15 @@ pub set_law : {A : Type 0} (rows : List Row) → IsChecked rows
     → (m : ℕ) × HasShape rows n (shape.set m) × R rows m → (xs : List A) → IsStrictlySortedBy cmp xs × All V xs
     → Gives (WritesSeq w xs) (Means rows n)
 set_law rows checked n w V R cmp shown given apart row xs valid =
-    weaker (WritesSeq w xs) (IsArray (Shows rows row.0 shown xs)) (Means rows n)
-    (set_means rows checked n row.0 row.1 shown xs (all_distinct V cmp shown apart xs valid.1 valid.0))
-    (in_seq_gives (length xs) (WritesEach w xs) (Shows rows row.0 shown xs)
-    (items_give rows row.0 w V shown (λ x v. given row.0 x row.2 v) xs valid.1))
+    items_law rows checked n w V R shown given row xs valid.1 (sorted_differ V cmp shown apart xs valid.1 valid.0)
+
+-- of a set whose values are in no order
+pub unordered_set_law : {A : Type 0} (rows : List Row) → IsChecked rows
+    → (n : ℕ) (w : A → Log → Log → Type 0) (V : A → Type 0) (R : List Row → ℕ → Type 0)
+    (eq : A → A → Bool) (cmp : A → A → Ordering) → IsTotalOrder cmp → ((x y : A) → eq x y ≡ is_eq (cmp x y))
+    → (shown : A → Data) → ((m : ℕ) (x : A) → R rows m → V x → Gives (w x) (MeansJust rows m (shown x)))
+    → ((x y : A) → V x → V y → cmp x y ≡ Less → json_eq (shown y) (shown x) ≡ false)
+    → (m : ℕ) × HasShape rows n (shape.set m) × R rows m → (xs : List A) → IsDistinct eq xs × All V xs
+    → Gives (WritesSeq w xs) (Means rows n)
+unordered_set_law rows checked n w V R eq cmp total ties shown given apart row xs valid =
+    items_law rows checked n w V R shown given row xs valid.1 (distinct_differ V eq cmp shown apart total ties xs valid.1 valid.0)
