@@ -3,6 +3,7 @@
 
 mod body;
 mod choices;
+mod groups;
 mod headers;
 mod imports;
 mod items;
@@ -11,6 +12,7 @@ mod leading;
 mod lines;
 mod members;
 mod names;
+mod own_functions;
 mod own_rows;
 mod texts;
 mod writer;
