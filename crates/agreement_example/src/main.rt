@@ -1,23 +1,14 @@
-//! Prints values as serde writes them, which each document of their rows accepts.
+//! Prints values as serde writes them, which each document of their rows accepts, and then what the
+//! lines of the input ask for.
 #![tactic(auto)]
 
-mod amount;
-mod enum_schemas;
-mod event;
-mod message;
-mod order;
-mod page;
-mod person;
-mod schemas;
-mod team;
+mod asked;
+mod drawn;
 
-use crate::amount::Amount;
-use crate::event::Event;
-use crate::message::Message;
-use crate::order::Order;
-use crate::page::Page;
-use crate::person::Person;
-use crate::team::Team;
+use crate::asked::answer;
+use agreement_types::{
+    Amount, Card, Event, Message, Note, Order, Page, Person, Review, Team, Tree,
+};
 use anyhow::Result;
 use schemars_accepted::to_accepted_value;
 use schemars_agreement::Agrees;
@@ -25,7 +16,9 @@ use schemars_impls::{JsonSchema, register};
 use schemars_types::Types;
 use serde_json::Value;
 use std::alloc::{AllocError, Global};
-use std::collections::BTreeMap;
+use std::collections::{BTreeMap, BTreeSet};
+use std::io;
+use std::io::Input;
 
 fn main(rt: HostRuntime) -> Result<()> {
     let alloc = rt.alloc();
@@ -43,6 +36,10 @@ fn main(rt: HostRuntime) -> Result<()> {
     for written in others(alloc)? {
         println!(rt; "{written}")?;
     }
+    let text = io::read_to_string(alloc, rt.reader())?;
+    for line in text.lines() {
+        answer(&rt, line)?;
+    }
     Ok(())
 }
 
@@ -55,7 +52,34 @@ fn others(alloc: Global) -> Result<Vec<Value>> {
     let (body, to) = (String::from_str(alloc, "hello")?, None);
     all.push(written(alloc, &Message::Text { body, to })?)?;
     all.push(written(alloc, &Order::Wait(3))?)?;
+    all.push(written(alloc, &Review::Given(noted(alloc, "dull", 1)?))?)?;
+    all.push(written(alloc, &blue_card(alloc)?)?)?;
+    all.push(written(alloc, &small_tree(alloc)?)?)?;
     Ok(all)
+}
+
+fn noted(alloc: Global, words: &str, stars: u8) -> Result<Note, AllocError> {
+    let words = String::from_str(alloc, words)?;
+    Ok(Note { words, stars })
+}
+
+fn blue_card(alloc: Global) -> Result<Card, AllocError> {
+    let mut tags = BTreeSet::new(alloc);
+    tags.insert(String::from_str(alloc, "old")?)?;
+    tags.insert(String::from_str(alloc, "blue")?)?;
+    let note = noted(alloc, "good", 5)?;
+    Ok(Card { id: 1, tags, note })
+}
+
+fn small_tree(alloc: Global) -> Result<Tree, AllocError> {
+    let leaf = Tree {
+        name: String::from_str(alloc, "leaf")?,
+        children: Vec::new(alloc),
+    };
+    let mut children = Vec::new(alloc);
+    children.push(leaf)?;
+    let name = String::from_str(alloc, "root")?;
+    Ok(Tree { name, children })
 }
 
 // Returns what serde writes for the value, which the documents of its row accept, or null if the

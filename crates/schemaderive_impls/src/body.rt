@@ -1,11 +1,10 @@
 //! The body of a `json_schema`, and what it says of its parts.
 use crate::groups::Owner;
-use crate::imports::Imports;
-use crate::lines::Lines;
 use crate::names::plain;
 use schemaderive_known::Row;
 use schemaderive_options::Context;
 use schemaderive_syntax::{Fault, Place};
+use schemaderive_text::{Imports, Lines};
 use std::alloc::{AllocError, Global};
 use std::collections::BTreeMap;
 

@@ -1,13 +1,12 @@
 //! The variants of enums.
 use crate::body::{Body, Types};
 use crate::groups::{INTERNAL_VARIANTS, List, MANY_VARIANTS, VARIANTS, ends_of};
-use crate::imports::Imports;
 use crate::keywords::{INTERNAL_VARIANT, VARIANT, refuse_notes};
 use crate::members::has_flattened;
 use crate::own_rows::steps_of;
-use crate::texts::literal;
 use schemaderive_definitions::{Choice, Choices, Form, Members, Part, Payload};
 use schemaderive_syntax::Fault;
+use schemaderive_text::{Imports, literal};
 
 impl Body {
     /// Adds the calls that make the list `variants`. What a variant has is collected right before the

@@ -1,10 +1,9 @@
 //! Functions that add a group of fields or of variants each, so that the check proves a long body
 //! group by group.
 use crate::body::{Body, Types};
-use crate::imports::Imports;
 use crate::keywords::weight_of;
-use crate::lines::Lines;
 use schemaderive_definitions::{Choice, Member, Part, Payload};
+use schemaderive_text::{Imports, Lines};
 use std::alloc::{AllocError, Global};
 use std::mem;
 

@@ -2,17 +2,15 @@
 use crate::body::{Body, INDENT, Types};
 use crate::groups::Owner;
 use crate::headers::Header;
-use crate::imports::Imports;
 use crate::keywords::ENTRY;
-use crate::lines::Lines;
 use crate::members::has_flattened;
 use crate::names::{ID, Member, NAME, clause_of, has_parameters, made_of};
 use crate::own_rows::steps_of;
-use crate::texts::literal;
 use schemaderive_definitions::{Choices, Content, Definition, Form, Part};
 use schemaderive_known::Row;
 use schemaderive_options::Notes;
 use schemaderive_syntax::{Fault, Place};
+use schemaderive_text::{Imports, Lines, literal};
 use std::alloc::{AllocError, Global};
 
 /// What is to be implemented for a type.

@@ -1,10 +1,9 @@
 //! The keywords of a type, a field or a variant, which are added by calls.
 use crate::body::{Body, Types};
-use crate::imports::Imports;
-use crate::texts::{json_argument, literal};
 use schemaderive_definitions::Part;
 use schemaderive_options::{Note, Notes};
 use schemaderive_syntax::Fault;
+use schemaderive_text::{Imports, json_argument, literal};
 use std::alloc::AllocError;
 
 /// The function that adds a keyword, and what it is added to.

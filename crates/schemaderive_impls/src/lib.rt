@@ -5,16 +5,13 @@ mod body;
 mod choices;
 mod groups;
 mod headers;
-mod imports;
 mod items;
 mod keywords;
 mod leading;
-mod lines;
 mod members;
 mod names;
 mod own_functions;
 mod own_rows;
-mod texts;
 mod writer;
 
 pub use writer::{Implementations, implementations_of};

@@ -1,12 +1,11 @@
 //! The fields of structs, and the parts of tuples.
 use crate::body::{Body, Types};
 use crate::groups::{FIELDS, MANY_FIELDS, PARTS, ends_of};
-use crate::imports::Imports;
 use crate::keywords::{FIELD, refuse_notes};
 use crate::own_rows::steps_of;
-use crate::texts::literal;
 use schemaderive_definitions::{Member, Members, Part, Required};
 use schemaderive_syntax::Fault;
+use schemaderive_text::{Imports, literal};
 use std::alloc::AllocError;
 
 // A field that is always read and may be missing where it is written, in the lines of an argument.

@@ -1,8 +1,6 @@
 //! The ids and the names of rows, in which the names of parameters stand for those of their types.
-use crate::imports::Imports;
-use crate::lines::Lines;
-use crate::texts::literal;
 use schemaderive_rows::{CLOSING, OPENING};
+use schemaderive_text::{Imports, Lines, literal};
 use std::alloc::{AllocError, Global};
 
 /// Whether it is an id or a name.

@@ -1,11 +1,9 @@
 //! Functions that name a row by an id or a name that the parameters of a type have parts of, so that
 //! the check finds what each of them says by itself.
 use crate::body::Body;
-use crate::imports::Imports;
-use crate::lines::Lines;
 use crate::names::{ID, Member, NAME, clause_of, has_parameters, made_of};
 use crate::own_rows::Step;
-use crate::texts::literal;
+use schemaderive_text::{Imports, Lines, literal};
 use std::alloc::AllocError;
 
 impl Body {

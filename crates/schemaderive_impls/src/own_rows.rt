@@ -1,10 +1,9 @@
 //! Types that lead back to the type that is described, which are named by their ids.
 use crate::body::{Body, Types};
-use crate::imports::Imports;
 use crate::names::{ID, NAME, clause_of, has_parameters, plain};
-use crate::texts::literal;
 use schemaderive_known::{Makeup, Row};
 use schemaderive_syntax::{Fault, Place};
+use schemaderive_text::{Imports, literal};
 use std::alloc::{AllocError, Global};
 
 /// A row that is named by the id of what it is made of.

@@ -1,14 +1,13 @@
 //! The implementations of the types of a source.
 use crate::body::Types;
 use crate::headers::{Header, header_of};
-use crate::imports::Imports;
 use crate::items::{Subject, push_item};
 use crate::leading::{add_new, ancestors_of, mentions_of};
-use crate::lines::Lines;
 use schemaderive_definitions::{Content, Definition, Members, Part, Payload, definition_of};
 use schemaderive_options::{Context, Contract, derives};
 use schemaderive_rows::{Builder, Scope, Standing, one_field};
 use schemaderive_syntax::{Declaration, Fault, Place, Refusal, Source};
+use schemaderive_text::{Imports, Lines};
 use std::alloc::{AllocError, Global};
 use std::mem;
 

@@ -25,7 +25,7 @@ use crate::output::{Output, write_output};
 use crate::streams::{ReadError, Sink, Source, read_all};
 use crate::words::{Asked, Command, Dialect, command_in};
 use schemagen_input::{SampleError, TextError, read_sample};
-use schemars::generate::{MANY_ROWS, SchemaGenerator, SchemaSettings};
+use schemars::generate::{SchemaGenerator, SchemaSettings};
 use schemars::sample::Sample;
 use schemars::transform::NoTransform;
 use schemars::{GenerateError, Schema};
@@ -335,7 +335,7 @@ fn generated(
 {
     match asked.dialect {
         Dialect::OpenApi3 => definitions_of(alloc, asked, generator, root),
-        Dialect::Draft2020_12 if generator.types().len() >= MANY_ROWS => {
+        Dialect::Draft2020_12 if generator.writes_early() => {
             text_of(alloc, asked, generator, root)
         }
         Dialect::Draft2020_12 => document_of(alloc, asked, generator, root),

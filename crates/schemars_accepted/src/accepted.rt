@@ -1,5 +1,5 @@
 //! What is written for a value, and that documents accept it.
-ghost use Rattle.std.specs.Prelude.{◌<◌, length, IfOk};
+ghost use Rattle.std.specs.Prelude.{◌≡◌, ◌<◌, length, IfOk, IfErr};
 ghost use Rattle.serde_json.specs.View.{view};
 ghost use Rattle.schemars_types.specs.Faults.{IsChecked};
 ghost use Rattle.schemars_written.specs.Writes.{IsWritten};
@@ -28,8 +28,13 @@ pub fn to_accepted_value<T: Agrees>(
     requires row { T.is_row types.now n }
     ensures written { IfOk result (λ v. IsWritten (T.writes value.now) (view v)) }
     ensures accepted { IfOk result (λ v. IsAccepted types.now n (view v)) }
+    ensures refused { IfErr result (λ e. e ≡ WriteError.NotInJson → T.valid value.now → ⊥) }
 {
-    let written = to_member_value(alloc, types, n, value)?;
-    look(&written);
-    Ok(written)
+    match to_member_value(alloc, types, n, value) {
+        Ok(written) => {
+            look(&written);
+            Ok(written)
+        }
+        Err(error) => Err(error),
+    }
 }

@@ -1,10 +1,9 @@
 pub mod Floats
 pub mod JoinedTexts
 pub mod JsonValues
-pub mod KeptEdits
+pub mod EntryEdits
 pub mod KeyOrder
 pub mod Keys
 pub mod Members
 pub mod ReadBack
 pub mod Rearranged
-pub mod Restored

@@ -1,4 +1,5 @@
 -- The definitions that contracts cite.
+pub mod Entries
 pub mod Keys
 pub mod Kept
 pub mod Joined

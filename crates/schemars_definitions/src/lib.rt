@@ -1,7 +1,9 @@
 //! Where the definitions of a document are kept while it is generated: as JSON values or as text.
 #![tactic(auto)]
 
+mod entries;
 mod joined;
+mod kept;
 mod objects;
 mod plain;
 mod store;

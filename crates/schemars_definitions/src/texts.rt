@@ -7,21 +7,20 @@ ghost use Rattle.schemars_definitions.specs.Joined.{HasNoDefinitions};
 ghost use Rattle.schemars_definitions.specs.Keys.{HasKeysOnce};
 ghost use Rattle.schemars_definitions.specs.Whole.{with_defs};
 
+use crate::entries::{insert_new, replace};
 use crate::joined::joined;
-use crate::objects::Objects;
-use crate::plain::is_json;
+use crate::kept::Kept;
 use crate::store::Definitions;
 use schemars_schema::Schema;
-use serde_json::Value;
 use std::alloc::{AllocError, Global};
+use std::collections::BTreeMap;
 use std::marker::Model;
 
 /// Definitions as ordered text, which takes an eighth of the memory of JSON values. A definition
 /// with a number that is no 64-bit whole number is kept as a JSON value.
 #[derive(Drop)]
 pub struct Texts {
-    // A text stands for the definition that is written in it, and another value for itself.
-    kept: Objects,
+    definitions: BTreeMap<String, Kept>,
 }
 
 impl Model for Texts {
@@ -33,9 +32,9 @@ impl Model for Texts {
 
     ghost coded = { members_code };
 
-    ghost view = { λ t. definitions_in t.kept };
+    ghost view = { λ t. definitions_in t.definitions.entries };
 
-    ghost invariant = { λ t. AreOrdered t.kept };
+    ghost invariant = { λ t. AreOrdered t.definitions.entries };
 }
 
 impl Texts {
@@ -44,7 +43,7 @@ impl Texts {
         ensures { result ≡ no_members }
     {
         Texts {
-            kept: Objects::new(alloc),
+            definitions: BTreeMap::new(alloc),
         }
     }
 
@@ -58,12 +57,11 @@ impl Texts {
             → string_bytes s ≡ ordered_text (with_defs self own.now)) }
         ensures once { HasKeysOnce self }
     {
-        let Texts { kept } = self;
-        let members = kept.into_object();
-        if members.len() == 0 {
+        let Texts { definitions } = self;
+        if definitions.len() == 0 {
             return own.to_ordered_string(alloc);
         }
-        joined(alloc, own, members)
+        joined(alloc, own, definitions)
     }
 }
 
@@ -71,24 +69,22 @@ impl Definitions for Texts {
     ghost kept = { λ ms. ms };
 
     fn contains_key(&self, name: &str) -> bool {
-        self.kept.contains_key(name)
+        self.definitions.contains_key(name)
     }
 
     fn begin(&mut self, alloc: Global, name: &str) -> Result<bool, AllocError> {
-        self.kept.begin(alloc, name)
+        let key = String::from_str(alloc, name)?;
+        insert_new(&mut self.definitions, key, Kept::Begun)
     }
 
     fn finish(&mut self, alloc: Global, name: &str, schema: Schema) -> Result<(), AllocError> {
-        if !is_json(schema.as_value()) {
-            return self.kept.finish(alloc, name, schema);
-        }
-        let text = schema.to_ordered_string(alloc)?;
-        self.kept.set(name, Value::String(text));
+        let kept = Kept::new(alloc, schema)?;
+        replace(&mut self.definitions, name, kept);
         Ok(())
     }
 
     fn remove(&mut self, name: &str) {
-        self.kept.remove(name);
+        let _ = self.definitions.remove(name);
     }
 }
 

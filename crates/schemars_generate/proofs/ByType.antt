@@ -1,28 +1,24 @@
--- A table that a type has joined, what is made in it, and why a type does not join.
-use Rattle.std.proofs.Common.{◌≡◌, ◌⊎◌, ◌<◌, inl, inr, ℕ, suc, List, [], ◌∷◌, take, length, Bool, Option, Some, None, IsSome, refl, ap, sym, ◌∙◌, subst, arith}
-use Rattle.schemars_generate.proofs.Words.{Data, Text, Row, IsAccepted, IsChecked, IsOneToOne, part, Registry, TransformStep, dialect_of, RootHeadline, IsDraftPath, State, Settings, HasOwnDefinitions, stripped, more_types_own, IsAnswerFor, KeepsDefinitions, IsJoined, IsTypeRefusal, with_rows, Transforms, ApplyInOrder, IsThrough, IsTransformed}
+-- A table that a type has joined, what documents made in it mean, and why a type does not join.
+use Rattle.std.proofs.Common.{◌≡◌, ◌⊎◌, ◌<◌, inl, inr, ℕ, suc, List, [], ◌∷◌, take, length, Option, Some, None, IsSome, refl, ap, sym, ◌∙◌, subst, arith}
+use Rattle.schemars_generate.proofs.Words.{Data, Row, IsAccepted, IsChecked, TransformStep, dialect_of, RootHeadline, IsDraftPath, State, Settings, stripped, more_types_own, IsJoined, IsTypeRefusal, with_rows, Transforms, IsTransformed}
 use Rattle.schemars_shapes.specs.Shape.{Entry}
-use Rattle.schemars_types.specs.Rows.{place_of, entry_at, name_at}
+use Rattle.schemars_types.specs.Rows.{entry_at}
 use Rattle.schemars_types.specs.Faults.{Refusal}
 use Rattle.schemars_types.specs.declared.error.TypesError.{TypesError}
 use Rattle.schemars_types.specs.declared.error.TypesError.TheVariants as fault
 use Rattle.schemars_impls.specs.Describes.{entry_under}
 use Rattle.schemars_impls.specs.Dictionary.{TypeRow, IsIn, IsAdded, KeepsTo, RefusesType}
 use Rattle.schemars_impls.specs.Keeps.{Keeps, AllContinue, Continues}
-use Rattle.schemars_headline.specs.Calls.{IsRootCall}
 use Rattle.schemars_headline.specs.Drafts.{DraftHeadlines}
 use Rattle.schemars_headline.specs.Headline.{Headline}
-use Rattle.schemars_headline.proofs.Calls.{part_own, after_root_own}
 use Rattle.schemars_generate.specs.Answers.{IsSubschemaFor}
-use Rattle.schemars_headline.proofs.InlinedDrafts.{root_needs_none}
+use Rattle.schemars_generate.specs.Generator.{Generator, state}
 use Rattle.schemars_generate.specs.ByType.{IsRegistered, MeansTypeIn, MeansType, IsSubschemaOfType, IsRootOfType, IsRootInTable}
 use Rattle.schemars_generate.specs.Refusals.{error_of}
 use Rattle.schemars_generate.specs.declared.error.GenerateError.{GenerateError}
 use Rattle.schemars_generate.specs.declared.error.GenerateError.TheVariants.{OutOfMemory}
-use Rattle.schemars_generate.specs.Through.{IsRootMade, IsUntransformedCall}
-use Rattle.schemars_generate.proofs.Answered.{subschema_for, keeps}
-use Rattle.schemars_generate.proofs.BuiltIns.{transformed, promised}
-use Rattle.schemars_generate.proofs.Untransformed.{untransformed}
+use Rattle.schemars_generate.specs.Through.{IsUntransformedCall}
+use Rattle.schemars_generate.proofs.BuiltIns.{promised}
 
 -- ---- the table
 
@@ -52,63 +48,20 @@ pub registered : (t : TypeRow) (old new : List Row) (n : ℕ) → IsChecked old 
 registered t old new n checked kept added present follows =
     record { begins = begins old new checked kept; added = added; present = present; follows = follows }
 
--- ---- what is made in it
-
-pub subschema_own : (old new : State) (n : ℕ) (d : Data)
-    → new ≡ record (with_rows new.rows old) { names = new.names; definitions = new.definitions } → IsChecked old.rows
-    → take (length old.rows) new.rows ≡ old.rows → IsAnswerFor (with_rows new.rows old) new (part n) d → HasOwnDefinitions old
-    → HasOwnDefinitions new
-subschema_own old new n d same checked begins h own =
-    part_own (with_rows new.rows old) new same h.adds (more_types_own old new.rows checked begins own)
-
-pub subschema_in_table : (old new : State) (n : ℕ) (d : Data)
-    → new ≡ record (with_rows new.rows old) { names = new.names; definitions = new.definitions } → IsChecked new.rows
-    → IsOneToOne new.names → IsAnswerFor (with_rows new.rows old) new (part n) d → IsSubschemaFor (with_rows new.rows old) new n d
-subschema_in_table old new n d same checked one h =
-    subschema_for (with_rows new.rows old) new n d same checked one (part_own (with_rows new.rows old) new same h.adds) h
-
-module _ {O : Type 0} (Q : TransformStep O) (ts us : Transforms O) (s : State) (n : ℕ) where
-  -- what is promised in each draft holds of the document
-  pub root_in_table : (R : Data → Type 0) (d : Data) → ((e : Data) → R e → DraftHeadlines s n e) → IsTransformed Q ts us R d
-      → IsRootInTable Q ts us s n R d
-  root_in_table R d all made = record {
-    made = made;
-    headline = λ draft is. promised Q ts us R (λ x. RootHeadline (dialect_of x) s n) (λ e told x. all e told x) d made draft is;
-  }
-
-  -- the document that leaves this registry behind
-  pub root_made : (w : Registry) (new : State) (d : Data) → IsChecked s.rows
-      → new ≡ record s { names = w.names; definitions = w.definitions } → IsThrough (ApplyInOrder Q) ts us (IsRootMade s n w) d
-      → IsRootInTable Q ts us s n (IsUntransformedCall s n new) d
-  root_made w new d checked same root =
-      let made = root.1 in
-      let after : IsRootCall s n new root.0 = (
-        made.0,
-        made.1,
-        same ∙ (λ i. record {
-          settings = s.settings;
-          rows = s.rows;
-          names = (made.4 i).names;
-          definitions = (made.4 i).definitions;
-        }),
-      ) in
-      root_in_table (IsUntransformedCall s n new) d (λ e told. told.0.headlines)
-      (transformed Q ts us (IsUntransformedCall s n new) d
-      (root.0, (untransformed s n made.0 root.0 checked made.1 made.2 made.3, after), root.2))
-
-  pub root_own : (new : State) (d : Data) → IsRootInTable Q ts us s n (IsUntransformedCall s n new) d → HasOwnDefinitions s
-      → HasOwnDefinitions new
-  root_own new d h own =
-      let call = (h.made.through).1.1 in
-      subst HasOwnDefinitions (sym call.2) (after_root_own s n call.0 call.1.step own)
-
-  pub root_keeps : (new : State) (d : Data) → IsRootInTable Q ts us s n (IsUntransformedCall s n new) d → KeepsDefinitions s new
-  root_keeps new d h =
-      let call = (h.made.through).1.1 in
-      keeps s new (root_own new d h)
-      (λ all none. ap (λ x. x.definitions) call.2 ∙ root_needs_none s n call.0 _ call.1 all none)
-
 -- ---- documents of a type that has joined the table
+
+-- a generator whose table was replaced
+pub in_table : {O : Type 0} (old joined : Generator O) (rows : List Row) → joined ≡ record old { rows = joined.rows } → rows ≡ joined.rows
+    → state joined ≡ with_rows rows (state old)
+in_table old joined rows same is = ap state same ∙ ap (λ r. with_rows r (state old)) (sym is)
+
+-- what is promised in each draft holds of a root document
+pub root_in_table : {O : Type 0} (Q : TransformStep O) (ts us : Transforms O) (s : State) (n : ℕ) (R : Data → Type 0) (d : Data)
+    → ((e : Data) → R e → DraftHeadlines s n e) → IsTransformed Q ts us R d → IsRootInTable Q ts us s n R d
+root_in_table Q ts us s n R d all made = record {
+  made = made;
+  headline = λ draft is. promised Q ts us R (λ x. RootHeadline (dialect_of x) s n) (λ e told x. all e told x) d made draft is;
+}
 
 pub subschema_joined : (t : TypeRow) (old new : State) (n : ℕ) (d : Data) → IsChecked old.rows → IsJoined t old.rows new.rows n
     → IsSubschemaFor (with_rows new.rows old) new n d → IsSubschemaOfType t old new d

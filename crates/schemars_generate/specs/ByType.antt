@@ -1,13 +1,11 @@
 -- What a call by type makes of a table, what it answers, and what it refuses.
 use Rattle.std.specs.Prelude.{◌≡◌, ◌⊎◌, ℕ, List, Some, IsSome, take, length}
 use Rattle.serde_json.specs.Data.{Data}
-use Rattle.schemars_types.specs.Rows.{Row, HasDistinctIds, place_of}
-use Rattle.schemars_types.specs.Faults.{IsAccepted, IsChecked, Refusal}
+use Rattle.schemars_types.specs.Rows.{Row, place_of}
+use Rattle.schemars_types.specs.Faults.{IsAccepted, Refusal}
 use Rattle.schemars_types.specs.declared.error.TypesError.{TypesError}
 use Rattle.schemars_impls.specs.Describes.{entry_under}
 use Rattle.schemars_impls.specs.Dictionary.{TypeRow, IsIn, IsAdded, KeepsTo, RefusesAs}
-use Rattle.schemars_build.specs.Naming.{IsOneToOne}
-use Rattle.schemars_build.specs.Registry.{Registry, idle_registry}
 use Rattle.schemars_walk.specs.Walk.{TransformStep}
 use Rattle.schemars_headline.specs.Drafts.{Draft, dialect_of}
 use Rattle.schemars_headline.specs.Headline.{RootHeadline, Headline, IsDraftPath, SubschemaHeadline}
@@ -36,14 +34,6 @@ pub record IsRegistered (t : TypeRow) (old new : List Row) (n : ℕ) : Type 0 wh
 pub record IsJoined (t : TypeRow) (old new : List Row) (n : ℕ) : Type 0 where
   pub registered : IsRegistered t old new n
   pub accepted : IsAccepted new
-
--- a table, and the names and definitions made in it, as a generator holds them between calls
-pub record AreHeld (rows : List Row) (w : Registry) : Type 0 where
-  pub accepted : IsAccepted rows
-  pub checked : IsChecked rows
-  pub ids : HasDistinctIds rows
-  pub one_to_one : IsOneToOne w.names
-  pub between : w ≡ idle_registry w.names w.definitions
 
 -- the transforms made the document of row n, of which R holds before them, in this table
 pub record IsRootInTable {O : Type 0} (Q : TransformStep O) (ts us : Transforms O) (s : State) (n : ℕ) (R : Data → Type 0) (d : Data)

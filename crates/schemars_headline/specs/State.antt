@@ -1,5 +1,5 @@
 -- What settings say, and what a generator holds, as callers see them.
-use Rattle.std.specs.Prelude.{◌≡◌, Contains, ℕ, ◌==◌, List, [], ◌∷◌, Bool, false, Option, Some, None, codes, length, if◌then◌else◌}
+use Rattle.std.specs.Prelude.{◌≡◌, Contains, ℕ, ◌==◌, List, [], ◌∷◌, Bool, false, Option, Some, None, codes, if◌then◌else◌}
 use Rattle.serde_json.specs.Data.{Data, string, Members}
 use Rattle.serde_json.specs.Find.{get_member}
 use Rattle.schemars_schema.specs.References.{references}

@@ -1,21 +1,14 @@
 -- What the document of an enum says whose values have name and content under two keys.
-use Rattle.std.proofs.Common.{◌≡◌, ℕ, zero, suc, ◌<◌, List, [], ◌∷◌, ◌++◌, map, Some, None, Bool, true, false, refl, sym, ap, ◌∙◌, subst, true≢false}
-use Rattle.schemars_meaning.proofs.Words.{bytes_eq, if◌then◌else◌, is_some, ◌&&◌, not, list_any, option_map_or, and_parts, bytes_eq-Decides, Data, null, object, no_members, depth, get_member, Text, IsJson, IsSchema, verdict, Context, judge, flipped, unit_variant, Field, Flattened, Payload, Variant, no_payload, newtype_payload, tuple_payload, struct_payload, needed, VariantMatch, every_member, has_fields, has_payload, has_tagged, expanded_payload, expanded_variant, AreDistinctVariants, Keyword, Ask, Template, asks_of, asks_in, filled, filled_in, templates_of, payload_template, said, whole_template, adjacent_payload, adjacent_item, adjacent_template}
+use Rattle.std.proofs.Common.{◌≡◌, ℕ, ◌<◌, List, [], ◌∷◌, ◌++◌, map, Some, Bool, true, false, refl, sym, ap, ◌∙◌, subst}
+use Rattle.schemars_meaning.proofs.Words.{bytes_eq, list_any, Data, no_members, depth, Text, IsJson, IsSchema, verdict, Context, judge, unit_variant, Field, Flattened, Payload, Variant, no_payload, newtype_payload, tuple_payload, struct_payload, VariantMatch, has_payload, expanded_payload, expanded_variant, AreDistinctVariants, Ask, Template, asks_of, asks_in, filled, filled_in, templates_of, payload_template, said, whole_template, adjacent_payload, adjacent_item, adjacent_template}
 use Rattle.schemars_schema.specs.Acceptance.{read_data}
 use Rattle.schemars_types.specs.declared.contract.Contract.{Contract}
-use Rattle.schemars_types.specs.declared.contract.Contract.TheVariants.{Deserialize}
 use Rattle.schemars_types.specs.Meaning.{is_text, has_beside, has_adjacent, must_have}
-use Rattle.schemars_meaning.proofs.MapDocument.{map_document}
-use Rattle.schemars_meaning.proofs.MapKeywords.{keywords}
 use Rattle.schemars_meaning.proofs.Filling.{Fit, without_end, parted}
 use Rattle.schemars_meaning.proofs.Notes.{annotated-schema, annotated_fits}
-use Rattle.schemars_meaning.proofs.Fields.{field_found}
-use Rattle.schemars_meaning.proofs.Opened.{no_parts, map_form}
-use Rattle.schemars_meaning.proofs.StructDocuments.{every_alike}
 use Rattle.schemars_meaning.proofs.SmallMaps.{one_means, two_mean}
-use Rattle.schemars_meaning.proofs.Uniting.{form-keywords}
 use Rattle.schemars_meaning.proofs.ExternalSays.{AllFit, AreTold, one_says}
-use Rattle.schemars_meaning.proofs.InternalSays.{told, told_object, named_under, tagged_told, one_if_any}
+use Rattle.schemars_meaning.proofs.InternalSays.{told, tagged_told, one_if_any}
 
 -- ---- a value tells its name
 

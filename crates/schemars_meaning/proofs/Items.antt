@@ -1,8 +1,7 @@
 -- The schemas of an enum's variants where the enum is flattened: maps that let further members in.
-use Rattle.std.proofs.Common.{◌≡◌, ℕ, ◌<◌, List, [], ◌∷◌, ◌++◌, map, Option, Some, None, Bool, true, false, refl, sym, ap, ◌∙◌, subst, true≢false}
-use Rattle.schemars_meaning.proofs.Words.{and_comm, and-true, bytes_eq-Decides, codes, bytes_eq, if◌then◌else◌, is_some, ◌&&◌, ◌||◌, not, option_map_or, Data, null, object, string, Members, no_members, member, put, depth, get_member, get_member-put, get_member-put_other, Text, IsJson, IsSchema, put_all, AreNotes, verdict, Context, judge, opened, Field, needed, every_member, VariantMatch, has_fields, member_choice, Keyword, annotated}
-use Rattle.schemars_types.specs.declared.contract.Contract.TheVariants.{Deserialize}
-use Rattle.schemars_types.specs.Meaning.{has_member, must_have}
+use Rattle.std.proofs.Common.{◌≡◌, ◌<◌, List, [], ◌∷◌, ◌++◌, map, Option, Some, None, Bool, true, false, refl, sym, ap, ◌∙◌, subst, true≢false}
+use Rattle.schemars_meaning.proofs.Words.{bytes_eq-Decides, codes, bytes_eq, is_some, Data, object, string, Members, no_members, put, depth, get_member, get_member-put, get_member-put_other, Text, IsJson, IsSchema, put_all, AreNotes, verdict, Context, judge, opened, VariantMatch, member_choice, Keyword, annotated}
+use Rattle.schemars_types.specs.Meaning.{must_have}
 use Rattle.schemars_meaning.proofs.MapDocument.{map_document}
 use Rattle.schemars_meaning.proofs.MapKeywords.{noted, noted_by-object, keywords, closed_there}
 use Rattle.schemars_meaning.proofs.Named.{AreEntries}
@@ -13,7 +12,6 @@ use Rattle.schemars_meaning.proofs.StructMeans.{value_means, open_judges, names_
 use Rattle.schemars_meaning.proofs.SmallMaps.{found_one}
 use Rattle.schemars_meaning.proofs.Uniting.{IsForm, form-keywords, pair, rest, join}
 use Rattle.schemars_meaning.proofs.Opened.{no_parts, map_form, opened_form, opened_part, opened_one, opened_parts, Part_form}
-use Rattle.schemars_meaning.proofs.Fields.{field_found}
 
 module _ (c : Context) (on : c.dialect.reads_unevaluated ≡ true) where
   -- a map whose properties and required names say what is offered of v

@@ -55,4 +55,6 @@ pub mod Refers
 pub mod NodeReferences
 pub mod References
 pub mod Referring
+pub mod Congruence
+pub mod Equation
 mod WorkedTables

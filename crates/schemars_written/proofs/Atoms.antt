@@ -1,32 +1,31 @@
 -- Values that are one event.
-use Rattle.std.proofs.Common.{◌≡◌, ℕ, zero, suc, ◌+◌, ◌*◌, ◌<◌, ◌≤◌, ◌^◌, ℤ, pos, negsuc, List, [], ◌∷◌, ◌++◌, length, Bool, true, false, ◌==◌, Option, Some, None, decimal, encode_utf8, refl, sym, ap, ◌∙◌, subst, arith, append_assoc}
+use Rattle.std.proofs.Common.{◌≡◌, ℕ, zero, suc, ◌+◌, ◌*◌, ◌<◌, ◌^◌, ℤ, pos, negsuc, List, [], ◌∷◌, ◌++◌, length, Bool, true, false, ◌==◌, Option, Some, None, decimal, encode_utf8, refl, sym, ap, ◌∙◌, subst, arith}
 use Rattle.std.specs.Option.{option_map_or}
 use Rattle.std.specs.Prelude.{option_map, Contains}
 use Rattle.std.specs.Fmt.{signed_decimal}
 use Rattle.std.proofs.lemmas.Grind.{common_steps}
-use Rattle.std.proofs.lemmas.Bool.Decides.{nat_tests}
 use Rattle.json.specs.Json as json
 use Rattle.json.specs.Json.{Json}
 use Rattle.json.specs.Tree.{json_tokens}
 use Rattle.serde.specs.Event as event
 use Rattle.serde.specs.Event.{Event, Log, Logs}
 use Rattle.serde_json.specs.Data.{Data, depth, number, unsigned, negative, boolean, null, string}
-use Rattle.serde_json.specs.Read.{of_json, number_of}
-use Rattle.serde_json.specs.Sent.{State, Takes, TakesAll}
+use Rattle.serde_json.specs.Read.{of_json}
+use Rattle.serde_json.specs.Sent.{State, Takes}
 use Rattle.schemars_written.proofs.Digits.{number_of-decimal, number_of-negative}
 use Rattle.schemars_schema.specs.Acceptance.{Patterns, code_points}
 use Rattle.schemars_shapes.specs.Shape as shape
 use Rattle.schemars_shapes.specs.Shape.{Shape, Entry, numbers_of, same_value_numbers}
 use Rattle.schemars_shapes.specs.declared.shape.IntKind.{IntKind}
 use Rattle.schemars_types.specs.Rows.{Row, entry_at}
-use Rattle.schemars_types.specs.Edges.{rank, SameValueEdge}
+use Rattle.schemars_types.specs.Edges.{rank}
 use Rattle.schemars_types.specs.Faults.{IsChecked}
 use Rattle.schemars_types.specs.KeyOptions.{key_options}
 use Rattle.schemars_types.specs.Effective.{expanded_shape_in}
 use Rattle.schemars_types.specs.Meaning.{belongs_within, choices_within, has_shape, is_of_kind}
 use Rattle.schemars_types.specs.declared.contract.Contract.TheVariants.{Serialize}
 use Rattle.schemars_written.proofs.Characters.{one-character}
-use Rattle.schemars_written.specs.Gives.{IsPlain, Leads, Spells, Gives}
+use Rattle.schemars_written.specs.Gives.{IsPlain, Gives}
 use Rattle.schemars_written.specs.Fits.{IsWithin64, Fits, Means, HasShape}
 
 -- one event, wherever it is taken, writes one JSON with P
@@ -118,7 +117,7 @@ pub unsigned_agrees : (rows : List Row) (n v : ℕ) (kind : IntKind) → HasShap
     → Gives (λ old new. Logs old new (event.unsigned v)) (Means rows n)
 unsigned_agrees rows n v kind is small of_kind = unsigned_gives v (Means rows n) (natural_means rows n v kind is small of_kind)
 
-integer_means : (rows : List Row) (n : ℕ) (z : ℤ) (kind : IntKind) → HasShape rows n (shape.int kind) → IsWithin64 z → is_of_kind kind z ≡ true
+pub integer_means : (rows : List Row) (n : ℕ) (z : ℤ) (kind : IntKind) → HasShape rows n (shape.int kind) → IsWithin64 z → is_of_kind kind z ≡ true
     → Means rows n (json.number (signed_decimal z))
 integer_means rows n (pos v) kind is small of_kind = natural_means rows n v kind is small of_kind
 integer_means rows n (negsuc v) kind is small of_kind =
@@ -155,7 +154,7 @@ text_agrees rows n t is = one (event.text t) (Means rows n) (λ s mid plain took
   grind (arith, common_steps, took),
 ))
 
-one_character : (c : ℕ) → code_points (encode_utf8 c) == 1 ≡ true
+pub one_character : (c : ℕ) → code_points (encode_utf8 c) == 1 ≡ true
 one_character c = rw (one-character c) refl
 
 pub char_agrees : (rows : List Row) (n c : ℕ) → HasShape rows n shape.char → Gives (λ old new. Logs old new (event.character c)) (Means rows n)

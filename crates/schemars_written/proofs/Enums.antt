@@ -1,7 +1,7 @@
 -- Variants of enums, by how their names are written.
-use Rattle.std.proofs.Common.{◌≡◌, ◌⊎◌, inl, inr, ℕ, zero, suc, ◌+◌, ◌*◌, ◌<◌, ◌≤◌, List, [], ◌∷◌, ◌++◌, length, map, Bool, true, false, not, ◌||◌, Option, Some, None, refl, sym, ap, ◌∙◌, subst, arith, append-nil}
+use Rattle.std.proofs.Common.{◌≡◌, ◌⊎◌, inl, inr, ℕ, suc, ◌+◌, ◌*◌, ◌<◌, ◌≤◌, List, [], ◌∷◌, ◌++◌, length, map, Bool, true, false, not, Option, Some, None, refl, sym, ap, ◌∙◌, subst, arith, append-nil}
 use Rattle.std.specs.Prelude.{bytes_eq, Contains, is_some, ◌&&◌, if◌then◌else◌}
-use Rattle.std.specs.List.{list_any, IsDistinct}
+use Rattle.std.specs.List.{IsDistinct}
 use Rattle.std.specs.Option.{option_map_or}
 use Rattle.std.proofs.lemmas.Grind.{common_steps}
 use Rattle.std.proofs.lemmas.Nat.{mul-le}
@@ -17,24 +17,23 @@ use Rattle.serde.specs.Spelling.{spelled}
 use Rattle.serde_json.specs.Data.{Data, string, object, Members, no_members, member, members_depth, depth, put}
 use Rattle.serde_json.specs.Find.{get_member}
 use Rattle.serde_json.specs.Read.{of_json, of_members}
-use Rattle.serde_json.specs.Sent.{Takes}
 use Rattle.schemars_text.proofs.Members.{get_member-here}
 use Rattle.schemars_schema.specs.Json.{Text}
 use Rattle.schemars_schema.specs.Acceptance.{Patterns}
-use Rattle.schemars_flatten.proofs.Kept.{AllMembers, all_put}
+use Rattle.schemars_flatten.proofs.Kept.{AllMembers}
 use Rattle.schemars_shapes.specs.Shape as shape
 use Rattle.schemars_shapes.specs.Shape.{Field, Tagging, by_name, by_nothing, by_tag, by_tag_and_content, Variant, Payload, no_payload, newtype_payload, tuple_payload, struct_payload, payload_numbers, payload_same}
 use Rattle.schemars_types.specs.Rows.{Row}
 use Rattle.schemars_types.specs.Edges.{rank}
 use Rattle.schemars_types.specs.Faults.{IsChecked}
 use Rattle.schemars_types.specs.Effective.{expanded_variant, expanded_payload, flattened_in, part_enums}
-use Rattle.schemars_types.specs.Meaning.{belongs_within, choices_within, has_variant, has_external, has_payload, has_tagged, has_beside, field_named, is_text, every_member, Member, member_named, must_have, tag_member, field_member, has_member}
+use Rattle.schemars_types.specs.Meaning.{belongs_within, choices_within, has_variant, has_payload, has_tagged, has_beside, field_named, is_text, every_member, Member, member_named, must_have, tag_member, field_member, has_member}
 use Rattle.schemars_written.proofs.Members.{field_fits, beside_tag_fits, has_each_field, member_at}
 use Rattle.schemars_types.specs.declared.contract.Contract.TheVariants.{Serialize}
 use Rattle.schemars_written.specs.Gives as gives
 use Rattle.schemars_written.specs.Gives.{IsPlain, Gives, GivesMembers, Named, Beside, Tagged, Struct, IsObject, FirstMember, NoMembers, Done}
-use Rattle.schemars_written.specs.Fits.{Fits, Means, HasShape, HasVariant, HasVariantAt, AvoidsTag}
-use Rattle.schemars_written.proofs.Atoms.{one, step, known, weaker, same_lower, Some_same}
+use Rattle.schemars_written.specs.Fits.{Fits, Means, HasVariantAt, AvoidsTag}
+use Rattle.schemars_written.proofs.Atoms.{one, step, weaker, same_lower, Some_same}
 use Rattle.schemars_written.proofs.Lists.{both_true, closer}
 use Rattle.schemars_written.proofs.Objects.{EachJson, OfField, Matches, small, object_parts, member_parts, read_members, stays, comes, named_number, name_of_found, of_fields, has_keys_of, plain_fields, GivesKey, field_key_gives, member_gives, done_gives, struct_gives}
 use Rattle.schemars_written.proofs.Payloads.{listed, variant_number, payload_low, payload_apart, keys_apart, PayloadMeans, Enough, Holds, payload_holds}
@@ -50,7 +49,7 @@ Fitting rows patterns steps tagging name p notes d = has_variant Serialize (belo
     (choices_within rows Serialize patterns steps) tagging d (expanded_variant (flattened_in rows) (part_enums rows) (variant name p notes)) ≡ true
 
 -- what a variant has, its enum has
-enum_fits : (rows : List Row) (patterns : Patterns) (n : ℕ) (tagging : Tagging) (name : Text) (p : Payload) → (row : HasVariantAt rows n tagging name p)
+pub enum_fits : (rows : List Row) (patterns : Patterns) (n : ℕ) (tagging : Tagging) (name : Text) (p : Payload) → (row : HasVariantAt rows n tagging name p)
     → (d : Data) → ((steps : ℕ) (notes : Members) → depth d * length rows + rank rows n < suc steps → Fitting rows patterns steps tagging name p notes d)
     → Fits rows patterns n d
 enum_fits rows patterns n tagging name p row d each =
@@ -183,7 +182,7 @@ untagged_agrees rows checked n name p row w given = weaker w (PayloadMeans rows 
 -- ---- tagged inside
 
 -- a name under the tag, and then other members
-at_tag : (rows : List Row) (n : ℕ) (tag name : Text) (Q : json.Members → Type 0)
+pub at_tag : (rows : List Row) (n : ℕ) (tag name : Text) (Q : json.Members → Type 0)
     → ((ms : json.Members) → Q ms → Means rows n (json.object (json.member tag (json.string name) ms)))
     → (j : Json) → IsObject (FirstMember tag (IsName name) Q) j → Means rows n j
 at_tag rows n tag name Q each json.null all = absurd all
@@ -260,7 +259,7 @@ tagged_holds rows patterns tag name fs closed ms d steps low apart avoids all re
     (subst (λ (l : List Field). has_each_field (belongs_within rows Serialize patterns steps) l r.0 ≡ true) (sym (append-nil fs))
     (has_keys_of rows (belongs_within rows Serialize patterns steps) fs ms all r.0 found r.1))))
 
-beside_gives : (tag name : Text) (case : Case) (w : Log → Log → Type 0) (Q : json.Members → Type 0) → GivesMembers w Q
+pub beside_gives : (tag name : Text) (case : Case) (w : Log → Log → Type 0) (Q : json.Members → Type 0) → GivesMembers w Q
     → GivesMembers (Beside tag name case w) (FirstMember tag (IsName (spelled case kind.Variant name)) Q)
 beside_gives tag name case w Q given = member_gives tag (λ old new. Logs old new (event.field_key tag AsIs)) (Named name case) w
     (IsName (spelled case kind.Variant name)) Q (field_key_gives tag) (named_gives name case) given

@@ -1,12 +1,10 @@
 -- The laws of implementations, in the form in which they are cited.
-use Rattle.std.proofs.Common.{◌≡◌, inl, inr, ℕ, zero, suc, ◌+◌, ◌<◌, ◌≤◌, ◌^◌, ℤ, pos, negsuc, List, [], ◌∷◌, length, Bool, true, false, Option, Float, refl, arith}
+use Rattle.std.proofs.Common.{◌≡◌, inl, inr, ℕ, ◌<◌, ◌^◌, ℤ, pos, negsuc, List, [], ◌∷◌, length, Bool, true, Option, Float, refl, arith}
 use Rattle.std.specs.Prelude.{All, FitsSigned, IsTrue}
 use Rattle.std.specs.Float.{float_is_finite}
 use Rattle.std.specs.Int.{w8, w16, w32, w64}
-use Rattle.std.proofs.lemmas.Grind.{common_steps}
 use Rattle.std.proofs.lemmas.Int.{ints}
 use Rattle.std.proofs.lemmas.Bool.Decides.{nat_tests}
-use Rattle.json.specs.Json as json
 use Rattle.serde.specs.Event as event
 use Rattle.serde.specs.Event.{Log, Logs, WritesEach, WritesSeq, WritesOption, WritesMap, InSeq, Then}
 use Rattle.serde_json.specs.Events.{number_event}
@@ -22,11 +20,10 @@ use Rattle.schemars_shapes.specs.declared.shape.IntKind.{IntKind}
 use Rattle.schemars_shapes.specs.declared.shape.IntKind.TheVariants.{U8, U16, U32, U64, U128, Usize, I8, I16, I32, I64, I128, Isize}
 use Rattle.schemars_types.specs.Rows.{Row}
 use Rattle.schemars_types.specs.Faults.{IsChecked}
-use Rattle.schemars_types.specs.Meaning.{is_of_kind}
 use Rattle.schemars_written.specs.Gives as gives
 use Rattle.schemars_written.specs.Gives.{Gives, GivesMembers, Done, Struct, NoMembers, NoItems, IsArray}
 use Rattle.schemars_written.specs.Fits.{IsWithin64, IsNumberRow, HasShape, IsArrayRow, HasFields, NextField, NextOptional, LastField, Means, OfSome}
-use Rattle.schemars_written.proofs.Atoms.{weaker, unsigned_gives, signed_gives, unsigned_agrees, signed_agrees, bool_agrees, unit_agrees, text_agrees, char_agrees}
+use Rattle.schemars_written.proofs.Atoms.{weaker, unsigned_gives, signed_gives, unsigned_agrees, signed_agrees}
 use Rattle.schemars_written.proofs.Values.{number_means, double_gives, single_agrees, double_agrees}
 use Rattle.schemars_written.proofs.Lists.{no_items_give, option_agrees, seq_agrees, array_agrees, pair_agrees, Of, tuple_means, in_seq_gives, then_give, last_gives}
 use Rattle.schemars_written.proofs.Objects.{Matches, struct_agrees, field_gives, field_if_gives, done_gives, map_agrees}
@@ -52,7 +49,7 @@ u64_law rows n v checked row valid = unsigned_agrees rows n v U64 row valid (gri
 pub usize_law : Unsigned Usize 64
 usize_law rows n v checked row valid = unsigned_agrees rows n v Usize row valid (grind (arith, nat_tests))
 
-within : (w : _) (z : ℤ) → FitsSigned w z → FitsSigned w64 z → IsWithin64 z
+pub within : (w : _) (z : ℤ) → FitsSigned w z → FitsSigned w64 z → IsWithin64 z
 within w (pos v) fits wide = omega (arith, ints)
 within w (negsuc v) fits wide = omega (arith, ints)
 

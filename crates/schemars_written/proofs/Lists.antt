@@ -13,18 +13,18 @@ use Rattle.serde.specs.Event.{Event, Log, Logs, WritesEach, WritesSeq, WritesOpt
 use Rattle.serde_json.specs.Data.{Data, depth, items_depth, null, array, Items, no_items, item}
 use Rattle.serde_json.specs.Events.{items_len}
 use Rattle.serde_json.specs.Read.{of_json, of_items}
-use Rattle.serde_json.specs.Sent.{State, Takes, TakesAll}
+use Rattle.serde_json.specs.Sent.{TakesAll}
 use Rattle.schemars_schema.specs.Acceptance.{Patterns, is_null}
 use Rattle.schemars_shapes.specs.Shape as shape
 use Rattle.schemars_shapes.specs.Shape.{Shape, Entry, numbers_of}
-use Rattle.schemars_types.specs.Rows.{Row, entry_at}
+use Rattle.schemars_types.specs.Rows.{Row}
 use Rattle.schemars_types.specs.Edges.{rank}
 use Rattle.schemars_types.specs.Faults.{IsChecked}
 use Rattle.schemars_types.specs.Meaning.{belongs_within, every_item, each_of}
 use Rattle.schemars_types.specs.declared.contract.Contract.TheVariants.{Serialize}
-use Rattle.schemars_written.specs.Gives.{IsPlain, Leads, Spells, Gives, SpellsItems, GivesItems, LeadsItems, First, NoItems, Each, IsArray}
+use Rattle.schemars_written.specs.Gives.{IsPlain, Gives, GivesItems, First, NoItems, Each, IsArray}
 use Rattle.schemars_written.specs.Fits.{Fits, Means, HasShape, OfSome}
-use Rattle.schemars_written.proofs.Atoms.{one, weaker, step, part_low, same_lower, known, null_gives, Some_same}
+use Rattle.schemars_written.proofs.Atoms.{weaker, step, part_low, same_lower, known, null_gives, Some_same}
 
 -- ---- Option
 
@@ -105,7 +105,7 @@ pub shallower : (rows : List Row) (patterns : Patterns) (m : ℕ) (d : Data) →
 shallower rows patterns m d fits h steps deep few =
     fits steps (omega (arith, mul-le (depth d) (length rows) h (length rows) deep (omega arith)))
 
-item_parts : (o : Option Data) (os : Option Items) (ds : Items) → option_and_then (λ d. option_map (item d) os) o ≡ Some ds
+pub item_parts : (o : Option Data) (os : Option Items) (ds : Items) → option_and_then (λ d. option_map (item d) os) o ≡ Some ds
     → (d : Data) × (es : Items) × (o ≡ Some d) × (os ≡ Some es) × (item d es ≡ ds)
 item_parts None os ds h = absurd (cc)
 item_parts (Some d) None ds h = absurd (cc)
@@ -119,7 +119,7 @@ pub both_true : (a b : Bool) → a ≡ true → b ≡ true → (a && b) ≡ true
 both_true true b h k = k
 both_true false b h k = h
 
-items_fit : (rows : List Row) (patterns : Patterns) (m k : ℕ) (js : json.Items) (ds : Items) → Each (Means rows m) k js → of_items js ≡ Some ds
+pub items_fit : (rows : List Row) (patterns : Patterns) (m k : ℕ) (js : json.Items) (ds : Items) → Each (Means rows m) k js → of_items js ≡ Some ds
     → (h steps : ℕ) → items_depth ds ≤ h → h * length rows + rank rows m < steps
     → every_item (belongs_within rows Serialize patterns steps m) ds ≡ true
 items_fit rows patterns m zero json.no_items ds all reads h steps deep few =

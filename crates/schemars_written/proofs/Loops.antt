@@ -1,8 +1,8 @@
 -- A loop over the entries of a map, and what calls give.
 use Rattle.std.proofs.Common.{◌≡◌, ℕ, zero, suc, ◌<◌, ◌≤◌, get_or, drop, List, [], ◌∷◌, ◌++◌, length, Bool, true, false, Option, Some, None, Result, Ok, Err, IfOk, inl, inr, refl, sym, ap, ◌∙◌, subst, append_assoc, append-nil, arith}
-use Rattle.std.specs.Prelude.{All, IfSome, map, string_bytes, String}
+use Rattle.std.specs.Prelude.{All, IfSome, map, string_bytes, String, slice_index_or}
 use Rattle.std.specs.declared.alloc.Global.{Global}
-use Rattle.std.proofs.lemmas.List.Elements.{All-push}
+use Rattle.std.proofs.lemmas.List.Elements.{All-push, All-head, All-tail}
 use Rattle.json.specs.Lex.{tokens}
 use Rattle.serde.specs.Event.{Log}
 use Rattle.serde_json.specs.Read.{read}
@@ -11,7 +11,7 @@ use Rattle.serde_json.specs.View.{view}
 use Rattle.serde_json.specs.declared.value.Value.{Value}
 use Rattle.schemars_schema.specs.Json.{Text}
 use Rattle.schemars_shapes.specs.Shape as shape
-use Rattle.schemars_shapes.specs.Shape.{Field, fields_of, field_of, flattened_of, Payload, Tagging, struct_payload, by_tag, by_tag_and_content, shape_of, payload_of, variant_of, internal_payload_of, internal_variant_of}
+use Rattle.schemars_shapes.specs.Shape.{Field, fields_of, field_of, flattened_of, required_of, Payload, Tagging, struct_payload, by_tag, by_tag_and_content, shape_of, payload_of, variant_of, internal_payload_of, internal_variant_of}
 use Rattle.schemars_shapes.specs.declared.variant.Variant as src-variant
 use Rattle.schemars_shapes.specs.declared.variant.InternalVariant as src-internal
 use Rattle.schemars_shapes.specs.declared.variant.Internal as src-inside
@@ -23,7 +23,7 @@ use Rattle.schemars_shapes.specs.declared.shape.Flattened as src-flattened
 use Rattle.schemars_types.specs.Rows.{Row}
 use Rattle.schemars_types.specs.Faults.{IsChecked}
 use Rattle.schemars_written.specs.Gives.{Gives}
-use Rattle.schemars_written.specs.Fits.{Means, HasShape, HasList, HasFields, NextField, NextOptional, LastField, HasOwnFields, HasStruct, HasVariant, HasVariantAt}
+use Rattle.schemars_written.specs.Fits.{Means, HasShape, HasList, HasPart, HasFields, NextField, NextOptional, LastField, HasOwnFields, HasStruct, HasVariant, HasVariantAt}
 use Rattle.schemars_written.specs.Writes.{Belongs, BelongsAsRead}
 use Rattle.schemars_written.proofs.Final.{as_read}
 
@@ -41,6 +41,14 @@ AllUpTo-more P all rest left x h step p =
 pub AllUpTo-all : {A : Type 0} (P : A → Type 0) (all rest : List A) → AllUpTo P all rest → rest ≡ [] → All P all
 AllUpTo-all P all rest h none = subst (λ ys. All P ys) (sym (h.1 ∙ ap (λ ys. h.0 ++ ys) none ∙ append-nil h.0)) h.2
 
+-- one that is left is among all
+pub AllUpTo-next : {A : Type 0} (P : A → Type 0) (all rest left : List A) (x : A) → AllUpTo P all rest → rest ≡ x ∷ left → All P all → P x
+AllUpTo-next P all rest left x h step whole = All-head P x left (later h.0 (subst (λ ys. All P ys) (h.1 ∙ ap (λ ys. h.0 ++ ys) step) whole))
+  where
+    later : (done : List _) → All P (done ++ x ∷ left) → All P (x ∷ left)
+    later [] is = is
+    later (y ∷ done) is = later done (All-tail P y (done ++ x ∷ left) is)
+
 -- ---- rows
 
 no_rows : (ps : List src-flattened.Flattened) → length ps ≡ 0 → map flattened_of ps ≡ []
@@ -56,6 +64,23 @@ has_list rows n x is none list same = (
     is.1,
     is.2 ∙ ap (λ ps. shape.struct (record { list = map field_of x.list.items; flatten = ps; closed = x.closed })) (no_rows x.flatten.items none)
         ∙ ap (λ fs. shape.struct (record { list = map field_of fs; flatten = []; closed = x.closed })) (sym same),
+  ),
+)
+
+-- one row is flattened
+pub has_part : (rows : List Row) (n : ℕ) (x : src-fields.Fields) → HasShape rows n (shape.struct (fields_of x))
+    → (parts : List src-flattened.Flattened) → parts ≡ x.flatten.items → length parts ≡ 1 → (list : List src-field.Field) → list ≡ x.list.items
+    → (d : src-flattened.Flattened) → HasPart rows n (map field_of list) (slice_index_or parts 0 d).ty
+has_part rows n x is [] same one list listed d = absurd (omega arith)
+has_part rows n x is (p ∷ q ∷ ps) same one list listed d = absurd (omega arith)
+has_part rows n x is (p ∷ []) same one list listed d = (
+  x.closed,
+  required_of p.required,
+  (
+    is.0,
+    is.1,
+    is.2 ∙ ap (λ ps. shape.struct (record { list = map field_of x.list.items; flatten = map flattened_of ps; closed = x.closed })) (sym same)
+        ∙ ap (λ fs. shape.struct (record { list = map field_of fs; flatten = flattened_of p ∷ []; closed = x.closed })) (sym listed),
   ),
 )
 

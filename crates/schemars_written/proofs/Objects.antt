@@ -1,11 +1,10 @@
 -- Maps and structs.
-use Rattle.std.proofs.Common.{◌≡◌, ◌≢◌, ◌⊎◌, inl, inr, ℕ, zero, suc, ◌+◌, ◌*◌, ◌<◌, ◌≤◌, max, List, [], ◌∷◌, ◌++◌, length, map, Bool, true, false, not, ◌&&◌, ◌||◌, ◌==◌, Option, Some, None, is_some, refl, sym, ap, ◌∙◌, subst, arith, append_assoc, append-nil, true≢false}
-use Rattle.std.specs.Prelude.{All, option_map, option_and_then, Contains, find, bytes_eq, if◌then◌else◌}
-use Rattle.std.specs.List.{IsDistinct, list_all, AllByRecursion}
+use Rattle.std.proofs.Common.{◌≡◌, ◌⊎◌, inl, inr, ℕ, suc, ◌*◌, ◌<◌, ◌≤◌, List, [], ◌∷◌, ◌++◌, length, map, Bool, true, false, not, ◌&&◌, ◌||◌, Option, Some, None, is_some, refl, sym, ap, ◌∙◌, subst, arith, append_assoc, append-nil}
+use Rattle.std.specs.Prelude.{All, option_map, option_and_then, Contains, bytes_eq, if◌then◌else◌}
+use Rattle.std.specs.List.{IsDistinct, AllByRecursion}
 use Rattle.std.specs.Option.{option_map_or}
 use Rattle.std.proofs.lemmas.Grind.{common_steps}
 use Rattle.std.proofs.lemmas.List.Elements.{All-head, All-tail}
-use Rattle.std.proofs.lemmas.Nat.{mul-le}
 use Rattle.std.proofs.lemmas.Slice.Eq.{bytes_eq-Decides}
 use Rattle.json.specs.Json as json
 use Rattle.json.specs.Json.{Json}
@@ -28,8 +27,8 @@ use Rattle.schemars_shapes.specs.Shape as shape
 use Rattle.schemars_shapes.specs.Shape.{Shape, Entry, Field, numbers_of, names_of}
 use Rattle.schemars_shapes.specs.Repeated.{AreDistinctLists}
 use Rattle.schemars_flatten.proofs.Kept.{AllMembers, all_put}
-use Rattle.schemars_types.specs.Rows.{Row, entry_at}
-use Rattle.schemars_types.specs.Edges.{rank, names_at}
+use Rattle.schemars_types.specs.Rows.{Row}
+use Rattle.schemars_types.specs.Edges.{rank}
 use Rattle.schemars_types.specs.Faults.{IsChecked}
 use Rattle.schemars_types.specs.KeyOptions.{key_options, is_key_allowed, all_options, shape_options, distinct_options, or_any_text}
 use Rattle.schemars_types.proofs.Settling.{all_options-shape}
@@ -38,9 +37,9 @@ use Rattle.schemars_written.proofs.Members.{field_fits, has_each_field, member_a
 use Rattle.schemars_types.specs.declared.contract.Contract.TheVariants.{Serialize}
 use Rattle.schemars_written.specs.Gives as gives
 use Rattle.schemars_written.specs.Gives.{IsPlain, Gives, GivesMembers, SpellsMembers, LeadsMembers, NoMembers, FirstMember, EachMember, IsObject, Done, Struct}
-use Rattle.schemars_written.specs.Fits.{Fits, Means, HasShape, HasFields, NextField, LastField}
+use Rattle.schemars_written.specs.Fits.{Fits, Means, HasShape}
 use Rattle.schemars_written.proofs.Atoms.{weaker, step, part_low, known, Some_same}
-use Rattle.schemars_written.proofs.Lists.{closer, room, shallower, both_true}
+use Rattle.schemars_written.proofs.Lists.{closer, shallower, both_true}
 
 -- ---- how members are sent
 
@@ -315,6 +314,11 @@ fields_belong rows patterns fs closed ms d steps low apart all reads few =
     (fields_hold rows patterns fs (fs ++ []) closed steps (members_depth r.0) r.0 low (append-nil fs) enough (omega arith) each)
     (subst (λ (l : List Field). has_each_field (belongs_within rows Serialize patterns steps) l r.0 ≡ true) (sym (append-nil fs)) (has_keys_of rows (belongs_within rows Serialize patterns steps) fs ms all r.0 no_members r.1)))
 
+-- the own names of a struct differ
+pub names_apart : (rows : List Row) → IsChecked rows → (n : ℕ) (x : shape.Fields) → HasShape rows n (shape.struct x) → Apart x.list
+names_apart rows checked n x is = (subst (λ (ls : List (List Text)). AreDistinctLists ls)
+    (ap (λ o. option_map_or (λ (e : Entry). names_of e.shape) o []) is.1 ∙ ap names_of is.2) (checked.names_differ n)).0
+
 pub struct_means : (rows : List Row) → IsChecked rows → (n : ℕ) (fs : List Field) (closed : Bool) → HasShape rows n (shape.struct (plain_fields fs closed))
     → (j : Json) → IsObject (Matches rows fs) j → Means rows n j
 struct_means rows checked n fs closed is json.null all = absurd all
@@ -327,14 +331,7 @@ struct_means rows checked n fs closed is (json.object ms) all = λ patterns d re
     fields_belong rows patterns fs closed ms d steps
     (λ m c. let low = part_low rows checked n m (shape.struct (plain_fields fs closed)) is
     (subst (λ (xs : List ℕ). Contains xs m) (sym (append-nil (map (λ f. f.ty) fs))) c) in (low, checked.rank_bound m low))
-    (names_apart rows checked n fs closed is) all reads (omega arith))
-  where
-    names_apart : (rows : List Row) → IsChecked rows → (n : ℕ) (fs : List Field) (closed : Bool)
-        → HasShape rows n (shape.struct (plain_fields fs closed)) → Apart fs
-    names_apart rows checked n fs closed is =
-        let names = checked.names_differ n in
-        (subst (λ (ls : List (List Text)). AreDistinctLists ls)
-        (ap (λ o. option_map_or (λ (e : Entry). names_of e.shape) o []) is.1 ∙ ap names_of is.2) names).0
+    (names_apart rows checked n (plain_fields fs closed) is) all reads (omega arith))
 
 pub struct_agrees : (rows : List Row) → IsChecked rows → (n : ℕ) (fs : List Field) (closed : Bool) → HasShape rows n (shape.struct (plain_fields fs closed))
     → (count : ℕ) (w : Log → Log → Type 0) → GivesMembers w (Matches rows fs) → Gives (Struct count w) (Means rows n)

@@ -1,12 +1,12 @@
 -- What a variant has beside its name.
-use Rattle.std.proofs.Common.{◌≡◌, ◌⊎◌, inl, inr, ℕ, zero, suc, ◌+◌, ◌*◌, ◌<◌, ◌≤◌, List, [], ◌∷◌, ◌++◌, length, map, Bool, true, false, ◌||◌, Option, Some, None, refl, sym, ap, ◌∙◌, subst, arith}
+use Rattle.std.proofs.Common.{◌≡◌, inl, inr, ℕ, suc, ◌+◌, ◌*◌, ◌<◌, ◌≤◌, List, [], ◌∷◌, ◌++◌, length, map, Bool, true, false, ◌||◌, Some, refl, sym, ap, ◌∙◌, subst, arith}
 use Rattle.std.specs.Prelude.{bytes_eq, Contains}
 use Rattle.std.specs.List.{IsDistinct, list_any}
 use Rattle.std.specs.Option.{option_map_or}
 use Rattle.std.proofs.lemmas.List.Elements.{Contains-append_left, Contains-append_right}
 use Rattle.json.specs.Json as json
 use Rattle.json.specs.Json.{Json}
-use Rattle.serde_json.specs.Data.{Data, null, array, depth, items_depth}
+use Rattle.serde_json.specs.Data.{Data, null, depth, items_depth}
 use Rattle.serde_json.specs.Find.{as_array}
 use Rattle.serde_json.specs.Read.{of_json, of_items}
 use Rattle.schemars_schema.specs.Json.{Text}
@@ -17,11 +17,11 @@ use Rattle.schemars_shapes.specs.Repeated.{AreDistinctLists}
 use Rattle.schemars_types.specs.Rows.{Row}
 use Rattle.schemars_types.specs.Edges.{rank}
 use Rattle.schemars_types.specs.Faults.{IsChecked}
-use Rattle.schemars_types.specs.Effective.{expanded_payload, expanded_variant, flattened_fields, flattened_enums, flattened_in, part_enums, enum_at}
+use Rattle.schemars_types.specs.Effective.{expanded_payload, flattened_fields, flattened_enums, flattened_in, part_enums, enum_at}
 use Rattle.schemars_types.specs.Meaning.{belongs_within, choices_within, each_of, has_fields, has_payload, holds, matches_of}
 use Rattle.schemars_types.specs.declared.contract.Contract.TheVariants.{Serialize}
 use Rattle.schemars_written.specs.Gives.{IsArray, IsObject}
-use Rattle.schemars_written.specs.Fits.{Fits, Means, HasShape, HasVariant}
+use Rattle.schemars_written.specs.Fits.{Means, HasShape, HasVariant}
 use Rattle.schemars_written.proofs.Atoms.{part_low, Some_same}
 use Rattle.schemars_written.proofs.Lists.{Of, array_parts, parts_fit}
 use Rattle.schemars_written.proofs.Objects.{Apart, Matches, fields_belong}

@@ -13,12 +13,13 @@ use Rattle.schemars_types.specs.Rows.{Row}
 use Rattle.schemars_types.specs.Faults.{IsChecked}
 use Rattle.schemars_written.specs.Gives as gives
 use Rattle.schemars_written.specs.Gives.{Gives, GivesItems, GivesMembers, Done, Named, Tagged, Struct, Beside, IsObject}
-use Rattle.schemars_written.specs.Fits.{Means, HasUnit, HasNewtype, HasTuple, HasStruct, NextItem, LastItem, NextField, NextOptional, LastField, AvoidsTag}
+use Rattle.schemars_written.specs.Fits.{Means, HasFields, HasUnit, HasNewtype, HasTuple, HasStruct, NextItem, LastItem, NextField, NextOptional, LastField, AvoidsTag}
 use Rattle.schemars_written.proofs.Atoms.{weaker, null_gives}
 use Rattle.schemars_written.proofs.Lists.{Of, in_seq_gives, then_give, last_gives}
 use Rattle.schemars_written.proofs.Objects.{Matches, plain_fields, struct_gives}
 use Rattle.schemars_written.proofs.Payloads.{PayloadMeans}
 use Rattle.schemars_written.proofs.Enums.{unit_agrees, external_agrees, untagged_agrees, internal_unit_agrees, internal_struct_agrees, adjacent_unit_agrees, adjacent_agrees}
+use Rattle.schemars_written.proofs.Inside.{internal_newtype_agrees}
 use Rattle.schemars_written.proofs.Laws.{FieldsAgree}
 
 -- ---- items and fields
@@ -103,6 +104,14 @@ pub internal_fields_law : (rows : List Row) → IsChecked rows → (n : ℕ) (ta
     → (count : ℕ) (w : Log → Log → Type 0) → FieldsAgree rows fields w → Gives (Struct count (Beside tag name case w)) (Means rows n)
 internal_fields_law rows checked n tag closed name case fields row avoids count w agree =
     internal_struct_agrees rows checked n tag closed name case row.0 row.1 row.2 (avoids row.0 row.3) count w (agree row.0 row.3)
+
+-- a struct whose fields stand beside the tag
+pub internal_newtype_law : (rows : List Row) → IsChecked rows → (n : ℕ) (tag : Text) (closed : Bool) (name : Text) (case : Case) (fields : List Field → Type 0)
+    → HasNewtype rows n (by_tag tag closed) (spelled case kind.Variant name) (λ m. HasFields rows m fields) → ((list : List Field) → fields list → AvoidsTag tag list)
+    → (count : ℕ) (w : Log → Log → Type 0) → FieldsAgree rows fields w → Gives (Struct count (Beside tag name case w)) (Means rows n)
+internal_newtype_law rows checked n tag closed name case fields row avoids count w agree =
+    let part = row.2 in
+    internal_newtype_agrees rows checked n row.0 tag closed name case part.0 part.1 row.1 part.2 (avoids part.0 part.3) count w (agree part.0 part.3)
 
 -- ---- no name of these fields is the tag
 

@@ -1,12 +1,11 @@
 use Rattle.std.proofs.Common.{string_bytes, arith}
-use Rattle.serde_json.specs.View.{members_view}
 use Rattle.schemars_definitions.specs.Kept.{definitions_in}
 use Rattle.schemars_definitions.proofs.JoinedTexts.{joined_text}
 use Rattle.schemars_definitions.proofs.joined.joined.Goals as goal
 
 pub returns : goal.returns
 returns c = λ none kept_none.
-    let whole = joined_text c.args.own.now (definitions_in (members_view c.args.kept.entries)) (string_bytes c.in_ok-out.out)
+    let whole = joined_text c.args.own.now (definitions_in c.args.definitions.entries) (string_bytes c.in_ok-out.out)
     (string_bytes c.pop-brace.new.self) _ c.requires.apart (c.in_ok-out.ensures.ordered none) (omega (arith, c.in_ok-out.out.bytes.ok.0)) c.pop-brace.ensures.ascii_bytes in
     cc (
       whole,

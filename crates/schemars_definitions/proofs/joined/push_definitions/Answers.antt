@@ -1,8 +1,6 @@
 use Rattle.std.proofs.Common.{◌≡◌, ◌∷◌, ◌++◌, false, sym, ap, ◌∙◌, subst, rules, true, string_bytes}
 use Rattle.std.proofs.lemmas.Bool.{or_parts}
 use Rattle.json.specs.Print.{quoted}
-use Rattle.serde_json.specs.Data.{member}
-use Rattle.serde_json.specs.View.{view, members_view}
 use Rattle.serde_json.specs.Written.{has_float, members_have_float}
 use Rattle.schemars_text.specs.OrderedText.{with_commas, ordered_text}
 use Rattle.schemars_definitions.specs.Kept.{AreOrdered, definition_in, definitions_in}
@@ -12,15 +10,15 @@ use Rattle.schemars_definitions.proofs.joined.push_definitions.Goals as goal
 pub loop-name-preserved : goal.loop-name-preserved
 loop-name-preserved c =
     let k = string_bytes c.in-Some.name in
-    let d = view c.in-Some.value in
-    let left = members_view c.next.new.self in
-    let whole = members_view c.args.kept.entries in
-    let is : members_view c.loop-name.name-iterator ≡ member k d left = search rules in
+    let d = c.in-Some.kept in
+    let left = c.next.new.self in
+    let whole = c.args.definitions.entries in
+    let is : c.loop-name.name-iterator ≡ (c.in-Some.name, d) ∷ left = search rules in
     let before = c.loop-name.invariant in
     let floats : members_have_float (definitions_in whole) ≡ false → (has_float (definition_in d) ≡ false)
     × (members_have_float (definitions_in left) ≡ false) =
     λ none. or_parts (has_float (definition_in d)) (members_have_float (definitions_in left))
-    (ap (λ ms. members_have_float (definitions_in ms)) (sym is) ∙ before.floats none) in
+    (ap (λ es. members_have_float (definitions_in es)) (sym is) ∙ before.floats none) in
     record {
       ordered = (subst AreOrdered is before.ordered).1;
       floats = λ none. (floats none).1;
@@ -31,7 +29,7 @@ loop-name-preserved c =
           ∙ (one_more (string_bytes c.loop-name.out) c.loop-name.later _ _
           ∙ (ap (λ ts. string_bytes c.loop-name.out ++ with_commas c.loop-name.later ts)
           (sym (one_definition k (definition_in d) (definitions_in left)))
-          ∙ (ap (λ ms. string_bytes c.loop-name.out ++ with_commas c.loop-name.later (definition_texts (definitions_in ms))) (sym is)
+          ∙ (ap (λ es. string_bytes c.loop-name.out ++ with_commas c.loop-name.later (definition_texts (definitions_in es))) (sym is)
           ∙ before.same none)));
     }
 
@@ -39,5 +37,5 @@ pub returns : goal.returns
 returns c = λ none.
     let is = c.in-None.ensures.steps.0 in
     sym (no_more (string_bytes c.loop-name.out) c.loop-name.later)
-    ∙ (ap (λ es. string_bytes c.loop-name.out ++ with_commas c.loop-name.later (definition_texts (definitions_in (members_view es)))) (sym is)
+    ∙ (ap (λ es. string_bytes c.loop-name.out ++ with_commas c.loop-name.later (definition_texts (definitions_in es))) (sym is)
     ∙ c.loop-name.invariant.same none)

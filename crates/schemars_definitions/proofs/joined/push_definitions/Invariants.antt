@@ -1,6 +1,5 @@
 -- What is left goes behind what is written, as all of it does behind the text at the start.
 use Rattle.std.proofs.Common.{◌≡◌, ◌++◌, false, string_bytes}
-use Rattle.serde_json.specs.View.{members_view}
 use Rattle.serde_json.specs.Written.{members_have_float}
 use Rattle.schemars_text.specs.OrderedText.{with_commas}
 use Rattle.schemars_definitions.specs.Kept.{AreOrdered, definitions_in}
@@ -9,8 +8,8 @@ use Rattle.schemars_definitions.proofs.joined.push_definitions.Given as goal
 
 abbrev pub invariant-loop-name : goal.invariant-loop-name
 invariant-loop-name l =
-    let left = members_view l.name-iterator in
-    let all = members_view l.fn.kept.entries in
+    let left = l.name-iterator in
+    let all = l.fn.definitions.entries in
     record {
       ordered : AreOrdered left;
       floats : members_have_float (definitions_in all) ≡ false → members_have_float (definitions_in left) ≡ false;

@@ -35,6 +35,9 @@ returns-in_err-check_from-clause-refused g c =
     (check_refusal _ _ c.register.new.types c.in_ok-n.n c.in_err-check_from.field-0.0 c.requires.checked.0 is
     c.in_err-check_from.ensures.refused))
 
+pub returns-in_err-extend-clause-begins : goal.returns-in_err-extend-clause-begins
+returns-in_err-extend-clause-begins g c = begins c.args.types.now c.register.new.types c.requires.checked.1 c.in_ok-n.ensures.keeps
+
 pub returns-clause-begins : goal.returns-clause-begins
 returns-clause-begins g c = begins c.args.types.now c.register.new.types c.requires.checked.1 c.in_ok-n.ensures.keeps
 

@@ -3,7 +3,7 @@ use Rattle.std.proofs.Common.{rules, subst, sym}
 use Rattle.std.specs.Map.{values_of}
 use Rattle.serde_json.specs.View.{view, items_view}
 use Rattle.schemars_schema.specs.Json.{IsJson, AreJson}
-use Rattle.schemars_definitions.proofs.Restored.{sorted-entries}
+use Rattle.schemars_definitions.proofs.Keys.{sorted-entries}
 use Rattle.schemars_validate.proofs.Held.{text-json, entries-json}
 use Rattle.schemars_validate.proofs.json.+look.Goals as goal
 

@@ -1,39 +1,32 @@
--- Where a definition is begun, or nothing changes.
-use Rattle.std.proofs.Common.{◌≡◌, Bool, true, false, not, refl, Result, Ok, Err, sym, ap, ◌∙◌, is_some, subst}
+use Rattle.std.proofs.Common.{◌≡◌, Bool, true, false, List, String, Global, string_cmp, Result, Ok, Err, not, refl, sym, ap, ap₂, ◌∙◌, is_some, subst}
+use Rattle.std.proofs.lemmas.Result.{IfOk-weaker}
+use Rattle.std.specs.BTreeMap.{insert_entry}
 use Rattle.std.specs.Prelude.{IfOk, OnErr}
-use Rattle.serde_json.specs.Data.{Members, boolean, put}
+use Rattle.serde_json.specs.Data.{boolean, put}
 use Rattle.serde_json.specs.Find.{get_member}
-use Rattle.schemars_schema.specs.Json.{Text}
-use Rattle.schemars_definitions.specs.Kept.{definitions_in, AreOrdered}
-use Rattle.schemars_definitions.proofs.KeptEdits.{has_member-kept, put-kept, ordered-put}
+use Rattle.schemars_definitions.specs.Kept.{definition_in, definitions_in, AreOrdered}
+use Rattle.schemars_definitions.specs.declared.kept.Kept.{Kept}
+use Rattle.schemars_definitions.specs.declared.kept.Kept.TheVariants.{Begun}
+use Rattle.schemars_definitions.proofs.EntryEdits.{has_member-by, put-by, ordered-insert}
 use Rattle.schemars_definitions.proofs.texts.TextsDefinitions.begin.Goals as goal
 
-ordered-begun : {E : Type 0} (r : Result Bool E) (k : Text) (old new : Members)
-    → IfOk r (λ b. b ≡ true → new ≡ put k (boolean false) old) → IfOk r (λ b. b ≡ false → new ≡ old) → OnErr r (new ≡ old)
+ordered-begun : {E : Type 0} (r : Result Bool E) (key : String Global) (old new : List (String Global × Kept))
+    → IfOk r (λ b. b ≡ true → new ≡ insert_entry string_cmp old key Begun) → IfOk r (λ b. b ≡ false → new ≡ old) → OnErr r (new ≡ old)
     → AreOrdered old → AreOrdered new
-ordered-begun (Ok true) k old new begun same err h = subst AreOrdered (sym (begun refl)) (ordered-put k (boolean false) old tt h)
-ordered-begun (Ok false) k old new begun same err h = subst AreOrdered (sym (same refl)) h
-ordered-begun (Err e) k old new begun same err h = subst AreOrdered (sym err) h
+ordered-begun (Ok true) key old new added same err h = subst AreOrdered (sym (added refl)) (ordered-insert key Begun old tt h)
+ordered-begun (Ok false) key old new added same err h = subst AreOrdered (sym (same refl)) h
+ordered-begun (Err e) key old new added same err h = subst AreOrdered (sym err) h
 
 pub invariant_of-self : goal.invariant_of-self
-invariant_of-self c = ordered-begun c.begin.result c.args.name.now c.self.inside.kept c.begin.new.self c.begin.ensures.begun
-    c.begin.ensures.same c.begin.ensures.err c.self.invariant
-
-is_new-kept : {E : Type 0} (r : Result Bool E) (k : Text) (old now : Members) → definitions_in old ≡ now
-    → IfOk r (λ b. b ≡ not (is_some (get_member k old))) → IfOk r (λ b. b ≡ not (is_some (get_member k now)))
-is_new-kept (Ok b) k old now is h = h ∙ ap not (sym (has_member-kept k old) ∙ ap (λ ms. is_some (get_member k ms)) is)
-is_new-kept (Err e) k old now is h = tt
+invariant_of-self c = ordered-begun c.insert_new.result c.in_ok-key.key c.self.inside.definitions.entries _ c.insert_new.ensures.added
+    c.insert_new.ensures.same c.insert_new.ensures.err c.self.invariant
 
 pub returns-clause-is_new : goal.returns-clause-is_new
-returns-clause-is_new c = is_new-kept c.begin.result c.args.name.now c.self.inside.kept c.args.self.now c.self.view_is
-    c.begin.ensures.is_new
-
-begun-kept : {E : Type 0} (r : Result Bool E) (k : Text) (old now new : Members) → definitions_in old ≡ now
-    → IfOk r (λ b. b ≡ true → new ≡ put k (boolean false) old)
-    → IfOk r (λ b. b ≡ true → definitions_in new ≡ put k (boolean false) now)
-begun-kept (Ok b) k old now new is h = λ yes. ap definitions_in (h yes) ∙ put-kept k (boolean false) old ∙ ap (put k (boolean false)) is
-begun-kept (Err e) k old now new is h = tt
+returns-clause-is_new c = IfOk-weaker c.insert_new.result _ _ (λ b is. is
+    ∙ ap not (has_member-by definition_in _ c.self.inside.definitions.entries
+    ∙ ap₂ (λ k ms. is_some (get_member k ms)) c.in_ok-key.ensures.ok c.self.view_is)) c.insert_new.ensures.is_new
 
 pub returns-clause-begun : goal.returns-clause-begun
-returns-clause-begun c = begun-kept c.begin.result c.args.name.now c.self.inside.kept c.args.self.now c.begin.new.self c.self.view_is
-    c.begin.ensures.begun
+returns-clause-begun c = IfOk-weaker c.insert_new.result _ _ (λ b added yes. ap definitions_in (added yes)
+    ∙ put-by definition_in c.in_ok-key.key Begun c.self.inside.definitions.entries
+    ∙ ap₂ (λ k ms. put k (boolean false) ms) c.in_ok-key.ensures.ok c.self.view_is) c.insert_new.ensures.added

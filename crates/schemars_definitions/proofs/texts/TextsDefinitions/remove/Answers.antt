@@ -1,13 +1,16 @@
 use Rattle.std.proofs.Common.{sym, ap, ◌∙◌, subst}
 use Rattle.schemars_schema.specs.Edits.{without}
-use Rattle.schemars_definitions.specs.Kept.{definitions_in, AreOrdered}
-use Rattle.schemars_definitions.proofs.KeptEdits.{without-kept, ordered-without}
+use Rattle.schemars_definitions.specs.Entries.{has_name}
+use Rattle.schemars_definitions.specs.Kept.{definition_in, definitions_in, AreOrdered}
+use Rattle.schemars_definitions.proofs.EntryEdits.{without-by, ordered-remove}
 use Rattle.schemars_definitions.proofs.texts.TextsDefinitions.remove.Goals as goal
 
 pub invariant_of-self : goal.invariant_of-self
-invariant_of-self c = subst AreOrdered (sym c.remove.ensures) (ordered-without c.args.name.now c.self.inside.kept c.self.invariant)
+invariant_of-self c = subst AreOrdered (sym c.remove.ensures.entries)
+    (ordered-remove (has_name c.args.name.now) c.self.inside.definitions.entries c.self.invariant)
 
 pub returns : goal.returns
 returns c =
-    ap definitions_in c.remove.ensures ∙ without-kept c.args.name.now c.self.inside.kept
-    ∙ ap (without c.args.name.now) c.self.view_is
+    let name = c.args.name.now in
+    ap definitions_in c.remove.ensures.entries ∙ without-by definition_in name c.self.inside.definitions.entries
+    ∙ ap (without name) c.self.view_is

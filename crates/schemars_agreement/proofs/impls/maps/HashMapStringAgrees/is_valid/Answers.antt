@@ -8,7 +8,7 @@ loop-key-init g c = AllUpTo-start (λ e. g.T.Agrees.valid e.1) _ _ c.into_iter-k
 
 pub loop-key-preserved : goal.loop-key-preserved
 loop-key-preserved g c =
-    AllUpTo-more (λ e. g.T.Agrees.valid e.1) _ _ _ (c.in-Some.key.now, c.in-Some.value.now) c.loop-key.invariant c.in-Some.ensures.steps (c.if-not-is_valid.ensures refl)
+    AllUpTo-more (λ e. g.T.Agrees.valid e.1) _ _ _ (c.in-Some.key.now, c.in-Some.value.now) c.loop-key.invariant c.in-Some.ensures.steps (c.if-not-is_valid.ensures.passes refl)
 
-pub returns : goal.returns
-returns g c = λ yes. AllUpTo-all (λ e. g.T.Agrees.valid e.1) _ _ c.loop-key.invariant (grind (arith, common_steps, c.in-None.ensures.steps.0))
+pub returns-clause-passes : goal.returns-clause-passes
+returns-clause-passes g c = λ yes. AllUpTo-all (λ e. g.T.Agrees.valid e.1) _ _ c.loop-key.invariant (grind (arith, common_steps, c.in-None.ensures.steps.0))

@@ -1,4 +1,0 @@
-pub mod Events
-pub mod Orders
-pub mod EventLaws
-pub mod OrderLaws

@@ -1,0 +1,10 @@
+//! Text of Rattle: lines, the names that a file brings in, and literals.
+#![tactic(auto)]
+
+mod imports;
+mod lines;
+mod texts;
+
+pub use imports::Imports;
+pub use lines::{Lines, joined};
+pub use texts::{json_argument, literal};

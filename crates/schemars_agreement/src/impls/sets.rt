@@ -1,0 +1,36 @@
+//! Sets, of values that their JSON tells apart.
+ghost use Rattle.std.specs.Prelude.{ℕ, All};
+ghost use Rattle.std.specs.BTreeSet.{IsOrdered};
+ghost use Rattle.schemars_shapes.specs.Shape.{Shape as shape};
+ghost use Rattle.schemars_written.specs.Fits.{HasShape};
+ghost use Rattle.schemars_written.proofs.Sets.{set_law};
+
+use crate::law::{Agrees, TellsApart};
+use crate::row::shape_at;
+use schemars_types::{Shape, TypeNo, Types};
+use std::collections::BTreeSet;
+
+impl<T: TellsApart> Agrees for BTreeSet<T> {
+    ghost valid = { λ s. IsOrdered T.cmp s × All T.valid s.keys };
+
+    ghost is_row = { λ rows n. (m : ℕ) × HasShape rows n (shape.set m) × T.is_row rows m };
+
+    ghost agrees = { λ rows n s checked row valid. set_law rows checked n T.writes T.valid T.is_row
+        T.cmp T.shown (λ m x r v. T.shows rows m x checked r v) T.apart row s.keys valid };
+
+    fn has_row(types: &Types, n: TypeNo) -> bool {
+        match shape_at(types, n) {
+            Some(Shape::Set(m)) => T::has_row(types, *m),
+            _ => false,
+        }
+    }
+
+    fn is_valid(&self) -> bool {
+        for item in self.iter() {
+            if !item.is_valid() {
+                return false;
+            }
+        }
+        true
+    }
+}

@@ -1,0 +1,17 @@
+-- The members that values by name stand for.
+use Rattle.std.specs.Prelude.{Bool, List, map, String, string_bytes}
+use Rattle.std.specs.BTreeMap.{is_at}
+use Rattle.std.specs.Ordering.{nat_cmp}
+use Rattle.std.specs.Cmp.Lexicographic.{slice_cmp}
+use Rattle.std.specs.declared.alloc.Global.{Global}
+use Rattle.serde_json.specs.Data.{Data, Members}
+use Rattle.serde_json.specs.View.{members_of}
+use Rattle.schemars_schema.specs.Json.{Text}
+
+-- whether the key is this name
+abbrev pub has_name : Text → String Global → Bool
+has_name name = is_at (λ key. slice_cmp nat_cmp name (string_bytes key))
+
+-- the members that the entries stand for, where `data_of` reads a value
+abbrev pub members_by : {X : Type 0} → (X → Data) → List (String Global × X) → Members
+members_by data_of es = members_of (map (λ e. (e.0, data_of e.1)) es)
