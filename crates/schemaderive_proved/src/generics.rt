@@ -84,7 +84,10 @@ pub enum Expression {
     Number(i32),
     Sum(Box<Expression>, Box<Expression>),
     Negation(Box<Expression>),
-    Call { name: String, arguments: Vec<Expression> },
+    Call {
+        name: String,
+        arguments: Vec<Expression>,
+    },
 }
 
 // derive(JsonSchema)

@@ -1,6 +1,5 @@
 //! Types of many parts with documentation each, and one that contains itself in three ways.
-use std::collections::BTreeMap;
-use std::collections::BTreeSet;
+use std::collections::{BTreeMap, BTreeSet};
 
 /// A figure in a drawing.
 // derive(JsonSchema)

@@ -5,8 +5,8 @@ ghost use Rattle.schemars.specs.Words.{codes, IsIn, own};
 
 use crate::pairs::{All, DefaultSkipEmpty, FlattenSkipNone, OptionRename, Part, RenameNote};
 use schemars::impls::{
-    JsonSchema, OPTIONAL, READ_OPTIONAL, REQUIRED, add_field, add_flattened, flat_entry, note_entry,
-    note_field, struct_entry,
+    JsonSchema, OPTIONAL, READ_OPTIONAL, REQUIRED, add_field, add_flattened, flat_entry,
+    note_entry, note_field, struct_entry,
 };
 use schemars::types::{TypeEntry, Types, TypesError};
 use serde_json::Value;

@@ -1,19 +1,11 @@
 //! Types of std, alone and nested.
 use serde_json::Value;
-use std::cell::Cell;
-use std::cell::RefCell;
+use std::cell::{Cell, RefCell};
 use std::cmp::Reverse;
-use std::collections::BTreeMap;
-use std::collections::BTreeSet;
-use std::collections::HashMap;
-use std::collections::HashSet;
-use std::collections::LinkedList;
-use std::collections::VecDeque;
+use std::collections::{BTreeMap, BTreeSet, HashMap, HashSet, LinkedList, VecDeque};
 use std::marker::PhantomData;
 use std::num::Wrapping;
-use std::ops::Bound;
-use std::ops::Range;
-use std::ops::RangeInclusive;
+use std::ops::{Bound, Range, RangeInclusive};
 use std::time::Duration;
 
 // derive(Default, JsonSchema)

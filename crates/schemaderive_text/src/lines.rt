@@ -124,7 +124,7 @@ impl Lines {
         for name in names {
             let longer = width(line.as_str())
                 .saturating_add(width(name))
-                .saturating_add(6);
+                .saturating_add(7);
             if !line.is_empty() && longer > LINE {
                 self.line(4, line.as_str())?;
                 line.clear();
