@@ -1,12 +1,14 @@
 //! The body of a `json_schema`, and what it says of its parts.
+use crate::groups::Owner;
 use crate::names::plain;
 use schemaderive_known::Row;
 use schemaderive_options::Context;
 use schemaderive_syntax::{Fault, Place};
 use schemaderive_text::{Imports, Lines};
 use std::alloc::{AllocError, Global};
+use std::collections::BTreeMap;
 
-/// How far the lines of a body are indented.
+/// How far the lines of a method are indented.
 pub const INDENT: usize = 8;
 
 /// The types of a source.
@@ -29,14 +31,29 @@ pub struct Body {
     pub lines: Lines,
     /// what it says of the types that it registers, in their order
     pub says: Vec<String>,
+    /// how far its lines are indented
+    pub indent: usize,
+    /// the lists that are parameters of the function whose body it is
+    pub lent: Vec<&'static str>,
+    /// for which type it is
+    pub owner: Owner,
+    /// the functions of the file that the body calls
+    pub groups: Lines,
+    /// those that name a row or make a text, by what is said of it
+    pub functions: BTreeMap<String, String>,
 }
 
 impl Body {
-    /// An empty body.
-    pub fn new(alloc: Global) -> Body {
+    /// The empty body of the method of a type.
+    pub fn new(alloc: Global, owner: Owner) -> Body {
         Body {
             lines: Lines::new(alloc),
             says: Vec::new(alloc),
+            indent: INDENT,
+            lent: Vec::new(alloc),
+            owner,
+            groups: Lines::new(alloc),
+            functions: BTreeMap::new(alloc),
         }
     }
 
@@ -47,14 +64,14 @@ impl Body {
 
     /// Adds a call that may fail.
     pub fn call(&mut self, head: &str, arguments: &[&str]) -> Result<(), AllocError> {
-        self.lines.call(INDENT, head, arguments, "?;")
+        self.lines.call(self.indent, head, arguments, "?;")
     }
 
     /// Adds a line that makes an empty list with this name, which may grow.
     pub fn list(&mut self, name: &str, grows: bool) -> Result<(), AllocError> {
         let mark = if grows { "mut " } else { "" };
         let line = format!(in self.alloc(); "let {mark}{name} = Vec::new(alloc);")?;
-        self.lines.line(INDENT, line.as_str())
+        self.lines.line(self.indent, line.as_str())
     }
 
     /// Says that a type is in the dictionary, and returns the type with its short name.

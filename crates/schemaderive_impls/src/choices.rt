@@ -1,5 +1,6 @@
 //! The variants of enums.
 use crate::body::{Body, Types};
+use crate::groups::{INTERNAL_VARIANTS, List, MANY_VARIANTS, VARIANTS, ends_of};
 use crate::keywords::{INTERNAL_VARIANT, VARIANT, refuse_notes};
 use crate::members::has_flattened;
 use crate::own_rows::steps_of;
@@ -22,18 +23,39 @@ impl Body {
         choices: &Choices,
     ) -> Result<(), Fault> {
         self.list("variants", !choices.list.is_empty())?;
-        let target = if choices.form == Form::Internal {
-            INTERNAL_VARIANT
-        } else {
-            VARIANT
-        };
-        for choice in &choices.list {
-            if choices.form == Form::Internal {
-                self.add_internal(types, imports, ancestors, choice)?;
-            } else {
-                self.add_choice(types, imports, ancestors, choice)?;
+        let lists = [list_of(choices.form)];
+        let weights = self.choice_weights(types, ancestors, &choices.list)?;
+        let ends = ends_of(self.alloc(), &weights, MANY_VARIANTS)?;
+        let mut outer = None;
+        for (number, choice) in choices.list.iter().enumerate() {
+            if outer.is_none() && !ends.is_empty() {
+                outer = Some(self.begin_group(&lists)?);
             }
-            self.add_notes(imports, target, &choice.notes)?;
+            self.add_any(types, imports, ancestors, choices.form, choice)?;
+            if ends.get(number).copied() == Some(true) {
+                if let Some(outer) = outer.take() {
+                    self.end_group(imports, &lists, outer)?;
+                }
+            }
+        }
+        Ok(())
+    }
+
+    // Adds a variant of an enum of this form, with its keywords.
+    fn add_any(
+        &mut self,
+        types: &Types<'_>,
+        imports: &mut Imports,
+        ancestors: &[usize],
+        form: Form,
+        choice: &Choice,
+    ) -> Result<(), Fault> {
+        if form == Form::Internal {
+            self.add_internal(types, imports, ancestors, choice)?;
+            self.add_notes(imports, INTERNAL_VARIANT, &choice.notes)?;
+        } else {
+            self.add_choice(types, imports, ancestors, choice)?;
+            self.add_notes(imports, VARIANT, &choice.notes)?;
         }
         Ok(())
     }
@@ -47,16 +69,17 @@ impl Body {
     ) -> Result<(), Fault> {
         let name = literal(self.alloc(), choice.name.as_str())?;
         let name = name.as_str();
+        let variants = self.argument("variants")?;
         match &choice.payload {
             Payload::Unit => {
                 imports.call("add_unit")?;
-                self.call("add_unit", &["alloc", "&mut variants", name])?;
+                self.call("add_unit", &["alloc", variants.as_str(), name])?;
             }
             Payload::Newtype(part) => self.add_newtype(types, imports, ancestors, name, part)?,
             Payload::Tuple(parts) => {
                 self.add_parts(types, imports, ancestors, parts)?;
                 imports.call("add_tuple")?;
-                self.call("add_tuple", &["alloc", "&mut variants", name, "numbers"])?;
+                self.call("add_tuple", &["alloc", variants.as_str(), name, "numbers"])?;
             }
             Payload::Struct(members) => {
                 self.add_struct(types, imports, ancestors, "add_struct", name, members)?
@@ -78,9 +101,10 @@ impl Body {
             let steps = steps_of(types, imports, ancestors, part.plain, part.place)?;
             self.own_number(imports, &steps)?;
             imports.call("add_newtype_of")?;
+            let variants = self.argument("variants")?;
             self.call(
                 "add_newtype_of",
-                &["alloc", "types", "&mut variants", name, "number"],
+                &["alloc", "types", variants.as_str(), name, "number"],
             )?;
             return Ok(());
         }
@@ -99,7 +123,8 @@ impl Body {
         let ty = self.registered(types, imports, part.plain, part.place)?;
         imports.call(call)?;
         let head = format!(in self.alloc(); "{call}::<{ty}>")?;
-        self.call(head.as_str(), &["alloc", "types", "&mut variants", name])?;
+        let variants = self.argument("variants")?;
+        self.call(head.as_str(), &["alloc", "types", variants.as_str(), name])?;
         Ok(())
     }
 
@@ -119,7 +144,11 @@ impl Body {
         self.add_members(types, imports, ancestors, members)?;
         imports.call(call)?;
         let is_closed = if members.is_closed { "true" } else { "false" };
-        self.call(call, &["alloc", "&mut variants", name, "fields", is_closed])?;
+        let variants = self.argument("variants")?;
+        self.call(
+            call,
+            &["alloc", variants.as_str(), name, "fields", is_closed],
+        )?;
         Ok(())
     }
 
@@ -132,10 +161,11 @@ impl Body {
     ) -> Result<(), Fault> {
         let name = literal(self.alloc(), choice.name.as_str())?;
         let name = name.as_str();
+        let variants = self.argument("variants")?;
         match &choice.payload {
             Payload::Unit => {
                 imports.call("add_internal_unit")?;
-                self.call("add_internal_unit", &["alloc", "&mut variants", name])?;
+                self.call("add_internal_unit", &["alloc", variants.as_str(), name])?;
             }
             Payload::Newtype(part) if types.leads_to(part.plain, ancestors) => {
                 let reason = "the members of a type are not among its own";
@@ -155,6 +185,15 @@ impl Body {
             }
         }
         Ok(())
+    }
+}
+
+// The list of the variants of an enum of this form.
+fn list_of(form: Form) -> List {
+    if form == Form::Internal {
+        INTERNAL_VARIANTS
+    } else {
+        VARIANTS
     }
 }
 

@@ -1,5 +1,6 @@
 //! Implementations, one a type.
 use crate::body::{Body, INDENT, Types};
+use crate::groups::Owner;
 use crate::headers::Header;
 use crate::keywords::ENTRY;
 use crate::members::has_flattened;
@@ -46,18 +47,34 @@ pub fn push_item(
     lines.line(0, head.as_str())?;
     match (&subject.definition, types.rows.get(subject.row)) {
         (Some(definition), Some(row)) => {
-            let body = body_of(types, imports, ancestors, definition)?;
+            let owner = owner_of(alloc, ty.as_str(), generics.as_str(), &subject.header)?;
+            let body = body_of(types, imports, ancestors, definition, owner)?;
             push_says(alloc, imports, lines, row, &body)?;
             push_names(alloc, lines, row)?;
             push_method(lines, TYPE_ENTRY, body.lines.text.as_str())?;
+            lines.line(0, "}")?;
+            lines.text.push_str(body.groups.text.as_str())?;
         }
         _ => {
             let other = types.short(imports, subject.row, subject.place)?;
             push_delegation(alloc, lines, other.as_str())?;
+            lines.line(0, "}")?;
         }
     }
-    lines.line(0, "}")?;
     Ok(())
+}
+
+// For which type the functions of groups are.
+fn owner_of(alloc: Global, ty: &str, generics: &str, header: &Header) -> Result<Owner, AllocError> {
+    let mut parameters = Vec::new(alloc);
+    for name in &header.parameters {
+        parameters.push(String::from_str(alloc, name.as_str())?)?;
+    }
+    Ok(Owner {
+        ty: String::from_str(alloc, ty)?,
+        generics: String::from_str(alloc, generics)?,
+        parameters,
+    })
 }
 
 const IN_PLACE: &str = "fn inline_schema() -> bool {";
@@ -180,8 +197,9 @@ fn body_of(
     imports: &mut Imports,
     ancestors: &[usize],
     definition: &Definition,
+    owner: Owner,
 ) -> Result<Body, Fault> {
-    let mut body = Body::new(types.context.alloc);
+    let mut body = Body::new(types.context.alloc, owner);
     match &definition.content {
         Content::Null => {
             imports.word("IsIn")?;
@@ -246,16 +264,16 @@ impl Body {
         let alloc = self.alloc();
         if notes.is_empty() {
             if may_fail {
-                return self.lines.line(INDENT, call);
+                return self.lines.line(self.indent, call);
             }
             let line = format!(in alloc; "Ok({call})")?;
-            return self.lines.line(INDENT, line.as_str());
+            return self.lines.line(self.indent, line.as_str());
         }
         let mark = if may_fail { "?" } else { "" };
         let line = format!(in alloc; "let mut entry = {call}{mark};")?;
-        self.lines.line(INDENT, line.as_str())?;
+        self.lines.line(self.indent, line.as_str())?;
         self.add_notes(imports, ENTRY, notes)?;
-        self.lines.line(INDENT, "Ok(entry)")
+        self.lines.line(self.indent, "Ok(entry)")
     }
 
     // Adds the lines that make the entry of a struct of one value, which has its keywords.

@@ -1,5 +1,5 @@
 //! The keywords of a type, a field or a variant, which are added by calls.
-use crate::body::{Body, INDENT, Types};
+use crate::body::{Body, Types};
 use schemaderive_definitions::Part;
 use schemaderive_options::{Note, Notes};
 use schemaderive_syntax::Fault;
@@ -11,32 +11,32 @@ use std::alloc::AllocError;
 pub struct Target {
     /// the function
     pub call: &'static str,
-    /// the argument
+    /// the name of the argument
     pub to: &'static str,
 }
 
 /// The type itself.
 pub const ENTRY: Target = Target {
     call: "note_entry",
-    to: "&mut entry",
+    to: "entry",
 };
 
 /// The last field.
 pub const FIELD: Target = Target {
     call: "note_field",
-    to: "&mut fields",
+    to: "fields",
 };
 
 /// The last variant.
 pub const VARIANT: Target = Target {
     call: "note_variant",
-    to: "&mut variants",
+    to: "variants",
 };
 
 /// The last variant of an enum with a tag among the members.
 pub const INTERNAL_VARIANT: Target = Target {
     call: "note_internal_variant",
-    to: "&mut variants",
+    to: "variants",
 };
 
 // The name of the value of a keyword.
@@ -48,6 +48,19 @@ fn variable_of(key: &str) -> &'static str {
         "examples" => "examples",
         _ => "value",
     }
+}
+
+/// How many calls add keywords.
+pub fn weight_of(notes: &Notes) -> usize {
+    let mut weight = 0usize;
+    for note in &notes.list {
+        let calls = match note.json.as_str() {
+            "true" | "false" | "null" => 1,
+            _ => 2,
+        };
+        weight = weight.saturating_add(calls);
+    }
+    weight
 }
 
 impl Body {
@@ -84,7 +97,8 @@ impl Body {
                 variable
             }
         };
-        self.call(target.call, &["alloc", target.to, key, constant])
+        let to = self.argument(target.to)?;
+        self.call(target.call, &["alloc", to.as_str(), key, constant])
     }
 
     // Adds a line that gives a value a name.
@@ -101,7 +115,7 @@ impl Body {
         }
         let _ = imports.add("serde_json::json")?;
         let value = format!(in self.alloc(); "json!(in alloc; {})?", value.as_str())?;
-        self.lines.set(INDENT, variable, value.as_str())
+        self.lines.set(self.indent, variable, value.as_str())
     }
 }
 

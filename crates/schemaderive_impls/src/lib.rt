@@ -3,12 +3,14 @@
 
 mod body;
 mod choices;
+mod groups;
 mod headers;
 mod items;
 mod keywords;
 mod leading;
 mod members;
 mod names;
+mod own_functions;
 mod own_rows;
 mod writer;
 

@@ -1,5 +1,6 @@
 //! The fields of structs, and the parts of tuples.
 use crate::body::{Body, Types};
+use crate::groups::{FIELDS, MANY_FIELDS, PARTS, ends_of};
 use crate::keywords::{FIELD, refuse_notes};
 use crate::own_rows::steps_of;
 use schemaderive_definitions::{Member, Members, Part, Required};
@@ -63,13 +64,39 @@ impl Body {
         if has_flattened(members) {
             self.list("parts", true)?;
         }
-        for member in &members.list {
-            match &member.name {
-                Some(name) => { self.add_member(types, imports, ancestors, name.as_str(), member)? }
-                None => self.add_flattened(types, imports, ancestors, member)?,
+        let mut lists = Vec::new(self.alloc());
+        lists.push(FIELDS)?;
+        if has_flattened(members) {
+            lists.push(PARTS)?;
+        }
+        let weights = self.member_weights(types, ancestors, &members.list)?;
+        let ends = ends_of(self.alloc(), &weights, MANY_FIELDS)?;
+        let mut outer = None;
+        for (number, member) in members.list.iter().enumerate() {
+            if outer.is_none() && !ends.is_empty() {
+                outer = Some(self.begin_group(&lists)?);
+            }
+            self.add_any_member(types, imports, ancestors, member)?;
+            if ends.get(number).copied() == Some(true) {
+                if let Some(outer) = outer.take() {
+                    self.end_group(imports, &lists, outer)?;
+                }
             }
         }
         Ok(())
+    }
+
+    fn add_any_member(
+        &mut self,
+        types: &Types<'_>,
+        imports: &mut Imports,
+        ancestors: &[usize],
+        member: &Member,
+    ) -> Result<(), Fault> {
+        match &member.name {
+            Some(name) => self.add_member(types, imports, ancestors, name.as_str(), member),
+            None => self.add_flattened(types, imports, ancestors, member),
+        }
     }
 
     fn add_member(
@@ -90,9 +117,10 @@ impl Body {
             imports.call("add_field")?;
             let head = format!(in self.alloc(); "add_field::<{ty}>")?;
             let name = literal(self.alloc(), name)?;
+            let fields = self.argument("fields")?;
             self.call(
                 head.as_str(),
-                &["alloc", "types", "&mut fields", name.as_str(), required],
+                &["alloc", "types", fields.as_str(), name.as_str(), required],
             )?;
         }
         let notes = part.all_notes(self.alloc())?;
@@ -116,7 +144,8 @@ impl Body {
         let required = required_text(imports, member.required)?;
         imports.call("add_flattened")?;
         let head = format!(in self.alloc(); "add_flattened::<{ty}>")?;
-        self.call(head.as_str(), &["alloc", "types", "&mut parts", required])?;
+        let parts = self.argument("parts")?;
+        self.call(head.as_str(), &["alloc", "types", parts.as_str(), required])?;
         Ok(())
     }
 

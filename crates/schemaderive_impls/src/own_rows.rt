@@ -1,6 +1,6 @@
 //! Types that lead back to the type that is described, which are named by their ids.
-use crate::body::{Body, INDENT, Types};
-use crate::names::{ID, Member, NAME, clause_of, has_parameters, made_of, plain};
+use crate::body::{Body, Types};
+use crate::names::{ID, NAME, clause_of, has_parameters, plain};
 use schemaderive_known::{Makeup, Row};
 use schemaderive_syntax::{Fault, Place};
 use schemaderive_text::{Imports, literal};
@@ -9,18 +9,20 @@ use std::alloc::{AllocError, Global};
 /// A row that is named by the id of what it is made of.
 #[derive(Drop)]
 pub struct Step {
-    // the function that returns its number
-    call: &'static str,
+    /// the function that returns its number
+    pub call: &'static str,
     // the function that adds a field of it
     field_call: &'static str,
     // what is said of it
     word: &'static str,
-    // the type of its keys, or else its length, or nothing
+    // the type of its keys, if it is a map
     key: Option<String>,
-    length: String,
-    // the id and the name of what it is made of
-    id: String,
-    name: String,
+    /// its length, if it is an array
+    pub length: String,
+    /// the id of what it is made of
+    pub id: String,
+    /// its name
+    pub name: String,
 }
 
 // Which functions name a row of this makeup, and what is said of it.
@@ -122,16 +124,21 @@ fn unsaid(types: &Types<'_>, entry: &Row, place: Place) -> Result<Fault, AllocEr
 }
 
 impl Step {
-    // A function with the type of the keys, if there is one.
-    fn head(&self, alloc: Global, function: &str) -> Result<String, AllocError> {
+    // Whether parameters of the type are in the id or the name.
+    fn has_parameters(&self) -> bool {
+        has_parameters(self.id.as_str()) || has_parameters(self.name.as_str())
+    }
+
+    /// A function with the type of the keys, if there is one.
+    pub fn head(&self, alloc: Global, function: &str) -> Result<String, AllocError> {
         match &self.key {
             Some(key) => format!(in alloc; "{function}::<{}>", key.as_str()),
             None => String::from_str(alloc, function),
         }
     }
 
-    // What is said of the row.
-    fn clause(&self, imports: &mut Imports, alloc: Global) -> Result<String, AllocError> {
+    /// What is said of the row.
+    pub fn clause(&self, imports: &mut Imports, alloc: Global) -> Result<String, AllocError> {
         let id = clause_of(imports, alloc, self.id.as_str(), ID)?;
         let name = clause_of(imports, alloc, self.name.as_str(), NAME)?;
         let (word, id, name) = (self.word, id.as_str(), name.as_str());
@@ -166,32 +173,34 @@ impl Body {
             return Ok(None);
         };
         for step in before {
-            imports.call(step.call)?;
-            let head = step.head(self.alloc(), step.call)?;
-            self.step_call(head.as_str(), step)?;
+            self.step_call(imports, "", step)?;
         }
         Ok(Some(last))
     }
 
-    // An id or a name as an argument. One with parameters is made first, in lines of its own.
-    fn text_argument(&mut self, text: &str, member: Member) -> Result<String, AllocError> {
+    // Adds the call that returns the number of the row of a step, behind this beginning of a line.
+    fn step_call(
+        &mut self,
+        imports: &mut Imports,
+        begin: &str,
+        step: &Step,
+    ) -> Result<(), AllocError> {
         let alloc = self.alloc();
-        if !has_parameters(text) {
-            return literal(alloc, text);
+        imports.call(step.call)?;
+        if step.has_parameters() {
+            let function = self.row_function(imports, step)?;
+            let head = format!(in alloc; "{begin}{function}")?;
+            return self.call(head.as_str(), &["alloc", "types"]);
         }
-        let made = made_of(&mut self.lines, INDENT, text, member)?;
-        self.lines.set(INDENT, member.variable, made.as_str())?;
-        format!(in alloc; "{}.as_str()", member.variable)
-    }
-
-    fn step_call(&mut self, head: &str, step: &Step) -> Result<(), AllocError> {
-        let id = self.text_argument(step.id.as_str(), ID)?;
-        let name = self.text_argument(step.name.as_str(), NAME)?;
+        let call = step.head(alloc, step.call)?;
+        let head = format!(in alloc; "{begin}{call}")?;
+        let id = literal(alloc, step.id.as_str())?;
+        let name = literal(alloc, step.name.as_str())?;
         let (id, name, length) = (id.as_str(), name.as_str(), step.length.as_str());
         if length.is_empty() {
-            return self.call(head, &["alloc", "types", id, name]);
+            return self.call(head.as_str(), &["alloc", "types", id, name]);
         }
-        self.call(head, &["alloc", "types", id, name, length])
+        self.call(head.as_str(), &["alloc", "types", id, name, length])
     }
 
     /// Adds a field of a row that is named by these steps.
@@ -205,31 +214,35 @@ impl Body {
         let Some(last) = self.first_steps(imports, steps)? else {
             return Ok(());
         };
+        let field = literal(self.alloc(), name)?;
+        let field = field.as_str();
+        let fields = self.argument("fields")?;
+        let fields = fields.as_str();
+        if last.has_parameters() {
+            self.step_call(imports, "let number = ", last)?;
+            imports.call("add_field_of")?;
+            return self.call(
+                "add_field_of",
+                &["alloc", "types", fields, field, "number", required],
+            );
+        }
         imports.call(last.field_call)?;
         let head = last.head(self.alloc(), last.field_call)?;
-        let field = literal(self.alloc(), name)?;
-        let id = self.text_argument(last.id.as_str(), ID)?;
-        let called = self.text_argument(last.name.as_str(), NAME)?;
-        let (field, id, called) = (field.as_str(), id.as_str(), called.as_str());
+        let id = literal(self.alloc(), last.id.as_str())?;
+        let called = literal(self.alloc(), last.name.as_str())?;
+        let (id, called) = (id.as_str(), called.as_str());
         let length = last.length.as_str();
         let head = head.as_str();
         if length.is_empty() {
             return self.call(
                 head,
-                &["alloc", "types", "&mut fields", field, id, called, required],
+                &["alloc", "types", fields, field, id, called, required],
             );
         }
         self.call(
             head,
             &[
-                "alloc",
-                "types",
-                "&mut fields",
-                field,
-                id,
-                called,
-                length,
-                required,
+                "alloc", "types", fields, field, id, called, length, required,
             ],
         )
     }
@@ -239,9 +252,6 @@ impl Body {
         let Some(last) = self.first_steps(imports, steps)? else {
             return Ok(());
         };
-        imports.call(last.call)?;
-        let head = last.head(self.alloc(), last.call)?;
-        let head = format!(in self.alloc(); "let number = {}", head.as_str())?;
-        self.step_call(head.as_str(), last)
+        self.step_call(imports, "let number = ", last)
     }
 }

@@ -18,18 +18,31 @@ const ALWAYS: [&str; 7] = [
 const TAKEN: [&str; 7] = ["Box", "Ok", "Option", "Result", "Self", "String", "Vec"];
 
 // The words of clauses, in the order in which they are brought in.
-const WORDS: [&str; 11] = [
+const WORDS: [&str; 24] = [
     "codes",
+    "Describes",
+    "field_of",
+    "FieldsAreKnown",
+    "flattened_of",
+    "internal_variant_of",
     "IsArrayOf",
     "IsIn",
     "IsMapOf",
+    "IsNumber",
     "IsOptionOf",
     "IsReserved",
     "IsSeqOf",
     "IsSetOf",
+    "KeepsRows",
+    "KeepsTo",
     "own",
+    "PartsAreKnown",
+    "RefusesAs",
+    "RefusesPart",
     "TypeRow",
     "Unsaid",
+    "variant_of",
+    "VariantsAreKnown",
 ];
 
 /// The names that a file brings in.
@@ -44,6 +57,8 @@ pub struct Imports {
     words: BTreeMap<String, bool>,
     // the words of std's prelude
     prelude: BTreeMap<String, bool>,
+    // how many functions there are whose names begin so
+    functions: BTreeMap<String, usize>,
 }
 
 impl Imports {
@@ -55,6 +70,7 @@ impl Imports {
             modules: BTreeMap::new(alloc),
             words: BTreeMap::new(alloc),
             prelude: BTreeMap::new(alloc),
+            functions: BTreeMap::new(alloc),
         };
         for name in TAKEN {
             let name = String::from_str(alloc, name)?;
@@ -131,6 +147,19 @@ impl Imports {
         Ok(())
     }
 
+    /// The name of a function that this type needs for this.
+    pub fn function_name(&mut self, ty: &str, what: &str) -> Result<String, AllocError> {
+        let ty = small_name(self.alloc, ty)?;
+        let name = format!(in self.alloc; "{ty}_{what}")?;
+        let number = match self.functions.get(name.as_str()) {
+            Some(count) => count.saturating_add(1),
+            None => 1,
+        };
+        let whole = format!(in self.alloc; "{name}_{number}")?;
+        self.functions.insert(name, number)?;
+        Ok(whole)
+    }
+
     /// A type whose paths are brought in and shortened to their names.
     pub fn short(&mut self, ty: &str) -> Result<String, AllocError> {
         let mut out = String::new(self.alloc);
@@ -197,6 +226,28 @@ fn push_words(lines: &mut Lines, module: &str, words: &[&str]) -> Result<(), All
     let list = crate::lines::joined(lines.alloc, words)?;
     let line = format!(in lines.alloc; "ghost use {module}.{{{}}};", list.as_str())?;
     lines.line(0, line.as_str())
+}
+
+// The name of a type in small letters, with `_` between its words.
+fn small_name(alloc: Global, ty: &str) -> Result<String, AllocError> {
+    let mut name = String::new(alloc);
+    let mut is_small = false;
+    for c in ty.chars() {
+        if c == '<' {
+            break;
+        }
+        if c == ':' || c == '#' {
+            name.clear();
+            is_small = false;
+            continue;
+        }
+        if c.is_ascii_uppercase() && is_small {
+            name.push('_')?;
+        }
+        is_small = !c.is_ascii_uppercase();
+        name.push(c.to_ascii_lowercase())?;
+    }
+    Ok(name)
 }
 
 fn is_in_crate(module: &str) -> bool {

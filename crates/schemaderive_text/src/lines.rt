@@ -62,6 +62,32 @@ impl Lines {
         self.line(indent, last.as_str())
     }
 
+    /// Adds the head of a function, in one line or with a line for each parameter.
+    pub fn head(
+        &mut self,
+        head: &str,
+        parameters: &[String],
+        tail: &str,
+    ) -> Result<(), AllocError> {
+        let mut list = Vec::new(self.alloc);
+        for parameter in parameters {
+            list.push(parameter.as_str())?;
+        }
+        let list = joined(self.alloc, &list)?;
+        let whole = format!(in self.alloc; "{head}({list}){tail}")?;
+        if width(whole.as_str()) <= LINE {
+            return self.line(0, whole.as_str());
+        }
+        let first = format!(in self.alloc; "{head}(")?;
+        self.line(0, first.as_str())?;
+        for parameter in parameters {
+            let line = format!(in self.alloc; "{parameter},")?;
+            self.line(4, line.as_str())?;
+        }
+        let last = format!(in self.alloc; "){tail}")?;
+        self.line(0, last.as_str())
+    }
+
     /// Adds a `let`, whose value goes into a line of its own if it is long.
     pub fn set(&mut self, indent: usize, name: &str, value: &str) -> Result<(), AllocError> {
         let whole = format!(in self.alloc; "let {name} = {value};")?;
@@ -98,7 +124,7 @@ impl Lines {
         for name in names {
             let longer = width(line.as_str())
                 .saturating_add(width(name))
-                .saturating_add(6);
+                .saturating_add(7);
             if !line.is_empty() && longer > LINE {
                 self.line(4, line.as_str())?;
                 line.clear();
