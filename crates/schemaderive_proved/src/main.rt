@@ -1,25 +1,12 @@
-//! Declarations of all forms, whose implementations of `JsonSchema` are generated and proved without
-//! a proof file. The program prints the documents, one a line.
+//! Declarations with parameters, of types that contain themselves or each other, and of many parts,
+//! whose implementations of `JsonSchema` are generated and proved without a proof file. The program
+//! prints the documents, one a line.
 #![tactic(auto)]
 
-mod attributes;
-mod attributes_schemas;
-mod enums;
-mod enums_schemas;
-mod fields;
-mod fields_schemas;
 mod generics;
 mod generics_schemas;
 mod many;
 mod many_schemas;
-mod notes;
-mod notes_schemas;
-mod pairs;
-mod pairs_schemas;
-mod structs;
-mod structs_schemas;
-mod types;
-mod types_schemas;
 
 use schemars::{GenerateError, JsonSchema, schema_for};
 use std::alloc::{Alloc, AllocError, Global};
@@ -53,15 +40,8 @@ fn main(rt: HostRuntime) -> ExitCode {
 }
 
 fn print_all<R: Alloc<A = Global> + Print>(rt: &R) -> Result<(), Fault> {
-    print::<attributes::All, R>(rt)?;
-    print::<enums::All, R>(rt)?;
-    print::<fields::All, R>(rt)?;
     print::<generics::All, R>(rt)?;
-    print::<many::All, R>(rt)?;
-    print::<notes::All, R>(rt)?;
-    print::<pairs::All, R>(rt)?;
-    print::<structs::All, R>(rt)?;
-    print::<types::All, R>(rt)
+    print::<many::All, R>(rt)
 }
 
 // Prints the document of a type.
