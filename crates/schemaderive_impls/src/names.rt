@@ -1,6 +1,6 @@
 //! The ids and the names of rows, in which the names of parameters stand for those of their types.
 use schemaderive_rows::{CLOSING, OPENING};
-use schemaderive_text::{Imports, Lines, literal};
+use schemaderive_text::{Imports, Lines, literal, push_escaped};
 use std::alloc::{AllocError, Global};
 
 /// Whether it is an id or a name.
@@ -183,15 +183,4 @@ pub fn made_of(
     }
     let pattern = literal(alloc, pattern.as_str())?;
     format!(in alloc; "format!(in alloc; {pattern})?")
-}
-
-// Adds a text to a pattern, in which braces stand for what is put in.
-fn push_escaped(pattern: &mut String, text: &str) -> Result<(), AllocError> {
-    for c in text.chars() {
-        if c == '{' || c == '}' {
-            pattern.push(c)?;
-        }
-        pattern.push(c)?;
-    }
-    Ok(())
 }

@@ -7,4 +7,4 @@ mod texts;
 
 pub use imports::Imports;
 pub use lines::{Lines, joined};
-pub use texts::{json_argument, literal};
+pub use texts::{json_argument, literal, push_escaped};

@@ -23,6 +23,17 @@ pub fn literal(alloc: Global, text: &str) -> Result<String, AllocError> {
     Ok(out)
 }
 
+/// Adds a text to a pattern, in which braces stand for what is put in.
+pub fn push_escaped(pattern: &mut String, text: &str) -> Result<(), AllocError> {
+    for c in text.chars() {
+        if c == '{' || c == '}' {
+            pattern.push(c)?;
+        }
+        pattern.push(c)?;
+    }
+    Ok(())
+}
+
 // How far JSON is written.
 #[derive(Clone, Copy)]
 enum Reached {
