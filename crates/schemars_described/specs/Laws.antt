@@ -10,12 +10,21 @@ use Rattle.schemars_written.specs.Fits.{HasShape, IsArrayRow}
 use Rattle.schemars_impls.specs.Describes.{Making, Always, OfOne, OfTwo, OfAll, OfArray, IsMade, IsDescribed, places_of}
 use Rattle.schemars_impls.specs.Dictionary.{Dictionary, Told, TypeRow, told_of, IsIn, IsTypeIn, IsTold, IsEntryOf, IsRowOf, Follows, Pending, staged, alone, of_one, of_two}
 use Rattle.schemars_impls.specs.Containers.{option_row, seq_row, set_row, map_row, array_row, PartRows, no_parts, and_parts, tuple_row, HasItems}
-use Rattle.schemars_described.specs.Told.{Tells, OfItems, AreAsTold, single_row, pair_row, triple_row, quadruple_row}
+use Rattle.schemars_described.specs.Told.{Tells, OfItems, AreAsTold, IsToldIn, telling, single_row, pair_row, triple_row, quadruple_row}
 
 -- ---- a table that follows a dictionary
 
 pub follows_told : (d : Dictionary) (rows : List Row) → Follows d rows → AreAsTold d.told rows
 follows_told d rows f = record { entries = λ id n there. (f.each id n there).entry }
+
+-- a table without rows follows each dictionary in which no row is being described
+telling_followed : (entries : List (Text × Told)) → Follows (telling entries) []
+telling_followed entries = record { each = λ id n there. cc; pending = λ id is. cc }
+
+pub told_in_empty : (told : Dictionary → Type 0) (entries : List (Text × Told)) → told (telling entries) → (rows : List Row) → rows ≡ []
+    → IsToldIn told rows
+told_in_empty told entries is rows empty =
+    record { dictionary = telling entries; tells = is; follows = subst (Follows (telling entries)) (sym empty) (telling_followed entries) }
 
 -- ---- in a dictionary
 

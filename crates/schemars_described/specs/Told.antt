@@ -1,11 +1,11 @@
 -- Dictionaries that tell the rows of a type and of its parts, and tables whose rows are as they tell.
-use Rattle.std.specs.Prelude.{◌≡◌, ◌⊎◌, ℕ, Bool, true, false, List, Option, Some}
+use Rattle.std.specs.Prelude.{◌≡◌, ◌⊎◌, ℕ, Bool, true, false, List, [], ◌∷◌, Option, Some, None, bytes_eq, if◌then◌else◌}
 use Rattle.schemars_schema.specs.Json.{Text}
 use Rattle.schemars_types.specs.Rows.{Row, place_of, entry_at}
 use Rattle.schemars_types.specs.Faults.{Refusal}
 use Rattle.schemars_types.specs.declared.error.TypesError.{TypesError}
 use Rattle.schemars_types.specs.declared.error.TypesError.TheVariants.{OutOfMemory}
-use Rattle.schemars_impls.specs.Dictionary.{Dictionary, Told, TypeRow, told_of, IsFree, IsEntryOf, Follows, Pending, RefusesType, staged}
+use Rattle.schemars_impls.specs.Dictionary.{Dictionary, Told, TypeRow, told_of, IsFree, IsEntryOf, Follows, Open, Pending, RefusesType, staged}
 use Rattle.schemars_impls.specs.Containers.{tuple_row, and_parts, no_parts}
 
 -- The dictionary tells of this type's row what the type says, and the row is not being described.
@@ -25,6 +25,20 @@ OfItems false told d = told d
 -- The entry of each row that has one is made as this tells of its id.
 pub record AreAsTold (told : Text → Option Told) (rows : List Row) : Type 0 where
   pub entries : (id : Text) (n : ℕ) → place_of id rows ≡ Some n → IsEntryOf (told id) rows (entry_at rows n)
+
+-- ---- what types tell
+
+-- what a type tells of its row
+abbrev pub tell : TypeRow → Text × Told
+tell t = (t.id, told_of t)
+
+abbrev pub told_first : Text → List (Text × Told) → Option Told
+told_first id [] = None
+told_first id (x ∷ xs) = if bytes_eq id x.0 then Some x.1 else told_first id xs
+
+-- the dictionary that tells this alone, in which no row is being described
+abbrev pub telling : List (Text × Told) → Dictionary
+telling entries = record { told = λ id. told_first id entries; stage = λ id. Open; refuses = λ e. false }
 
 -- ---- tuples of one part to four
 

@@ -1,8 +1,9 @@
 //! What an implementation of `AgreesAsDescribed` promises.
 ghost use Rattle.std.specs.Prelude.{◌≡◌, ℕ, List, Some};
+ghost use Rattle.schemars_schema.specs.Json.{Text};
 ghost use Rattle.schemars_types.specs.Rows.{Row, place_of};
 ghost use Rattle.schemars_types.specs.Faults.{IsChecked};
-ghost use Rattle.schemars_impls.specs.Dictionary.{Dictionary, IsIn};
+ghost use Rattle.schemars_impls.specs.Dictionary.{Dictionary, Told, IsIn};
 ghost use Rattle.schemars_described.specs.Told.{AreAsTold};
 
 use schemars_agreement::Agrees;
@@ -10,6 +11,9 @@ use schemars_impls::JsonSchema;
 
 /// A type that agrees with the row that it describes.
 pub trait AgreesAsDescribed: Agrees + JsonSchema {
+    // What the type tells of its row and of those of its parts, by their ids.
+    ghost tells: { List (Text × Told) };
+
     // The dictionary tells the rows of the type and of its parts.
     ghost is_told: { Dictionary → Type 0 };
 

@@ -1,7 +1,7 @@
 //! What holds values of one type.
-ghost use Rattle.std.specs.Prelude.{◌==◌};
+ghost use Rattle.std.specs.Prelude.{◌==◌, if◌then◌else◌, [], ◌∷◌};
 ghost use Rattle.schemars_impls.specs.Containers.{option_row, seq_row, set_row, array_row};
-ghost use Rattle.schemars_described.specs.Told.{TellsWith, OfItems};
+ghost use Rattle.schemars_described.specs.Told.{tell, TellsWith, OfItems};
 ghost use Rattle.schemars_described.specs.Laws.{option_in, option_at, seq_in, seq_at, set_in, set_at, array_in, array_at};
 
 use crate::law::AgreesAsDescribed;
@@ -10,6 +10,8 @@ use std::collections::{BTreeSet, HashSet, VecDeque};
 use std::hash::{BuildHasher, Hash};
 
 impl<T: AgreesAsDescribed> AgreesAsDescribed for Box<T> {
+    ghost tells = { T.tells };
+
     ghost is_told = { T.is_told };
 
     ghost is_in = { T.is_in };
@@ -18,6 +20,8 @@ impl<T: AgreesAsDescribed> AgreesAsDescribed for Box<T> {
 }
 
 impl<T: AgreesAsDescribed> AgreesAsDescribed for Option<T> {
+    ghost tells = { tell (option_row T.says) ∷ T.tells };
+
     ghost is_told = { TellsWith (option_row T.says) T.is_told };
 
     ghost is_in = { λ d told. option_in T.says d told.0 (T.is_in _ told.1) };
@@ -27,6 +31,8 @@ impl<T: AgreesAsDescribed> AgreesAsDescribed for Option<T> {
 }
 
 impl<T: AgreesAsDescribed> AgreesAsDescribed for Vec<T> {
+    ghost tells = { tell (seq_row T.says) ∷ T.tells };
+
     ghost is_told = { TellsWith (seq_row T.says) T.is_told };
 
     ghost is_in = { λ d told. seq_in T.says d told.0 (T.is_in _ told.1) };
@@ -36,6 +42,8 @@ impl<T: AgreesAsDescribed> AgreesAsDescribed for Vec<T> {
 }
 
 impl<T: AgreesAsDescribed> AgreesAsDescribed for VecDeque<T> {
+    ghost tells = { tell (seq_row T.says) ∷ T.tells };
+
     ghost is_told = { TellsWith (seq_row T.says) T.is_told };
 
     ghost is_in = { λ d told. seq_in T.says d told.0 (T.is_in _ told.1) };
@@ -45,6 +53,8 @@ impl<T: AgreesAsDescribed> AgreesAsDescribed for VecDeque<T> {
 }
 
 impl<T: AgreesAsDescribed + TellsApart> AgreesAsDescribed for BTreeSet<T> {
+    ghost tells = { tell (set_row T.says) ∷ T.tells };
+
     ghost is_told = { TellsWith (set_row T.says) T.is_told };
 
     ghost is_in = { λ d told. set_in T.says d told.0 (T.is_in _ told.1) };
@@ -54,6 +64,8 @@ impl<T: AgreesAsDescribed + TellsApart> AgreesAsDescribed for BTreeSet<T> {
 }
 
 impl<T: AgreesAsDescribed + TellsApart + Hash, S: BuildHasher> AgreesAsDescribed for HashSet<T, S> {
+    ghost tells = { tell (set_row T.says) ∷ T.tells };
+
     ghost is_told = { TellsWith (set_row T.says) T.is_told };
 
     ghost is_in = { λ d told. set_in T.says d told.0 (T.is_in _ told.1) };
@@ -64,6 +76,8 @@ impl<T: AgreesAsDescribed + TellsApart + Hash, S: BuildHasher> AgreesAsDescribed
 
 /// The row of an array of no items does not refer to that of the items.
 impl<T: AgreesAsDescribed, const N: usize> AgreesAsDescribed for [T; N] {
+    ghost tells = { tell (array_row T.says N) ∷ (if N == 0 then [] else T.tells) };
+
     ghost is_told = { TellsWith (array_row T.says N) (OfItems (N == 0) T.is_told) };
 
     ghost is_in = { λ d told. array_in T.says N T.is_told d told.0 T.is_in told.1 };

@@ -1,8 +1,9 @@
 //! Maps with texts as keys.
+ghost use Rattle.std.specs.Prelude.{◌∷◌};
 ghost use Rattle.schemars_shapes.specs.Shape.{Shape as shape};
 ghost use Rattle.schemars_written.specs.Fits.{HasShape};
 ghost use Rattle.schemars_impls.specs.Containers.{map_row};
-ghost use Rattle.schemars_described.specs.Told.{TellsWith, Tells};
+ghost use Rattle.schemars_described.specs.Told.{tell, TellsWith, Tells};
 ghost use Rattle.schemars_described.specs.Laws.{map_in, map_at, alone_in, alone_row};
 
 use crate::law::AgreesAsDescribed;
@@ -11,6 +12,9 @@ use std::collections::{BTreeMap, HashMap};
 use std::hash::BuildHasher;
 
 impl<T: AgreesAsDescribed> AgreesAsDescribed for BTreeMap<String, T> {
+    ghost tells = { tell (map_row ⟦<String as JsonSchema>⟧.says T.says)
+        ∷ (tell ⟦<String as JsonSchema>⟧.says ∷ T.tells) };
+
     ghost is_told = { TellsWith (map_row ⟦<String as JsonSchema>⟧.says T.says)
         (λ d. Tells ⟦<String as JsonSchema>⟧.says d × T.is_told d) };
 
@@ -24,6 +28,9 @@ impl<T: AgreesAsDescribed> AgreesAsDescribed for BTreeMap<String, T> {
 }
 
 impl<T: AgreesAsDescribed, S: BuildHasher> AgreesAsDescribed for HashMap<String, T, S> {
+    ghost tells = { tell (map_row ⟦<String as JsonSchema>⟧.says T.says)
+        ∷ (tell ⟦<String as JsonSchema>⟧.says ∷ T.tells) };
+
     ghost is_told = { TellsWith (map_row ⟦<String as JsonSchema>⟧.says T.says)
         (λ d. Tells ⟦<String as JsonSchema>⟧.says d × T.is_told d) };
 

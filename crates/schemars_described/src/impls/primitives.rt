@@ -1,11 +1,14 @@
 //! Types without parts.
-ghost use Rattle.schemars_described.specs.Told.{Tells};
+ghost use Rattle.std.specs.Prelude.{[], ◌∷◌};
+ghost use Rattle.schemars_described.specs.Told.{Tells, tell};
 ghost use Rattle.schemars_described.specs.Laws.{alone_in, alone_row};
 
 use crate::law::AgreesAsDescribed;
 use schemars_impls::JsonSchema;
 
 impl AgreesAsDescribed for () {
+    ghost tells = { tell ⟦<() as JsonSchema>⟧.says ∷ [] };
+
     ghost is_told = { Tells ⟦<() as JsonSchema>⟧.says };
 
     ghost is_in = { λ d told. alone_in _ _ _ _ d told };
@@ -14,6 +17,8 @@ impl AgreesAsDescribed for () {
 }
 
 impl AgreesAsDescribed for bool {
+    ghost tells = { tell ⟦<bool as JsonSchema>⟧.says ∷ [] };
+
     ghost is_told = { Tells ⟦<bool as JsonSchema>⟧.says };
 
     ghost is_in = { λ d told. alone_in _ _ _ _ d told };
@@ -22,6 +27,8 @@ impl AgreesAsDescribed for bool {
 }
 
 impl AgreesAsDescribed for char {
+    ghost tells = { tell ⟦<char as JsonSchema>⟧.says ∷ [] };
+
     ghost is_told = { Tells ⟦<char as JsonSchema>⟧.says };
 
     ghost is_in = { λ d told. alone_in _ _ _ _ d told };
@@ -30,6 +37,8 @@ impl AgreesAsDescribed for char {
 }
 
 impl AgreesAsDescribed for String {
+    ghost tells = { tell ⟦<String as JsonSchema>⟧.says ∷ [] };
+
     ghost is_told = { Tells ⟦<String as JsonSchema>⟧.says };
 
     ghost is_in = { λ d told. alone_in _ _ _ _ d told };
@@ -38,6 +47,8 @@ impl AgreesAsDescribed for String {
 }
 
 impl AgreesAsDescribed for u8 {
+    ghost tells = { tell ⟦<u8 as JsonSchema>⟧.says ∷ [] };
+
     ghost is_told = { Tells ⟦<u8 as JsonSchema>⟧.says };
 
     ghost is_in = { λ d told. alone_in _ _ _ _ d told };
@@ -46,6 +57,8 @@ impl AgreesAsDescribed for u8 {
 }
 
 impl AgreesAsDescribed for u16 {
+    ghost tells = { tell ⟦<u16 as JsonSchema>⟧.says ∷ [] };
+
     ghost is_told = { Tells ⟦<u16 as JsonSchema>⟧.says };
 
     ghost is_in = { λ d told. alone_in _ _ _ _ d told };
@@ -54,6 +67,8 @@ impl AgreesAsDescribed for u16 {
 }
 
 impl AgreesAsDescribed for u32 {
+    ghost tells = { tell ⟦<u32 as JsonSchema>⟧.says ∷ [] };
+
     ghost is_told = { Tells ⟦<u32 as JsonSchema>⟧.says };
 
     ghost is_in = { λ d told. alone_in _ _ _ _ d told };
@@ -62,6 +77,8 @@ impl AgreesAsDescribed for u32 {
 }
 
 impl AgreesAsDescribed for u64 {
+    ghost tells = { tell ⟦<u64 as JsonSchema>⟧.says ∷ [] };
+
     ghost is_told = { Tells ⟦<u64 as JsonSchema>⟧.says };
 
     ghost is_in = { λ d told. alone_in _ _ _ _ d told };
@@ -70,6 +87,8 @@ impl AgreesAsDescribed for u64 {
 }
 
 impl AgreesAsDescribed for u128 {
+    ghost tells = { tell ⟦<u128 as JsonSchema>⟧.says ∷ [] };
+
     ghost is_told = { Tells ⟦<u128 as JsonSchema>⟧.says };
 
     ghost is_in = { λ d told. alone_in _ _ _ _ d told };
@@ -78,6 +97,8 @@ impl AgreesAsDescribed for u128 {
 }
 
 impl AgreesAsDescribed for usize {
+    ghost tells = { tell ⟦<usize as JsonSchema>⟧.says ∷ [] };
+
     ghost is_told = { Tells ⟦<usize as JsonSchema>⟧.says };
 
     ghost is_in = { λ d told. alone_in _ _ _ _ d told };
@@ -86,6 +107,8 @@ impl AgreesAsDescribed for usize {
 }
 
 impl AgreesAsDescribed for i8 {
+    ghost tells = { tell ⟦<i8 as JsonSchema>⟧.says ∷ [] };
+
     ghost is_told = { Tells ⟦<i8 as JsonSchema>⟧.says };
 
     ghost is_in = { λ d told. alone_in _ _ _ _ d told };
@@ -94,6 +117,8 @@ impl AgreesAsDescribed for i8 {
 }
 
 impl AgreesAsDescribed for i16 {
+    ghost tells = { tell ⟦<i16 as JsonSchema>⟧.says ∷ [] };
+
     ghost is_told = { Tells ⟦<i16 as JsonSchema>⟧.says };
 
     ghost is_in = { λ d told. alone_in _ _ _ _ d told };
@@ -102,6 +127,8 @@ impl AgreesAsDescribed for i16 {
 }
 
 impl AgreesAsDescribed for i32 {
+    ghost tells = { tell ⟦<i32 as JsonSchema>⟧.says ∷ [] };
+
     ghost is_told = { Tells ⟦<i32 as JsonSchema>⟧.says };
 
     ghost is_in = { λ d told. alone_in _ _ _ _ d told };
@@ -110,6 +137,8 @@ impl AgreesAsDescribed for i32 {
 }
 
 impl AgreesAsDescribed for i64 {
+    ghost tells = { tell ⟦<i64 as JsonSchema>⟧.says ∷ [] };
+
     ghost is_told = { Tells ⟦<i64 as JsonSchema>⟧.says };
 
     ghost is_in = { λ d told. alone_in _ _ _ _ d told };
@@ -118,6 +147,8 @@ impl AgreesAsDescribed for i64 {
 }
 
 impl AgreesAsDescribed for i128 {
+    ghost tells = { tell ⟦<i128 as JsonSchema>⟧.says ∷ [] };
+
     ghost is_told = { Tells ⟦<i128 as JsonSchema>⟧.says };
 
     ghost is_in = { λ d told. alone_in _ _ _ _ d told };
@@ -126,6 +157,8 @@ impl AgreesAsDescribed for i128 {
 }
 
 impl AgreesAsDescribed for isize {
+    ghost tells = { tell ⟦<isize as JsonSchema>⟧.says ∷ [] };
+
     ghost is_told = { Tells ⟦<isize as JsonSchema>⟧.says };
 
     ghost is_in = { λ d told. alone_in _ _ _ _ d told };

@@ -1,10 +1,13 @@
 //! Tuples of one part to four.
-ghost use Rattle.schemars_described.specs.Told.{TellsWith, single_row, pair_row, triple_row, quadruple_row};
+ghost use Rattle.std.specs.Prelude.{◌++◌, ◌∷◌};
+ghost use Rattle.schemars_described.specs.Told.{tell, TellsWith, single_row, pair_row, triple_row, quadruple_row};
 ghost use Rattle.schemars_described.specs.Laws.{tuple_in, single_at, pair_at, triple_at, quadruple_at};
 
 use crate::law::AgreesAsDescribed;
 
 impl<A: AgreesAsDescribed> AgreesAsDescribed for (A,) {
+    ghost tells = { tell (single_row A.says) ∷ A.tells };
+
     ghost is_told = { TellsWith (single_row A.says) (λ d. A.is_told d) };
 
     ghost is_in = { λ d told. tuple_in _ d told.0
@@ -16,6 +19,8 @@ impl<A: AgreesAsDescribed> AgreesAsDescribed for (A,) {
 }
 
 impl<A: AgreesAsDescribed, B: AgreesAsDescribed> AgreesAsDescribed for (A, B) {
+    ghost tells = { tell (pair_row A.says B.says) ∷ (A.tells ++ B.tells) };
+
     ghost is_told = { TellsWith (pair_row A.says B.says) (λ d. A.is_told d × B.is_told d) };
 
     ghost is_in = { λ d told. tuple_in _ d told.0
@@ -28,6 +33,8 @@ impl<A: AgreesAsDescribed, B: AgreesAsDescribed> AgreesAsDescribed for (A, B) {
 }
 
 impl<A: AgreesAsDescribed, B: AgreesAsDescribed, C: AgreesAsDescribed> AgreesAsDescribed for (A, B, C) {
+    ghost tells = { tell (triple_row A.says B.says C.says) ∷ (A.tells ++ B.tells ++ C.tells) };
+
     ghost is_told = { TellsWith (triple_row A.says B.says C.says) (λ d. A.is_told d × B.is_told d × C.is_told d) };
 
     ghost is_in = { λ d told. tuple_in _ d told.0
@@ -41,6 +48,8 @@ impl<A: AgreesAsDescribed, B: AgreesAsDescribed, C: AgreesAsDescribed> AgreesAsD
 }
 
 impl<A: AgreesAsDescribed, B: AgreesAsDescribed, C: AgreesAsDescribed, D: AgreesAsDescribed> AgreesAsDescribed for (A, B, C, D) {
+    ghost tells = { tell (quadruple_row A.says B.says C.says D.says) ∷ (A.tells ++ B.tells ++ C.tells ++ D.tells) };
+
     ghost is_told = { TellsWith (quadruple_row A.says B.says C.says D.says) (λ d. A.is_told d × B.is_told d × C.is_told d × D.is_told d) };
 
     ghost is_in = { λ d told. tuple_in _ d told.0

@@ -1,0 +1,24 @@
+//! A list, and the row that its type describes.
+ghost use Rattle.std.specs.Prelude.{IfOk};
+ghost use Rattle.serde_json.specs.View.{view};
+ghost use Rattle.schemars_written.specs.Writes.{Belongs};
+
+use schemars_described::{DescribedError, to_described_value};
+use schemars_types::{TypeNo, Types};
+use serde_json::Value;
+use std::alloc::Global;
+
+/// Returns a table, the number of the row of such lists, and what serde writes for this one, which
+/// belongs to that row.
+pub fn written_list(
+    alloc: Global,
+    list: &Vec<Option<u8>>,
+) -> Result<(Types, TypeNo, Value), DescribedError>
+    ensures { IfOk result (λ r. Belongs r.0 r.1 (view r.2)) }
+{
+    let mut types = Types::new(alloc);
+    match to_described_value(alloc, &mut types, list) {
+        Ok((n, written)) => Ok((types, n, written)),
+        Err(error) => Err(error),
+    }
+}
