@@ -1,4 +1,6 @@
 //! A list, and the row that its type describes.
+#![tactic(auto, unfolding(schemars_impls::specs::Containers::seq_row, schemars_impls::specs::Containers::option_row, schemars_impls::specs::Dictionary::of_one, schemars_impls::specs::Dictionary::alone))]
+
 ghost use Rattle.std.specs.Prelude.{IfOk};
 ghost use Rattle.serde_json.specs.View.{view};
 ghost use Rattle.schemars_written.specs.Writes.{Belongs};
@@ -16,9 +18,5 @@ pub fn written_list(
 ) -> Result<(Types, TypeNo, Value), DescribedError>
     ensures { IfOk result (λ r. Belongs r.0 r.1 (view r.2)) }
 {
-    let mut types = Types::new(alloc);
-    match to_described_value(alloc, &mut types, list) {
-        Ok((n, written)) => Ok((types, n, written)),
-        Err(error) => Err(error),
-    }
+    to_described_value(alloc, list)
 }

@@ -225,6 +225,9 @@ tuple_at parts d rows n tells are checked there =
     let p = made_of_all (λ ns. in_place (tuple ns)) (places_of parts.ids rows) r.described.given r.described.made in
     (p.0, p.1, has_shape (tuple_row parts) rows n (tuple p.0) r p.2)
 
+has_tuple : (rows : List Row) (n : ℕ) (ns ms : List ℕ) → ns ≡ ms → HasShape rows n (tuple ns) → HasShape rows n (tuple ms)
+has_tuple rows n ns ms is shape = subst (λ ks. HasShape rows n (tuple ks)) is shape
+
 longer : (m : ℕ) (ns ms ks : List ℕ) → ns ≡ m ∷ ms → ms ≡ ks → ns ≡ m ∷ ks
 longer m ns ms ks is same = is ∙ ap (λ xs. m ∷ xs) same
 
@@ -236,7 +239,7 @@ single_at t T d rows n tells are checked there is_t =
     let p = tuple_at _ d rows n tells are checked there in
     let a = next_place t.id ([]) rows p.0 p.1 in
     let is : p.0 ≡ a.0 ∷ [] = longer a.0 p.0 a.1 ([]) a.4 (no_place rows a.1 a.3) in
-    (a.0, subst (λ ns. HasShape rows n (tuple ns)) is p.2, is_t a.0 a.2)
+    (a.0, has_tuple rows n p.0 _ is p.2, is_t a.0 a.2)
 
 pub pair_at : (t u : TypeRow) (T U : List Row → ℕ → Type 0) (d : Dictionary) (rows : List Row) (n : ℕ)
     → Tells (pair_row t u) d → AreAsTold d.told rows → IsChecked rows → place_of (pair_row t u).id rows ≡ Some n
@@ -248,7 +251,7 @@ pair_at t u T U d rows n tells are checked there is_t is_u =
     let a = next_place t.id (u.id ∷ []) rows p.0 p.1 in
     let b = next_place u.id ([]) rows a.1 a.3 in
     let is : p.0 ≡ a.0 ∷ b.0 ∷ [] = longer a.0 p.0 a.1 (b.0 ∷ []) a.4 (longer b.0 a.1 b.1 ([]) b.4 (no_place rows b.1 b.3)) in
-    (a.0, b.0, subst (λ ns. HasShape rows n (tuple ns)) is p.2, is_t a.0 a.2, is_u b.0 b.2)
+    (a.0, b.0, has_tuple rows n p.0 _ is p.2, is_t a.0 a.2, is_u b.0 b.2)
 
 pub triple_at : (t u v : TypeRow) (T U V : List Row → ℕ → Type 0) (d : Dictionary) (rows : List Row) (n : ℕ)
     → Tells (triple_row t u v) d → AreAsTold d.told rows → IsChecked rows → place_of (triple_row t u v).id rows ≡ Some n
@@ -262,7 +265,7 @@ triple_at t u v T U V d rows n tells are checked there is_t is_u is_v =
     let b = next_place u.id (v.id ∷ []) rows a.1 a.3 in
     let c = next_place v.id ([]) rows b.1 b.3 in
     let is : p.0 ≡ a.0 ∷ b.0 ∷ c.0 ∷ [] = longer a.0 p.0 a.1 (b.0 ∷ c.0 ∷ []) a.4 (longer b.0 a.1 b.1 (c.0 ∷ []) b.4 (longer c.0 b.1 c.1 ([]) c.4 (no_place rows c.1 c.3))) in
-    (a.0, b.0, c.0, subst (λ ns. HasShape rows n (tuple ns)) is p.2, is_t a.0 a.2, is_u b.0 b.2, is_v c.0 c.2)
+    (a.0, b.0, c.0, has_tuple rows n p.0 _ is p.2, is_t a.0 a.2, is_u b.0 b.2, is_v c.0 c.2)
 
 pub quadruple_at : (t u v w : TypeRow) (T U V W : List Row → ℕ → Type 0) (d : Dictionary) (rows : List Row) (n : ℕ)
     → Tells (quadruple_row t u v w) d → AreAsTold d.told rows → IsChecked rows → place_of (quadruple_row t u v w).id rows ≡ Some n
@@ -278,4 +281,4 @@ quadruple_at t u v w T U V W d rows n tells are checked there is_t is_u is_v is_
     let c = next_place v.id (w.id ∷ []) rows b.1 b.3 in
     let d = next_place w.id ([]) rows c.1 c.3 in
     let is : p.0 ≡ a.0 ∷ b.0 ∷ c.0 ∷ d.0 ∷ [] = longer a.0 p.0 a.1 (b.0 ∷ c.0 ∷ d.0 ∷ []) a.4 (longer b.0 a.1 b.1 (c.0 ∷ d.0 ∷ []) b.4 (longer c.0 b.1 c.1 (d.0 ∷ []) c.4 (longer d.0 c.1 d.1 ([]) d.4 (no_place rows d.1 d.3)))) in
-    (a.0, b.0, c.0, d.0, subst (λ ns. HasShape rows n (tuple ns)) is p.2, is_t a.0 a.2, is_u b.0 b.2, is_v c.0 c.2, is_w d.0 d.2)
+    (a.0, b.0, c.0, d.0, has_tuple rows n p.0 _ is p.2, is_t a.0 a.2, is_u b.0 b.2, is_v c.0 c.2, is_w d.0 d.2)
