@@ -51,8 +51,9 @@ impl AgreesAsDescribed for Reading {
     ghost is_in = { λ d told. tells_in _ d told.0
         (alone_in _ _ _ _ _ told.1.0, alone_in _ _ _ _ _ told.1.1) };
 
-    ghost described = { λ d rows n told are checked there. two_fields_at (codes "Reading") (codes "name")
-        (codes "value") _ _ ⟦<String as Agrees>⟧.is_row ⟦<u8 as Agrees>⟧.is_row d rows n told.0 are checked there
+    ghost described = { λ d rows n told are checked there. two_fields_at
+        (codes "Reading") (codes "name") (codes "value") _ _
+        ⟦<String as Agrees>⟧.is_row ⟦<u8 as Agrees>⟧.is_row d rows n told.0 are checked there
         (λ m at. alone_row _ _ _ _ _ rows m told.1.0 are checked at)
         (λ m at. alone_row _ _ _ _ _ rows m told.1.1 are checked at) };
 }

@@ -1,5 +1,5 @@
 -- The row of a type in a table whose rows are as a dictionary tells.
-use Rattle.std.proofs.Common.{◌≡◌, inl, inr, arith, ℕ, List, [], ◌∷◌, ◌++◌, Bool, true, false, Option, Some, None, IsSome, is_some, option_map, option_and_then, refl, sym, ap, ◌∙◌, subst, if◌then◌else◌, ◌==◌}
+use Rattle.std.proofs.Common.{◌≡◌, inl, inr, arith, ℕ, List, [], ◌∷◌, ◌++◌, Bool, true, false, Option, Some, None, IsSome, option_map, option_and_then, refl, sym, ap, ◌∙◌, subst, if◌then◌else◌, ◌==◌}
 use Rattle.std.proofs.lemmas.Bool.Decides.{nat_tests}
 use Rattle.schemars_schema.specs.Json.{Text}
 use Rattle.schemars_shapes.specs.Shape.{Shape, Entry, in_place, option, seq, set, map_from, array, tuple, Field, struct, bare_fields, needed, without_notes}
@@ -7,12 +7,12 @@ use Rattle.schemars_types.specs.Rows.{Row, place_of, entry_at}
 use Rattle.schemars_types.specs.Faults.{IsChecked}
 use Rattle.schemars_types.proofs.Registered.{place_of-below}
 use Rattle.schemars_written.specs.Fits.{HasShape, IsArrayRow, HasFields, NextField, LastField}
-use Rattle.schemars_impls.specs.Describes.{Making, Always, OfOne, OfTwo, OfAll, OfArray, IsMade, IsDescribed, places_of}
-use Rattle.schemars_impls.specs.Dictionary.{Dictionary, Told, TypeRow, told_of, IsIn, IsTypeIn, IsTold, IsEntryOf, IsRowOf, Follows, Pending, staged, alone, of_one, of_two}
-use Rattle.schemars_impls.specs.Containers.{option_row, seq_row, set_row, map_row, array_row, PartRows, no_parts, and_parts, tuple_row, HasItems}
+use Rattle.schemars_impls.specs.Describes.{places_of}
+use Rattle.schemars_impls.specs.Dictionary.{Dictionary, Told, TypeRow, told_of, IsIn, IsTold, IsEntryOf, IsRowOf, Follows, Pending, staged, alone, of_one, of_two}
+use Rattle.schemars_impls.specs.Containers.{option_row, seq_row, set_row, map_row, array_row, PartRows, tuple_row, HasItems}
 use Rattle.schemars_impls.specs.Keeps.{Keeps}
 use Rattle.schemars_impls.proofs.Keeping.{place_of-kept}
-use Rattle.schemars_described.specs.Told.{Tells, OfItems, AreAsTold, IsToldIn, telling, two_fields, single_row, pair_row, triple_row, quadruple_row}
+use Rattle.schemars_described.specs.Told.{Tells, OfItems, AreAsTold, IsToldIn, telling, two_entry, two_fields, single_row, pair_row, triple_row, quadruple_row}
 
 -- ---- a table that follows a dictionary
 
@@ -60,12 +60,14 @@ made_of_one make (Some m) e made = (m, refl, cc)
 
 -- ---- types without parts
 
-pub alone_in : (id name : Text) (inline : Bool) (e : Entry) (d : Dictionary) → Tells (alone id name inline e) d → IsIn (alone id name inline e) d
+pub alone_in : (id name : Text) (inline : Bool) (e : Entry) (d : Dictionary) → Tells (alone id name inline e) d
+    → IsIn (alone id name inline e) d
 unfolding alone
 alone_in id name inline e d tells = tells_in (alone id name inline e) d tells tt
 
-pub alone_row : (id name : Text) (inline : Bool) (s : Shape) (d : Dictionary) (rows : List Row) (n : ℕ) → Tells (alone id name inline (in_place s)) d
-    → AreAsTold d.told rows → IsChecked rows → place_of (alone id name inline (in_place s)).id rows ≡ Some n → HasShape rows n s
+pub alone_row : (id name : Text) (inline : Bool) (s : Shape) (d : Dictionary) (rows : List Row) (n : ℕ)
+    → Tells (alone id name inline (in_place s)) d → AreAsTold d.told rows → IsChecked rows
+    → place_of (alone id name inline (in_place s)).id rows ≡ Some n → HasShape rows n s
 unfolding alone
 alone_row id name inline s d rows n tells are checked there =
     let r = row_of (alone id name inline (in_place s)) d rows n tells are checked there in
@@ -73,7 +75,8 @@ alone_row id name inline s d rows n tells are checked there =
 
 -- ---- types of one part
 
-pub one_in : (id name : Text) (inline : Bool) (make : ℕ → Entry) (part : TypeRow) (d : Dictionary) → Tells (of_one id name inline make part) d
+pub one_in : (id name : Text) (inline : Bool) (make : ℕ → Entry) (part : TypeRow) (d : Dictionary)
+    → Tells (of_one id name inline make part) d
     → IsIn part (staged (of_one id name inline make part).id Pending d) → IsIn (of_one id name inline make part) d
 unfolding of_one
 one_in id name inline make part d tells is = tells_in (of_one id name inline make part) d tells is
@@ -89,7 +92,8 @@ one_row id name inline f part d rows n tells are checked there =
     let p = made_of_one (λ k. in_place (f k)) (place_of part.id rows) r.described.given r.described.made in
     (p.0, p.1, has_shape t rows n (f p.0) r p.2)
 
-pub option_in : (t : TypeRow) (d : Dictionary) → Tells (option_row t) d → IsIn t (staged (option_row t).id Pending d) → IsIn (option_row t) d
+pub option_in : (t : TypeRow) (d : Dictionary) → Tells (option_row t) d
+    → IsIn t (staged (option_row t).id Pending d) → IsIn (option_row t) d
 unfolding option_row
 option_in t d tells part = one_in _ _ _ _ t d tells part
 
@@ -100,7 +104,8 @@ unfolding option_row
 option_at t R d rows n tells are checked there part =
     let r = one_row _ _ _ option t d rows n tells are checked there in (r.0, r.2, part r.0 r.1)
 
-pub seq_in : (t : TypeRow) (d : Dictionary) → Tells (seq_row t) d → IsIn t (staged (seq_row t).id Pending d) → IsIn (seq_row t) d
+pub seq_in : (t : TypeRow) (d : Dictionary) → Tells (seq_row t) d
+    → IsIn t (staged (seq_row t).id Pending d) → IsIn (seq_row t) d
 unfolding seq_row
 seq_in t d tells part = one_in _ _ _ _ t d tells part
 
@@ -111,7 +116,8 @@ unfolding seq_row
 seq_at t R d rows n tells are checked there part =
     let r = one_row _ _ _ seq t d rows n tells are checked there in (r.0, r.2, part r.0 r.1)
 
-pub set_in : (t : TypeRow) (d : Dictionary) → Tells (set_row t) d → IsIn t (staged (set_row t).id Pending d) → IsIn (set_row t) d
+pub set_in : (t : TypeRow) (d : Dictionary) → Tells (set_row t) d
+    → IsIn t (staged (set_row t).id Pending d) → IsIn (set_row t) d
 unfolding set_row
 set_in t d tells part = one_in _ _ _ _ t d tells part
 
@@ -143,9 +149,13 @@ pub two_row : (id name : Text) (inline : Bool) (make : ℕ → ℕ → Entry) (t
 unfolding of_two
 two_row id name inline make t u d rows n tells are checked there =
     let r = row_of (of_two id name inline make t u) d rows n tells are checked there in
-    let p = made_of_two make (place_of t.id rows) (place_of u.id rows) r.described.given r.described.made in
-    (p.0, p.1, p.2, p.3,
-    (r.entry, r.is, ap (λ (e : Entry). e.shape) r.described.is ∙ ap (λ (e : Entry). e.shape) p.4))
+    let p = made_of_two make (place_of t.id rows) (place_of u.id rows) r.described.given r.described.made in (
+      p.0,
+      p.1,
+      p.2,
+      p.3,
+      (r.entry, r.is, ap (λ (e : Entry). e.shape) r.described.is ∙ ap (λ (e : Entry). e.shape) p.4),
+    )
 
 pub map_in : (key t : TypeRow) (d : Dictionary) → Tells (map_row key t) d → IsIn key (staged (map_row key t).id Pending d)
     → IsIn t (staged (map_row key t).id Pending d) → IsIn (map_row key t) d
@@ -239,8 +249,8 @@ pub single_at : (t : TypeRow) (T : List Row → ℕ → Type 0) (d : Dictionary)
     → (a : ℕ) × HasShape rows n (tuple (a ∷ [])) × T rows a
 single_at t T d rows n tells are checked there is_t =
     let p = tuple_at _ d rows n tells are checked there in
-    let a = next_place t.id ([]) rows p.0 p.1 in
-    let is : p.0 ≡ a.0 ∷ [] = longer a.0 p.0 a.1 ([]) a.4 (no_place rows a.1 a.3) in
+    let a = next_place t.id [] rows p.0 p.1 in
+    let is : p.0 ≡ a.0 ∷ [] = longer a.0 p.0 a.1 [] a.4 (no_place rows a.1 a.3) in
     (a.0, has_tuple rows n p.0 (a.0 ∷ []) is p.2, is_t a.0 a.2)
 
 pub pair_at : (t u : TypeRow) (T U : List Row → ℕ → Type 0) (d : Dictionary) (rows : List Row) (n : ℕ)
@@ -251,8 +261,8 @@ pub pair_at : (t u : TypeRow) (T U : List Row → ℕ → Type 0) (d : Dictionar
 pair_at t u T U d rows n tells are checked there is_t is_u =
     let p = tuple_at _ d rows n tells are checked there in
     let a = next_place t.id (u.id ∷ []) rows p.0 p.1 in
-    let b = next_place u.id ([]) rows a.1 a.3 in
-    let is : p.0 ≡ a.0 ∷ b.0 ∷ [] = longer a.0 p.0 a.1 (b.0 ∷ []) a.4 (longer b.0 a.1 b.1 ([]) b.4 (no_place rows b.1 b.3)) in
+    let b = next_place u.id [] rows a.1 a.3 in
+    let is : p.0 ≡ a.0 ∷ b.0 ∷ [] = longer a.0 p.0 a.1 (b.0 ∷ []) a.4 (longer b.0 a.1 b.1 [] b.4 (no_place rows b.1 b.3)) in
     (a.0, b.0, has_tuple rows n p.0 (a.0 ∷ b.0 ∷ []) is p.2, is_t a.0 a.2, is_u b.0 b.2)
 
 pub triple_at : (t u v : TypeRow) (T U V : List Row → ℕ → Type 0) (d : Dictionary) (rows : List Row) (n : ℕ)
@@ -265,8 +275,11 @@ triple_at t u v T U V d rows n tells are checked there is_t is_u is_v =
     let p = tuple_at _ d rows n tells are checked there in
     let a = next_place t.id (u.id ∷ v.id ∷ []) rows p.0 p.1 in
     let b = next_place u.id (v.id ∷ []) rows a.1 a.3 in
-    let c = next_place v.id ([]) rows b.1 b.3 in
-    let is : p.0 ≡ a.0 ∷ b.0 ∷ c.0 ∷ [] = longer a.0 p.0 a.1 (b.0 ∷ c.0 ∷ []) a.4 (longer b.0 a.1 b.1 (c.0 ∷ []) b.4 (longer c.0 b.1 c.1 ([]) c.4 (no_place rows c.1 c.3))) in
+    let c = next_place v.id [] rows b.1 b.3 in
+    let no : c.1 ≡ [] = no_place rows c.1 c.3 in
+    let from_c : b.1 ≡ c.0 ∷ [] = longer c.0 b.1 c.1 [] c.4 no in
+    let from_b : a.1 ≡ b.0 ∷ c.0 ∷ [] = longer b.0 a.1 b.1 (c.0 ∷ []) b.4 from_c in
+    let is : p.0 ≡ a.0 ∷ b.0 ∷ c.0 ∷ [] = longer a.0 p.0 a.1 (b.0 ∷ c.0 ∷ []) a.4 from_b in
     (a.0, b.0, c.0, has_tuple rows n p.0 (a.0 ∷ b.0 ∷ c.0 ∷ []) is p.2, is_t a.0 a.2, is_u b.0 b.2, is_v c.0 c.2)
 
 pub quadruple_at : (t u v w : TypeRow) (T U V W : List Row → ℕ → Type 0) (d : Dictionary) (rows : List Row) (n : ℕ)
@@ -281,8 +294,12 @@ quadruple_at t u v w T U V W d rows n tells are checked there is_t is_u is_v is_
     let a = next_place t.id (u.id ∷ v.id ∷ w.id ∷ []) rows p.0 p.1 in
     let b = next_place u.id (v.id ∷ w.id ∷ []) rows a.1 a.3 in
     let c = next_place v.id (w.id ∷ []) rows b.1 b.3 in
-    let d = next_place w.id ([]) rows c.1 c.3 in
-    let is : p.0 ≡ a.0 ∷ b.0 ∷ c.0 ∷ d.0 ∷ [] = longer a.0 p.0 a.1 (b.0 ∷ c.0 ∷ d.0 ∷ []) a.4 (longer b.0 a.1 b.1 (c.0 ∷ d.0 ∷ []) b.4 (longer c.0 b.1 c.1 (d.0 ∷ []) c.4 (longer d.0 c.1 d.1 ([]) d.4 (no_place rows d.1 d.3)))) in
+    let d = next_place w.id [] rows c.1 c.3 in
+    let no : d.1 ≡ [] = no_place rows d.1 d.3 in
+    let from_d : c.1 ≡ d.0 ∷ [] = longer d.0 c.1 d.1 [] d.4 no in
+    let from_c : b.1 ≡ c.0 ∷ d.0 ∷ [] = longer c.0 b.1 c.1 (d.0 ∷ []) c.4 from_d in
+    let from_b : a.1 ≡ b.0 ∷ c.0 ∷ d.0 ∷ [] = longer b.0 a.1 b.1 (c.0 ∷ d.0 ∷ []) b.4 from_c in
+    let is : p.0 ≡ a.0 ∷ b.0 ∷ c.0 ∷ d.0 ∷ [] = longer a.0 p.0 a.1 (b.0 ∷ c.0 ∷ d.0 ∷ []) a.4 from_b in
     (a.0, b.0, c.0, d.0, has_tuple rows n p.0 (a.0 ∷ b.0 ∷ c.0 ∷ d.0 ∷ []) is p.2, is_t a.0 a.2, is_u b.0 b.2, is_v c.0 c.2, is_w d.0 d.2)
 
 -- ---- structs
@@ -293,24 +310,26 @@ pub two_fields_at : (name first second : Text) (t u : TypeRow) (T U : List Row �
     → HasFields rows n (NextField first (T rows) (NextField second (U rows) LastField))
 two_fields_at name first second t u T U d rows n tells are checked there is_t is_u =
     let r = row_of (two_fields name first t second u) d rows n tells are checked there in
-    let p = made_of_two (λ a b. without_notes false (struct (bare_fields (needed first a ∷ (needed second b ∷ [])) true)))
-    (place_of t.id rows) (place_of u.id rows) r.described.given r.described.made in
-    (needed first p.0 ∷ (needed second p.1 ∷ []), true,
-    (r.entry, r.is, ap (λ (e : Entry). e.shape) r.described.is ∙ ap (λ (e : Entry). e.shape) p.4),
-    (refl, is_t p.0 p.2, (refl, is_u p.1 p.3, tt)))
+    let p = made_of_two (λ a b. two_entry first second a b)
+    (place_of t.id rows) (place_of u.id rows) r.described.given r.described.made in (
+      needed first p.0 ∷ (needed second p.1 ∷ []),
+      true,
+      (r.entry, r.is, ap (λ (e : Entry). e.shape) r.described.is ∙ ap (λ (e : Entry). e.shape) p.4),
+      (refl, is_t p.0 p.2, (refl, is_u p.1 p.3, tt)),
+    )
 
 -- what is made by adding the fields one after another
 pub two_fields_made : (a b first second : Text) (old new : List Row) (f1 f2 : List Field)
     → option_map (λ n. needed first n ∷ []) (place_of a old) ≡ Some f1 → Keeps old new
     → option_map (λ m. f1 ++ needed second m ∷ []) (place_of b new) ≡ Some f2
-    → option_and_then (λ n. option_map (λ m. without_notes false (struct (bare_fields (needed first n ∷ (needed second m ∷ [])) true)))
+    → option_and_then (λ n. option_map (λ m. two_entry first second n m)
     (place_of b new)) (place_of a new) ≡ Some (without_notes false (struct (bare_fields f2 true)))
 two_fields_made a b first second old new f1 f2 one kept two =
     go (place_of a old) (place_of b new) one two (λ n is. place_of-kept a n kept is)
   where
     go : (o p : Option ℕ) → option_map (λ n. needed first n ∷ []) o ≡ Some f1 → option_map (λ m. f1 ++ needed second m ∷ []) p ≡ Some f2
         → ((n : ℕ) → o ≡ Some n → place_of a new ≡ Some n)
-        → option_and_then (λ n. option_map (λ m. without_notes false (struct (bare_fields (needed first n ∷ (needed second m ∷ [])) true))) p)
+        → option_and_then (λ n. option_map (λ m. two_entry first second n m) p)
         (place_of a new) ≡ Some (without_notes false (struct (bare_fields f2 true)))
     go None p h k same = cc
     go (Some n) None h k same = cc

@@ -21,6 +21,6 @@ pub trait AgreesAsDescribed: Agrees + JsonSchema {
     ghost is_in: { (d : Dictionary) → is_told d → IsIn Self.says d };
 
     // The row with the type's id is one that describes it.
-    ghost described: { (d : Dictionary) (rows : List Row) (n : ℕ) → is_told d → AreAsTold d.told rows
-        → IsChecked rows → place_of Self.says.id rows ≡ Some n → Self.is_row rows n };
+    ghost described: { (d : Dictionary) (rows : List Row) (n : ℕ) → is_told d
+        → AreAsTold d.told rows → IsChecked rows → place_of Self.says.id rows ≡ Some n → Self.is_row rows n };
 }

@@ -24,7 +24,8 @@ pub fn register_described<T: AgreesAsDescribed>(
     requires told { IsToldIn T.is_told types.old }
     ensures keeps { Keeps types.old types.new }
     ensures checked { OnOk result (IsChecked types.new) }
-    ensures number { IfOk result (λ n. (place_of T.says.id types.new ≡ Some n) × (n < length types.new)) }
+    ensures number { IfOk result
+        (λ n. (place_of T.says.id types.new ≡ Some n) × (n < length types.new)) }
     ensures row { IfOk result (λ n. T.is_row types.new n) }
     ensures follows { OnOk result (KeepsTo (IsIn T.says) types.old types.new) }
     ensures refused { IfErr result (Refuses T.says types.old types.new) }

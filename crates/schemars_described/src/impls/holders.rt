@@ -26,8 +26,8 @@ impl<T: AgreesAsDescribed> AgreesAsDescribed for Option<T> {
 
     ghost is_in = { λ d told. option_in T.says d told.0 (T.is_in _ told.1) };
 
-    ghost described = { λ d rows n told are checked there. option_at T.says T.is_row d rows n told.0 are
-        checked there (λ m at. T.described _ rows m told.1 are checked at) };
+    ghost described = { λ d rows n told are checked there. option_at T.says T.is_row
+        d rows n told.0 are checked there (λ m at. T.described _ rows m told.1 are checked at) };
 }
 
 impl<T: AgreesAsDescribed> AgreesAsDescribed for Vec<T> {
@@ -37,8 +37,8 @@ impl<T: AgreesAsDescribed> AgreesAsDescribed for Vec<T> {
 
     ghost is_in = { λ d told. seq_in T.says d told.0 (T.is_in _ told.1) };
 
-    ghost described = { λ d rows n told are checked there. seq_at T.says T.is_row d rows n told.0 are
-        checked there (λ m at. T.described _ rows m told.1 are checked at) };
+    ghost described = { λ d rows n told are checked there. seq_at T.says T.is_row
+        d rows n told.0 are checked there (λ m at. T.described _ rows m told.1 are checked at) };
 }
 
 impl<T: AgreesAsDescribed> AgreesAsDescribed for VecDeque<T> {
@@ -48,8 +48,8 @@ impl<T: AgreesAsDescribed> AgreesAsDescribed for VecDeque<T> {
 
     ghost is_in = { λ d told. seq_in T.says d told.0 (T.is_in _ told.1) };
 
-    ghost described = { λ d rows n told are checked there. seq_at T.says T.is_row d rows n told.0 are
-        checked there (λ m at. T.described _ rows m told.1 are checked at) };
+    ghost described = { λ d rows n told are checked there. seq_at T.says T.is_row
+        d rows n told.0 are checked there (λ m at. T.described _ rows m told.1 are checked at) };
 }
 
 impl<T: AgreesAsDescribed + TellsApart> AgreesAsDescribed for BTreeSet<T> {
@@ -59,8 +59,8 @@ impl<T: AgreesAsDescribed + TellsApart> AgreesAsDescribed for BTreeSet<T> {
 
     ghost is_in = { λ d told. set_in T.says d told.0 (T.is_in _ told.1) };
 
-    ghost described = { λ d rows n told are checked there. set_at T.says T.is_row d rows n told.0 are
-        checked there (λ m at. T.described _ rows m told.1 are checked at) };
+    ghost described = { λ d rows n told are checked there. set_at T.says T.is_row
+        d rows n told.0 are checked there (λ m at. T.described _ rows m told.1 are checked at) };
 }
 
 impl<T: AgreesAsDescribed + TellsApart + Hash, S: BuildHasher> AgreesAsDescribed for HashSet<T, S> {
@@ -70,8 +70,8 @@ impl<T: AgreesAsDescribed + TellsApart + Hash, S: BuildHasher> AgreesAsDescribed
 
     ghost is_in = { λ d told. set_in T.says d told.0 (T.is_in _ told.1) };
 
-    ghost described = { λ d rows n told are checked there. set_at T.says T.is_row d rows n told.0 are
-        checked there (λ m at. T.described _ rows m told.1 are checked at) };
+    ghost described = { λ d rows n told are checked there. set_at T.says T.is_row
+        d rows n told.0 are checked there (λ m at. T.described _ rows m told.1 are checked at) };
 }
 
 /// The row of an array of no items does not refer to that of the items.
@@ -82,6 +82,7 @@ impl<T: AgreesAsDescribed, const N: usize> AgreesAsDescribed for [T; N] {
 
     ghost is_in = { λ d told. array_in T.says N T.is_told d told.0 T.is_in told.1 };
 
-    ghost described = { λ d rows n told are checked there. array_at T.says N T.is_row T.is_told d rows n
-        told.0 told.1 are checked there (λ m of at. T.described _ rows m of are checked at) };
+    ghost described = { λ d rows n told are checked there. array_at T.says N T.is_row
+        T.is_told d rows n told.0 told.1 are checked there
+        (λ m of at. T.described _ rows m of are checked at) };
 }

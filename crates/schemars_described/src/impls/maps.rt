@@ -21,7 +21,8 @@ impl<T: AgreesAsDescribed> AgreesAsDescribed for BTreeMap<String, T> {
     ghost is_in = { λ d told. map_in ⟦<String as JsonSchema>⟧.says T.says d told.0
         (alone_in _ _ _ _ _ told.1.0) (T.is_in _ told.1.1) };
 
-    ghost described = { λ d rows n told are checked there. map_at ⟦<String as JsonSchema>⟧.says T.says
+    ghost described = { λ d rows n told are checked there. map_at
+        ⟦<String as JsonSchema>⟧.says T.says
         (λ rows n. HasShape rows n shape.text) T.is_row d rows n told.0 are checked there
         (λ m at. alone_row _ _ _ _ _ rows m told.1.0 are checked at)
         (λ m at. T.described _ rows m told.1.1 are checked at) };
@@ -37,7 +38,8 @@ impl<T: AgreesAsDescribed, S: BuildHasher> AgreesAsDescribed for HashMap<String,
     ghost is_in = { λ d told. map_in ⟦<String as JsonSchema>⟧.says T.says d told.0
         (alone_in _ _ _ _ _ told.1.0) (T.is_in _ told.1.1) };
 
-    ghost described = { λ d rows n told are checked there. map_at ⟦<String as JsonSchema>⟧.says T.says
+    ghost described = { λ d rows n told are checked there. map_at
+        ⟦<String as JsonSchema>⟧.says T.says
         (λ rows n. HasShape rows n shape.text) T.is_row d rows n told.0 are checked there
         (λ m at. alone_row _ _ _ _ _ rows m told.1.0 are checked at)
         (λ m at. T.described _ rows m told.1.1 are checked at) };

@@ -11,9 +11,9 @@ impl AgreesAsDescribed for () {
 
     ghost is_told = { Tells ⟦<() as JsonSchema>⟧.says };
 
-    ghost is_in = { λ d told. alone_in _ _ _ _ d told };
+    ghost is_in = { alone_in _ _ _ _ };
 
-    ghost described = { λ d rows n told are checked there. alone_row _ _ _ _ d rows n told are checked there };
+    ghost described = { alone_row _ _ _ _ };
 }
 
 impl AgreesAsDescribed for bool {
@@ -21,9 +21,9 @@ impl AgreesAsDescribed for bool {
 
     ghost is_told = { Tells ⟦<bool as JsonSchema>⟧.says };
 
-    ghost is_in = { λ d told. alone_in _ _ _ _ d told };
+    ghost is_in = { alone_in _ _ _ _ };
 
-    ghost described = { λ d rows n told are checked there. alone_row _ _ _ _ d rows n told are checked there };
+    ghost described = { alone_row _ _ _ _ };
 }
 
 impl AgreesAsDescribed for char {
@@ -31,9 +31,9 @@ impl AgreesAsDescribed for char {
 
     ghost is_told = { Tells ⟦<char as JsonSchema>⟧.says };
 
-    ghost is_in = { λ d told. alone_in _ _ _ _ d told };
+    ghost is_in = { alone_in _ _ _ _ };
 
-    ghost described = { λ d rows n told are checked there. alone_row _ _ _ _ d rows n told are checked there };
+    ghost described = { alone_row _ _ _ _ };
 }
 
 impl AgreesAsDescribed for String {
@@ -41,9 +41,9 @@ impl AgreesAsDescribed for String {
 
     ghost is_told = { Tells ⟦<String as JsonSchema>⟧.says };
 
-    ghost is_in = { λ d told. alone_in _ _ _ _ d told };
+    ghost is_in = { alone_in _ _ _ _ };
 
-    ghost described = { λ d rows n told are checked there. alone_row _ _ _ _ d rows n told are checked there };
+    ghost described = { alone_row _ _ _ _ };
 }
 
 impl AgreesAsDescribed for u8 {
@@ -51,9 +51,9 @@ impl AgreesAsDescribed for u8 {
 
     ghost is_told = { Tells ⟦<u8 as JsonSchema>⟧.says };
 
-    ghost is_in = { λ d told. alone_in _ _ _ _ d told };
+    ghost is_in = { alone_in _ _ _ _ };
 
-    ghost described = { λ d rows n told are checked there. alone_row _ _ _ _ d rows n told are checked there };
+    ghost described = { alone_row _ _ _ _ };
 }
 
 impl AgreesAsDescribed for u16 {
@@ -61,9 +61,9 @@ impl AgreesAsDescribed for u16 {
 
     ghost is_told = { Tells ⟦<u16 as JsonSchema>⟧.says };
 
-    ghost is_in = { λ d told. alone_in _ _ _ _ d told };
+    ghost is_in = { alone_in _ _ _ _ };
 
-    ghost described = { λ d rows n told are checked there. alone_row _ _ _ _ d rows n told are checked there };
+    ghost described = { alone_row _ _ _ _ };
 }
 
 impl AgreesAsDescribed for u32 {
@@ -71,9 +71,9 @@ impl AgreesAsDescribed for u32 {
 
     ghost is_told = { Tells ⟦<u32 as JsonSchema>⟧.says };
 
-    ghost is_in = { λ d told. alone_in _ _ _ _ d told };
+    ghost is_in = { alone_in _ _ _ _ };
 
-    ghost described = { λ d rows n told are checked there. alone_row _ _ _ _ d rows n told are checked there };
+    ghost described = { alone_row _ _ _ _ };
 }
 
 impl AgreesAsDescribed for u64 {
@@ -81,9 +81,9 @@ impl AgreesAsDescribed for u64 {
 
     ghost is_told = { Tells ⟦<u64 as JsonSchema>⟧.says };
 
-    ghost is_in = { λ d told. alone_in _ _ _ _ d told };
+    ghost is_in = { alone_in _ _ _ _ };
 
-    ghost described = { λ d rows n told are checked there. alone_row _ _ _ _ d rows n told are checked there };
+    ghost described = { alone_row _ _ _ _ };
 }
 
 impl AgreesAsDescribed for u128 {
@@ -91,9 +91,9 @@ impl AgreesAsDescribed for u128 {
 
     ghost is_told = { Tells ⟦<u128 as JsonSchema>⟧.says };
 
-    ghost is_in = { λ d told. alone_in _ _ _ _ d told };
+    ghost is_in = { alone_in _ _ _ _ };
 
-    ghost described = { λ d rows n told are checked there. alone_row _ _ _ _ d rows n told are checked there };
+    ghost described = { alone_row _ _ _ _ };
 }
 
 impl AgreesAsDescribed for usize {
@@ -101,9 +101,9 @@ impl AgreesAsDescribed for usize {
 
     ghost is_told = { Tells ⟦<usize as JsonSchema>⟧.says };
 
-    ghost is_in = { λ d told. alone_in _ _ _ _ d told };
+    ghost is_in = { alone_in _ _ _ _ };
 
-    ghost described = { λ d rows n told are checked there. alone_row _ _ _ _ d rows n told are checked there };
+    ghost described = { alone_row _ _ _ _ };
 }
 
 impl AgreesAsDescribed for i8 {
@@ -111,9 +111,9 @@ impl AgreesAsDescribed for i8 {
 
     ghost is_told = { Tells ⟦<i8 as JsonSchema>⟧.says };
 
-    ghost is_in = { λ d told. alone_in _ _ _ _ d told };
+    ghost is_in = { alone_in _ _ _ _ };
 
-    ghost described = { λ d rows n told are checked there. alone_row _ _ _ _ d rows n told are checked there };
+    ghost described = { alone_row _ _ _ _ };
 }
 
 impl AgreesAsDescribed for i16 {
@@ -121,9 +121,9 @@ impl AgreesAsDescribed for i16 {
 
     ghost is_told = { Tells ⟦<i16 as JsonSchema>⟧.says };
 
-    ghost is_in = { λ d told. alone_in _ _ _ _ d told };
+    ghost is_in = { alone_in _ _ _ _ };
 
-    ghost described = { λ d rows n told are checked there. alone_row _ _ _ _ d rows n told are checked there };
+    ghost described = { alone_row _ _ _ _ };
 }
 
 impl AgreesAsDescribed for i32 {
@@ -131,9 +131,9 @@ impl AgreesAsDescribed for i32 {
 
     ghost is_told = { Tells ⟦<i32 as JsonSchema>⟧.says };
 
-    ghost is_in = { λ d told. alone_in _ _ _ _ d told };
+    ghost is_in = { alone_in _ _ _ _ };
 
-    ghost described = { λ d rows n told are checked there. alone_row _ _ _ _ d rows n told are checked there };
+    ghost described = { alone_row _ _ _ _ };
 }
 
 impl AgreesAsDescribed for i64 {
@@ -141,9 +141,9 @@ impl AgreesAsDescribed for i64 {
 
     ghost is_told = { Tells ⟦<i64 as JsonSchema>⟧.says };
 
-    ghost is_in = { λ d told. alone_in _ _ _ _ d told };
+    ghost is_in = { alone_in _ _ _ _ };
 
-    ghost described = { λ d rows n told are checked there. alone_row _ _ _ _ d rows n told are checked there };
+    ghost described = { alone_row _ _ _ _ };
 }
 
 impl AgreesAsDescribed for i128 {
@@ -151,9 +151,9 @@ impl AgreesAsDescribed for i128 {
 
     ghost is_told = { Tells ⟦<i128 as JsonSchema>⟧.says };
 
-    ghost is_in = { λ d told. alone_in _ _ _ _ d told };
+    ghost is_in = { alone_in _ _ _ _ };
 
-    ghost described = { λ d rows n told are checked there. alone_row _ _ _ _ d rows n told are checked there };
+    ghost described = { alone_row _ _ _ _ };
 }
 
 impl AgreesAsDescribed for isize {
@@ -161,7 +161,7 @@ impl AgreesAsDescribed for isize {
 
     ghost is_told = { Tells ⟦<isize as JsonSchema>⟧.says };
 
-    ghost is_in = { λ d told. alone_in _ _ _ _ d told };
+    ghost is_in = { alone_in _ _ _ _ };
 
-    ghost described = { λ d rows n told are checked there. alone_row _ _ _ _ d rows n told are checked there };
+    ghost described = { alone_row _ _ _ _ };
 }
