@@ -5,6 +5,6 @@ mod list;
 mod reading;
 mod reading_schema;
 
-pub use list::written_list;
+pub use list::{accepted_list, written_list};
 pub use reading::Reading;
 pub use reading_schema::written_reading;
