@@ -1,0 +1,4 @@
+-- The definitions that contracts cite.
+pub mod Told
+pub mod Laws
+pub mod Refused

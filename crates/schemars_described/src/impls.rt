@@ -1,0 +1,5 @@
+//! Implementations of `AgreesAsDescribed`.
+mod holders;
+mod maps;
+mod primitives;
+mod tuples;
