@@ -73,8 +73,7 @@ Tells {A} V cmp shown = (x y : A) → V x → V y → cmp x y ≡ Less → json_
 abbrev DiffersFrom : {A : Type 0} → (A → Data) → A → List A → Type 0
 DiffersFrom shown x ys = AllByRecursion (λ y. json_eq (shown y) (shown x) ≡ false) ys
 
-not_among : {A : Type 0} (shown : A → Data) (x : A) (ys : List A) → DiffersFrom shown x ys
-    → is_among (shown_items shown ys) (shown x) ≡ false
+not_among : {A : Type 0} (shown : A → Data) (x : A) (ys : List A) → DiffersFrom shown x ys → is_among (shown_items shown ys) (shown x) ≡ false
 not_among shown x [] all = refl
 not_among shown x (y ∷ ys) all =
     both_false (json_eq (shown y) (shown x)) (is_among (shown_items shown ys) (shown x)) all.0 (not_among shown x ys all.1)
@@ -82,8 +81,7 @@ not_among shown x (y ∷ ys) all =
 one_more : {A : Type 0} (shown : A → Data) (x : A) (xs : List A) → DiffersFrom shown x xs → are_distinct (shown_items shown xs) ≡ true
     → are_distinct (shown_items shown (x ∷ xs)) ≡ true
 one_more shown x xs apart others =
-    both_true (not (is_among (shown_items shown xs) (shown x))) (are_distinct (shown_items shown xs))
-    (ap not (not_among shown x xs apart)) others
+    both_true (not (is_among (shown_items shown xs) (shown x))) (are_distinct (shown_items shown xs)) (ap not (not_among shown x xs apart)) others
 
 -- a value that is below them all
 below_all : {A : Type 0} (V : A → Type 0) (cmp : A → A → Ordering) (shown : A → Data) → Tells V cmp shown → (x : A) → V x
