@@ -7,7 +7,7 @@ use Rattle.schemars_types.specs.Rows.{Row, place_of, entry_at}
 use Rattle.schemars_types.specs.Faults.{Refusal}
 use Rattle.schemars_types.specs.declared.error.TypesError.{TypesError}
 use Rattle.schemars_types.specs.declared.error.TypesError.TheVariants.{OutOfMemory}
-use Rattle.schemars_impls.specs.Dictionary.{Dictionary, Told, TypeRow, told_of, IsFree, IsEntryOf, Follows, IsIn, Open, Pending, RefusesType, staged}
+use Rattle.schemars_impls.specs.Dictionary.{Dictionary, Told, TypeRow, told_of, IsFree, IsEntryOf, Follows, IsAdded, IsIn, KeepsTo, Open, Pending, RefusesType, staged}
 use Rattle.schemars_impls.specs.Containers.{tuple_row, and_parts, no_parts}
 
 -- The dictionary tells of this type's row what the type says, and the row is not being described.
@@ -80,6 +80,13 @@ pub record IsToldIn (told : Dictionary → Type 0) (rows : List Row) : Type 0 wh
   pub tells : told dictionary
   pub follows : Follows dictionary rows
 
+-- A type that says so has row n of this table, which keeps to the dictionaries in which the type is, and the table has this fault.
+pub record IsFaulty (t : TypeRow) (old new : List Row) (e : TypesError) : Type 0 where
+  pub n : ℕ
+  pub added : IsAdded t old new n
+  pub follows : KeepsTo (IsIn t) old new
+  pub fault : Refusal new e
+
 -- A type that says so is not registered, or the table that it was registered in has this fault, unless memory runs out.
 pub record Refuses (t : TypeRow) (old new : List Row) (e : TypesError) : Type 0 where
-  pub cause : RefusesType t old e ⊎ ((e ≡ OutOfMemory) ⊎ Refusal new e)
+  pub cause : RefusesType t old e ⊎ ((e ≡ OutOfMemory) ⊎ IsFaulty t old new e)
