@@ -24,4 +24,8 @@ keyword_names =
     ∷ codes "minItems" ∷ codes "maxItems" ∷ codes "uniqueItems" ∷ codes "prefixItems" ∷ codes "items" ∷ codes "additionalItems"
     ∷ codes "required" ∷ codes "properties"
     ∷ codes "patternProperties" ∷ codes "additionalProperties" ∷ codes "allOf" ∷ codes "anyOf" ∷ codes "oneOf" ∷ codes "not"
-    ∷ codes "unevaluatedProperties" ∷ []
+    ∷ codes "unevaluatedProperties" ∷ codes "exclusiveMinimum" ∷ codes "exclusiveMaximum" ∷ codes "contains" ∷ codes "minContains"
+    ∷ codes "maxContains"
+    ∷ codes "minProperties" ∷ codes "maxProperties" ∷ codes "dependentRequired" ∷ codes "dependentSchemas"
+    ∷ codes "propertyNames" ∷ codes "if" ∷ codes "then"
+    ∷ codes "else" ∷ []
