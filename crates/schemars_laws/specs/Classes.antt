@@ -1,5 +1,5 @@
 -- Which schema objects the laws speak of, and the dialects that they lead from and to.
-use Rattle.std.specs.Prelude.{◌≡◌, ◌⊎◌, ◌&&◌, Option, Some, None, Bool, true, false, bytes_eq, codes, ◌==◌}
+use Rattle.std.specs.Prelude.{◌≡◌, ◌⊎◌, ◌&&◌, List, [], ◌∷◌, Option, Some, None, Bool, true, false, bytes_eq, codes, ◌==◌}
 use Rattle.serde_json.specs.Data.{Data, null, boolean, number, string, array, object, Items, no_items, item, Members}
 use Rattle.serde_json.specs.Events.{members_len}
 use Rattle.serde_json.specs.Find.{get_member}
@@ -73,9 +73,23 @@ IsSchemaList (Some (object ms)) = ⊥
 
 -- ---- schema objects
 
--- `const` occurs once, and not beside `enum`
+-- none of these keywords is there
+abbrev pub HasNone : List Text → Members → Type 0
+HasNone [] ms = Unit {0}
+HasNone (k ∷ ks) ms = (get_member k ms ≡ None) × HasNone ks ms
+
+-- the keywords beside `const` that came with Drafts 6 and 7 (`then` and `else` say nothing without `if`)
+abbrev pub of_draft06 : List Text
+of_draft06 = codes "exclusiveMinimum" ∷ codes "exclusiveMaximum" ∷ codes "contains" ∷ codes "propertyNames" ∷ codes "if" ∷ []
+
+-- the keywords beside `unevaluatedProperties` that came with Draft 2019-09
+abbrev pub of_draft2019_09 : List Text
+of_draft2019_09 = codes "minContains" ∷ codes "maxContains" ∷ codes "dependentRequired" ∷ codes "dependentSchemas" ∷ []
+
+-- `const` occurs once, and not beside `enum`, nor is there another keyword that came with it
 abbrev pub IsConstAlone : Members → Type 0
-IsConstAlone ms = IsOnce (codes "const") ms × ((get_member (codes "const") ms ≡ None) ⊎ (get_member (codes "enum") ms ≡ None))
+IsConstAlone ms =
+    IsOnce (codes "const") ms × ((get_member (codes "const") ms ≡ None) ⊎ (get_member (codes "enum") ms ≡ None)) × HasNone of_draft06 ms
 
 -- `prefixItems` occurs once and is a list of schemas, `items` is not a list, and there are no `additionalItems`
 abbrev pub HasPlainItems : Members → Type 0
@@ -98,9 +112,10 @@ HasPlainType ms =
 abbrev pub IsReferenceAlone : Members → Type 0
 IsReferenceAlone ms = (get_member (codes "$ref") ms ≡ None) ⊎ ((members_len ms == 1) ≡ true)
 
--- there are no `unevaluatedProperties`
+-- there are no `unevaluatedProperties`, nor another keyword that came with them
 abbrev pub HasNoUnevaluated : Members → Type 0
-HasNoUnevaluated ms = IsOnce (codes "unevaluatedProperties") ms × (get_member (codes "unevaluatedProperties") ms ≡ None)
+HasNoUnevaluated ms =
+    IsOnce (codes "unevaluatedProperties") ms × (get_member (codes "unevaluatedProperties") ms ≡ None) × HasNone of_draft2019_09 ms
 
 -- of documents for Draft 7
 abbrev pub IsDraft07 : Members → Type 0

@@ -33,11 +33,12 @@ IsNoObject (Some (string s)) = Unit {0}
 IsNoObject (Some (array ds)) = Unit {0}
 IsNoObject (Some (object ms)) = ⊥
 
--- if the dialect reads `unevaluatedProperties`, its value is not a schema object, since a walk does not lead to it
+-- if the dialect reads `unevaluatedProperties` and `dependentSchemas`, their values are no objects, since a walk does not lead to them
 abbrev pub HasPlainUnevaluated : Dialect → Members → Type 0
-HasPlainUnevaluated d ms = d.reads_unevaluated ≡ true → IsNoObject (get_member (codes "unevaluatedProperties") ms)
+HasPlainUnevaluated d ms = d.reads_unevaluated ≡ true
+    → IsNoObject (get_member (codes "unevaluatedProperties") ms) × IsNoObject (get_member (codes "dependentSchemas") ms)
 
--- a schema object with such a reference and such `unevaluatedProperties`, of which Q holds
+-- a schema object with such a reference and such keywords, of which Q holds
 abbrev pub NamedBy : Dialect → (Text → Type 0) → (Members → Type 0) → Members → Type 0
 NamedBy d N Q ms = HasNameOf N ms × HasPlainUnevaluated d ms × Q ms
 
