@@ -1,5 +1,9 @@
 -- Which changes leave a schema object one that the laws of the drafts speak of.
 use Rattle.std.proofs.Common.{◌≡◌, ◌≢◌, ◌⊎◌, inl, inr, List, [], ◌∷◌, Option, Some, None, Bool, true, false, codes, refl, sym, ap, ◌∙◌, subst, true≢false}
+use Rattle.std.specs.Prelude.{◌++◌, not}
+use Rattle.std.proofs.lemmas.Slice.Eq.{bytes_eq-Decides}
+use Rattle.std.proofs.lemmas.Bool.{and_parts, not-true}
+use Rattle.std.proofs.Math.Bool.{or-true}
 use Rattle.schemars_headline.proofs.Words.{bytes_eq, if◌then◌else◌, ◌||◌, ◌&&◌, Data, null, boolean, number, string, array, object, Items, no_items, item, Members, no_members, member, put, get_member, get_member-put, get_member-put_other, Text, is_listed, IsSchema, members_in, put_members, AreNotes, without, replaced, holds_text, NoSchemas, place_under, draft2020_12, is_null, differ, is_null_choice, is_combined, or_null, allow_null, type_with_null, null_in_type, enum_with_null, null_in_enum, const_or_null, null_in_const, null_in_values, annotated, Everywhere, demanded, IsOnce, IsSchemaList, HasPlainItems, IsTextWith, Stands, IsForOpenApi, AreSomeTypes, absent-once, weaker}
 use Rattle.schemars_schema.specs.Annotations.{is_annotation}
 use Rattle.schemars_schema.specs.Edits.{with_item}
@@ -9,7 +13,7 @@ use Rattle.schemars_text.proofs.Members.{unequal}
 use Rattle.schemars_meaning.proofs.MapDocument.{noted_by, AllNotes}
 use Rattle.schemars_laws.specs.Everywhere.{asked, asked_of_keywords}
 use Rattle.schemars_laws.specs.Names.{IsNoObject, HasPlainUnevaluated}
-use Rattle.schemars_laws.specs.Classes.{AreTexts, is_null_alone, IsConstAlone, HasNoUnevaluated}
+use Rattle.schemars_laws.specs.Classes.{AreTexts, is_null_alone, HasNone, of_draft06, of_draft2019_09, IsConstAlone, HasNoUnevaluated}
 use Rattle.schemars_laws.specs.Stages.{HasSomeTypes}
 use Rattle.schemars_laws.proofs.Editing.{without-put, alike-put, alike-replaced, once-put, type-alike, values-alike, const-alike, stands-alike}
 use Rattle.schemars_laws.proofs.Looked.{without-other}
@@ -21,7 +25,7 @@ use Rattle.schemars_laws.proofs.Preserved.{asked-without, asked-put, asked-repla
 -- those that the laws of the drafts ask about
 abbrev pub watched : List Text
 watched = codes "$ref" ∷ codes "allOf" ∷ codes "prefixItems" ∷ codes "items" ∷ codes "additionalItems"
-    ∷ codes "unevaluatedProperties" ∷ codes "type" ∷ codes "nullable" ∷ codes "const" ∷ codes "enum" ∷ []
+    ∷ codes "unevaluatedProperties" ∷ codes "type" ∷ codes "nullable" ∷ codes "const" ∷ codes "enum" ∷ of_draft06 ++ of_draft2019_09
 
 abbrev pub IsWatched : Text → Type 0
 IsWatched k = is_listed k watched ≡ true
@@ -54,34 +58,88 @@ pub asked-nothing : (P : Members → Type 0) (k : Text) (d : Data) → place_und
     → demanded (place_under k) (asked P d)
 asked-nothing P k d is = subst (λ p. demanded p (asked P d)) (sym is) tt
 
+-- ---- keywords that are not there
+
+-- each of the texts is among the others, and none of them
+abbrev all_among : List Text → List Text → Bool
+all_among [] ls = true
+all_among (k ∷ ks) ls = is_listed k ls && all_among ks ls
+
+abbrev none_among : List Text → List Text → Bool
+none_among [] ls = true
+none_among (k ∷ ks) ls = not (is_listed k ls) && none_among ks ls
+
+among : (k : Text) (ks ls : List Text) → all_among ks ls ≡ true → is_listed k ks ≡ true → is_listed k ls ≡ true
+among k [] ls all at = absurd (true≢false (sym at))
+among k (l ∷ ks) ls all at = go (bytes_eq k l) refl at (among k ks ls parts.1)
+  where
+    parts : (is_listed l ls ≡ true) × (all_among ks ls ≡ true)
+    parts = and_parts (is_listed l ls) (all_among ks ls) all
+
+    go : (b : Bool) → bytes_eq k l ≡ b → b || is_listed k ks ≡ true → (is_listed k ks ≡ true → is_listed k ls ≡ true)
+        → is_listed k ls ≡ true
+    go true same is later = ap (λ x. is_listed x ls) ((bytes_eq-Decides k l).0 same) ∙ parts.0
+    go false same is later = later is
+
+not_among : (k : Text) (ks ls : List Text) → none_among ks ls ≡ true → is_listed k ks ≡ true → is_listed k ls ≡ false
+not_among k [] ls all at = absurd (true≢false (sym at))
+not_among k (l ∷ ks) ls all at = go (bytes_eq k l) refl at (not_among k ks ls parts.1)
+  where
+    parts : (not (is_listed l ls) ≡ true) × (none_among ks ls ≡ true)
+    parts = and_parts (not (is_listed l ls)) (none_among ks ls) all
+
+    go : (b : Bool) → bytes_eq k l ≡ b → b || is_listed k ks ≡ true → (is_listed k ks ≡ true → is_listed k ls ≡ false)
+        → is_listed k ls ≡ false
+    go true same is later = ap (λ x. is_listed x ls) ((bytes_eq-Decides k l).0 same) ∙ not-true (is_listed l ls) parts.0
+    go false same is later = later is
+
+watched-draft06 : (k : Text) → is_listed k of_draft06 ≡ true → IsWatched k
+watched-draft06 k at = among k of_draft06 watched refl at
+
+watched-2019_09 : (k : Text) → is_listed k of_draft2019_09 ≡ true → IsWatched k
+watched-2019_09 k at = among k of_draft2019_09 watched refl at
+
+-- the same stands at each of these keys
+abbrev pub AgreeAt : List Text → Members → Members → Type 0
+AgreeAt ks ns ms = (k : Text) → is_listed k ks ≡ true → get_member k ns ≡ get_member k ms
+
+pub none-agree : (ks : List Text) (ns ms : Members) → AgreeAt ks ns ms → HasNone ks ms → HasNone ks ns
+none-agree [] ns ms a is = tt
+none-agree (k ∷ ks) ns ms a is =
+    (
+      a k (ap (λ b. b || is_listed k ks) ((bytes_eq-Decides k k).1 refl)) ∙ is.0,
+      none-agree ks ns ms (λ l at. a l (ap (λ b. bytes_eq l k || b) at ∙ or-true (bytes_eq l k))) is.1,
+    )
+
 -- ---- classes of schema objects
 
 -- what a class asks of references, and of `unevaluatedProperties`
 pub record Demand : Type 1 where
   pub refers : Text → Type 0
   pub rest : Members → Type 0
-  pub stays : (ns ms : Members) → Alike (codes "unevaluatedProperties") ns ms → rest ms → rest ns
+  pub stays : (ns ms : Members) → Alike (codes "unevaluatedProperties") ns ms → AgreeAt of_draft2019_09 ns ms → rest ms → rest ns
   pub lacking : (ms : Members) → HasNoUnevaluated ms → rest ms
-  pub plain : (ms : Members) → rest ms → IsNoObject (get_member (codes "unevaluatedProperties") ms)
+  pub plain : (ms : Members) → rest ms
+      → IsNoObject (get_member (codes "unevaluatedProperties") ms) × IsNoObject (get_member (codes "dependentSchemas") ms)
 
 -- there are no `unevaluatedProperties`: so OpenAPI and Draft 7 ask
 abbrev pub without_rest : (Text → Type 0) → Demand
 without_rest N = record {
   refers = N;
   rest = HasNoUnevaluated;
-  stays = λ ns ms a is. (a.others ∙ is.0, a.first ∙ is.1);
+  stays = λ ns ms a b is. (a.others ∙ is.0, a.first ∙ is.1.0, none-agree of_draft2019_09 ns ms b is.1.1);
   lacking = λ ms is. is;
-  plain = λ ms is. subst IsNoObject (sym is.1) tt;
+  plain = λ ms is. (subst IsNoObject (sym is.1.0) tt, subst IsNoObject (sym is.1.1.1.1.1.0) tt);
 }
 
--- it is no schema object: so 2019-09 asks, which reads them
+-- they are no schema object, and there are no dependent schemas: so 2019-09 asks, which reads them
 abbrev pub with_rest : (Text → Type 0) → Demand
 with_rest N = record {
   refers = N;
-  rest = λ ms. IsNoObject (get_member (codes "unevaluatedProperties") ms);
-  stays = λ ns ms a is. subst IsNoObject (sym a.first) is;
-  lacking = λ ms is. subst IsNoObject (sym is.1) tt;
-  plain = λ ms is. is;
+  rest = λ ms. IsNoObject (get_member (codes "unevaluatedProperties") ms) × (get_member (codes "dependentSchemas") ms ≡ None);
+  stays = λ ns ms a b is. (subst IsNoObject (sym a.first) is.0, b (codes "dependentSchemas") refl ∙ is.1);
+  lacking = λ ms is. (subst IsNoObject (sym is.1.0) tt, is.1.1.1.1.1.0);
+  plain = λ ms is. (is.0, subst IsNoObject (sym is.1) tt);
 }
 
 -- what the laws of the drafts and of OpenAPI ask for beside the reference
@@ -132,11 +190,12 @@ module _ (R : Demand) where
   class-alike : (ns ms : Members) → ((k : Text) → is_listed k watched ≡ true → Alike k ns ms) → Class R ms → Class R ns
   class-alike ns ms a is =
       keeps ns ms (a (codes "$ref") refl) (record {
-        rest = R.stays ns ms (a (codes "unevaluatedProperties") refl) is.own.rest;
+        rest = R.stays ns ms (a (codes "unevaluatedProperties") refl)
+            (λ k at. (a k (watched-2019_09 k at)).first) is.own.rest;
         type = type-alike ns ms (a (codes "type") refl) (a (codes "nullable") refl) (a (codes "const") refl) is.own.type;
         values = values-alike ns ms (a (codes "type") refl) (a (codes "enum") refl) is.own.values;
         all_of = subst IsSchemaList (sym (a (codes "allOf") refl).first) is.own.all_of;
-        const = const-alike ns ms (a (codes "const") refl) (a (codes "enum") refl) is.own.const;
+        const = const-alike ns ms (a (codes "const") refl) (a (codes "enum") refl) (λ k at. (a k (watched-draft06 k at)).first) is.own.const;
         items = items-alike ns ms (a (codes "prefixItems") refl) (a (codes "items") refl) (a (codes "additionalItems") refl) is.own.items;
       }) is
 
@@ -168,6 +227,10 @@ module _ (R : Demand) where
   other : (l k : Text) (d : Data) (ms : Members) → bytes_eq k l ≡ false → Alike k (put l d ms) ms
   other l k d ms out = alike-put k l d ms out
 
+  agree-put : (l : Text) (d : Data) (ms : Members) (ks : List Text) → is_listed l ks ≡ false → AgreeAt ks (put l d ms) ms
+  agree-put l d ms ks out k at =
+      get_member-put_other k l d ms (λ same. true≢false (sym at ∙ (ap (λ x. is_listed x ks) same ∙ out)))
+
   class-type : (t : Data) (ms : Members) → AreSomeTypes (Some t)
       → (is_null_alone (Some t) ≡ false) ⊎ ((get_member (codes "const") ms ≡ None) × (get_member (codes "enum") ms ≡ None)) → Class R ms
       → Class R (put (codes "type") t ms)
@@ -176,7 +239,8 @@ module _ (R : Demand) where
       let here : get_member (codes "type") (put (codes "type") t ms) ≡ Some t = get_member-put (codes "type") t ms in
       keeps (put (codes "type") t ms) ms (other (codes "type") (codes "$ref") t ms refl)
       (record {
-        rest = R.stays (put (codes "type") t ms) ms (other (codes "type") (codes "unevaluatedProperties") t ms refl) is.own.rest;
+        rest = R.stays (put (codes "type") t ms) ms (other (codes "type") (codes "unevaluatedProperties") t ms refl)
+            (agree-put (codes "type") t ms of_draft2019_09 refl) is.own.rest;
         type = (
           subst AreSomeTypes (sym here) types,
           (other (codes "type") (codes "nullable") t ms refl).first ∙ is.own.type.1,
@@ -185,7 +249,7 @@ module _ (R : Demand) where
         values = no_enum here alone;
         all_of = subst IsSchemaList (sym (other (codes "type") (codes "allOf") t ms refl).first) is.own.all_of;
         const = const-alike (put (codes "type") t ms) ms (other (codes "type") (codes "const") t ms refl)
-            (other (codes "type") (codes "enum") t ms refl) is.own.const;
+            (other (codes "type") (codes "enum") t ms refl) (agree-put (codes "type") t ms of_draft06 refl) is.own.const;
         items = items-alike (put (codes "type") t ms) ms (other (codes "type") (codes "prefixItems") t ms refl)
             (other (codes "type") (codes "items") t ms refl)
             (other (codes "type") (codes "additionalItems") t ms refl) is.own.items;
@@ -205,13 +269,19 @@ module _ (R : Demand) where
       no_enum here (inl out) = inl (ap is_null_alone here ∙ out)
       no_enum here (inr out) = inr ((other (codes "type") (codes "enum") t ms refl).first ∙ out.1)
 
+  valued-2019_09 : (k : Text) → is_listed k of_draft2019_09 ≡ true → is_listed k (codes "const" ∷ codes "enum" ∷ []) ≡ false
+  valued-2019_09 k at = not_among k of_draft2019_09 (codes "const" ∷ codes "enum" ∷ []) refl at
+
+  valued-draft06 : (k : Text) → is_listed k of_draft06 ≡ true → is_listed k (codes "const" ∷ codes "enum" ∷ []) ≡ false
+  valued-draft06 k at = not_among k of_draft06 (codes "const" ∷ codes "enum" ∷ []) refl at
+
   -- a change of `const` and `enum` beside a type that is not null alone
   class-values : (ns ms : Members)
       → ((k : Text) → is_listed k (codes "const" ∷ codes "enum" ∷ []) ≡ false → is_listed k watched ≡ true → Alike k ns ms)
       → IsConstAlone ns → is_null_alone (get_member (codes "type") ms) ≡ false → Class R ms → Class R ns
   class-values ns ms a const alone is =
       keeps ns ms (a (codes "$ref") refl refl) (record {
-        rest = R.stays ns ms (a (codes "unevaluatedProperties") refl refl) is.own.rest;
+        rest = R.stays ns ms (a (codes "unevaluatedProperties") refl refl) (λ k at. (a k (valued-2019_09 k at) (watched-2019_09 k at)).first) is.own.rest;
         type = (
           subst AreSomeTypes (sym (a (codes "type") refl refl).first) is.own.type.0,
           (a (codes "nullable") refl refl).first ∙ is.own.type.1,
@@ -246,7 +316,11 @@ module _ (R : Demand) where
       → is_null_alone (get_member (codes "type") ms) ≡ false → AreGood ms → AreGood (put (codes "const") c ms)
   are-const c ms const enum alone is = record {
     own = class-values (put (codes "const") c ms) ms (λ k out at. alike-value (codes "const") k c ms refl out)
-        (once-put (codes "const") c ms const, inr ((other (codes "const") (codes "enum") c ms refl).first ∙ enum)) alone is.own;
+        (
+          once-put (codes "const") c ms const,
+          inr ((other (codes "const") (codes "enum") c ms refl).first ∙ enum),
+          none-agree of_draft06 (put (codes "const") c ms) ms (agree-put (codes "const") c ms of_draft06 refl) is.own.own.const.1.1,
+        ) alone is.own;
     inside = asked-put (Class R) (codes "const") c ms tt is.inside;
   }
 
@@ -256,6 +330,7 @@ module _ (R : Demand) where
     own = class-values (put (codes "enum") e ms) ms (λ k out at. alike-value (codes "enum") k e ms refl out) (
       (other (codes "enum") (codes "const") e ms refl).others ∙ is.own.own.const.0,
       inl ((other (codes "enum") (codes "const") e ms refl).first ∙ const),
+      none-agree of_draft06 (put (codes "enum") e ms) ms (agree-put (codes "enum") e ms of_draft06 refl) is.own.own.const.1.1,
     ) alone is.own;
     inside = asked-put (Class R) (codes "enum") e ms tt is.inside;
   }
@@ -265,7 +340,12 @@ module _ (R : Demand) where
     own = class-values (without (codes "const") ms) ms (λ k out at. record {
       first = without-other (codes "const") k ms (apart-from k (codes "const") out refl);
       others = without-swap k (codes "const") ms (apart-from k (codes "const") out refl);
-    }) (absent-once (codes "const") (without (codes "const") ms) is.own.own.const.0, inl is.own.own.const.0) alone is.own;
+    }) (
+      absent-once (codes "const") (without (codes "const") ms) is.own.own.const.0,
+      inl is.own.own.const.0,
+      none-agree of_draft06 (without (codes "const") ms) ms
+          (λ k at. without-other (codes "const") k ms (apart-from k (codes "const") (valued-draft06 k at) refl)) is.own.own.const.1.1,
+    ) alone is.own;
     inside = asked-without (Class R) (codes "const") ms is.inside;
   }
 
@@ -273,8 +353,8 @@ module _ (R : Demand) where
   pub class-of : (ms : Members) → IsTextWith R.refers (get_member (codes "$ref") ms) → IsOnce (codes "$ref") ms
       → R.rest ms → AreSomeTypes (get_member (codes "type") ms)
       → get_member (codes "nullable") ms ≡ None → get_member (codes "const") ms ≡ None → get_member (codes "enum") ms ≡ None
-      → IsSchemaList (get_member (codes "allOf") ms) → HasPlainItems ms → Class R ms
-  class-of ms reference once rest types nullable const enum all items = record {
+      → IsSchemaList (get_member (codes "allOf") ms) → HasPlainItems ms → HasNone of_draft06 ms → Class R ms
+  class-of ms reference once rest types nullable const enum all items later = record {
     reference = reference;
     once = once;
     own = record {
@@ -282,7 +362,7 @@ module _ (R : Demand) where
       type = (types, nullable, inr const);
       values = inr enum;
       all_of = all;
-      const = (absent-once (codes "const") ms const, inl const);
+      const = (absent-once (codes "const") ms const, inl const, later);
       items = items;
     };
   }
@@ -290,7 +370,8 @@ module _ (R : Demand) where
   pub nothing : AreGood no_members
   unfolding asked_of_keywords
   nothing = record {
-    own = class-of no_members tt refl (R.lacking no_members (refl, refl)) tt refl refl refl tt (refl, tt, tt, refl);
+    own = class-of no_members tt refl (R.lacking no_members (refl, refl, (refl, refl, refl, refl, tt))) tt refl refl refl tt (refl, tt, tt, refl)
+        (refl, refl, refl, refl, refl, tt);
     inside = tt;
   }
 

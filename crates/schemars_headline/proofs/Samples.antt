@@ -41,7 +41,8 @@ module _ (R : Demand) where
       → AreGood R (put (codes "prefixItems") (json_array ts) (put (codes "type") (string (codes "array")) no_members))
   unfolding asked
   are-positions ts is = record {
-    own = own-items R _ tt refl refl refl refl refl refl (refl, schemas-of ts is, tt, refl);
+    own = own-items R _ tt refl refl refl refl refl refl (refl, schemas-of ts is, tt, refl)
+        ((refl, refl, refl, refl, refl, tt), (refl, refl, refl, refl, tt));
     inside = (asked-items R ts is, (tt, tt));
   }
 
