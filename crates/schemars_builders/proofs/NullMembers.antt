@@ -15,7 +15,7 @@ use Rattle.std.proofs.lemmas.Option.{same_Some}
 use Rattle.schemars_schema.specs.Verdict.{Verdict, Yes, No, Open, both, verdict, opposite, none_of, any_of}
 use Rattle.schemars_schema.specs.Json.{Text, json_eq, alike}
 use Rattle.schemars_schema.specs.SchemaData.{IsSchema}
-use Rattle.schemars_schema.specs.Acceptance.{Dialect, Patterns, Judge, Context, Raw, Reading, judge, read_data, read_items, all_keywords, where_some, type_says, items_say, past_say, each_says, not_says, unevaluated_properties_say, is_reference, reference_alone, both_some, nothing, is_null}
+use Rattle.schemars_schema.specs.Acceptance.{Dialect, Patterns, Judge, Context, Raw, Reading, judge, read_data, read_items, all_keywords, where_some, where_read, type_says, items_say, past_say, each_says, not_says, unevaluated_properties_say, is_reference, reference_alone, both_some, nothing, is_null}
 use Rattle.schemars_schema.specs.Edits.{without}
 use Rattle.schemars_schema.proofs.Verdicts.{both-yes, either-verdict}
 use Rattle.schemars_schema.proofs.Objects.{schema-judge, judge-object, says, says-agree}
@@ -197,14 +197,14 @@ is_null_value _ h = absurd (true≢false (sym h))
 -- there is no keyword that combines schemas
 pub alone_parts : (ms : Members) → is_combined (object ms) ≡ false
     → (get_member (codes "allOf") ms ≡ None) × (get_member (codes "anyOf") ms ≡ None) × (get_member (codes "oneOf") ms ≡ None)
-    × (get_member (codes "$ref") ms ≡ None)
+    × (get_member (codes "$ref") ms ≡ None) × (get_member (codes "if") ms ≡ None)
 alone_parts ms h =
     let a = or_parts _ _ h in
     let b = or_parts _ _ a.1 in
     let d = or_parts _ _ b.1 in
     let e = or_parts _ _ d.1 in
     let g = or_parts _ _ e.1 in
-    (none_of_some _ b.0, none_of_some _ d.0, none_of_some _ e.0, none_of_some _ g.0)
+    (none_of_some _ b.0, none_of_some _ d.0, none_of_some _ e.0, none_of_some _ g.0, none_of_some _ a.0)
 
 -- ---- a choice that stays
 
@@ -311,6 +311,11 @@ unevaluated_of_null : (reads : Bool) (judged : Text → Bool) (o : Option Readin
 unevaluated_of_null true judged o = silent o
 unevaluated_of_null false judged o = refl
 
+silent_read : {A : Type 0} (reads : Bool) (o : Option A) → where_read reads o (λ x. Yes) ≡ Yes
+silent_read reads None = refl
+silent_read true (Some x) = refl
+silent_read false (Some x) = refl
+
 -- beside a reference that is alone, the rest of two objects need not agree
 beside : (alone : Bool) (r s t : Judge) (v : Data) → s.fits v ≡ t.fits v
     → (if alone then r else s).fits v ≡ (if alone then r else t).fits v
@@ -351,11 +356,12 @@ module _ (siblings prefix unevaluated : Bool) (patterns : Patterns) (f : Text �
   pub null_says : (g : Raw) → HasTypeForm (g (codes "type")) → ((g (codes "const") ≡ None) ⊎ (g (codes "enum") ≡ None))
       → ((g (codes "not") ≡ None) ⊎ (g (codes "not") ≡ Some zero_schema))
       → (g (codes "allOf") ≡ None) → (g (codes "anyOf") ≡ None) → (g (codes "oneOf") ≡ None) → (g (codes "$ref") ≡ None)
-      → (says c (nulled g)).fits null ≡ Yes
+      → (g (codes "if") ≡ None) → (says c (nulled g)).fits null ≡ Yes
   unfolding says all_keywords
-  null_says g h values not_form no_all no_any no_one no_ref =
+  null_says g h values not_form no_all no_any no_one no_ref no_if =
       rw (
         no_ref,
+        no_if,
         and-false (not siblings),
         type_null (g (codes "type")) h,
         const_null (g (codes "const")),
@@ -365,7 +371,7 @@ module _ (siblings prefix unevaluated : Bool) (patterns : Patterns) (f : Text �
         no_any,
         no_one,
       )
-      (simp (silent, items_of_null, unevaluated_of_null))
+      (simp (silent, silent_read, items_of_null, unevaluated_of_null))
 
   pub of_null : (v : Data) → (judge c null_schema).fits v ≡ verdict (is_null v)
   unfolding read_data all_keywords
@@ -452,7 +458,7 @@ module _ (siblings prefix unevaluated : Bool) (patterns : Patterns) (f : Text �
       let parts = alone_parts ms alone in
       rw (is_null_value v is) (ap (λ j. j.fits null) (judge-object c (with_null ms)
       ∙ says-agree c _ _ (λ k key. with_null-agree ms p.values k))
-      ∙ null_says g p.type_form (one_form ms p.values) p.not_form parts.0 parts.1 parts.2 parts.3)
+      ∙ null_says g p.type_form (one_form ms p.values) p.not_form parts.0 parts.1 parts.2 parts.3 parts.4)
   plain_says ms alone p v false b is e =
       let g : Raw = λ k. get_member k ms in
       ap (λ j. j.fits v) (judge-object c (with_null ms) ∙ says-agree c _ _ (λ k key. with_null-agree ms p.values k))

@@ -176,7 +176,7 @@ plain_null ms p is = each_draft (λ d. AcceptsNull d (object ms)) (λ siblings p
     let values = and_parts _ _ said.1 in
     ap (λ j. j.fits null) (judge-object at ms ∙ says-agree at g (nulled g) (λ k key. kept g said.0 values.0 values.1 k))
     ∙ null_says siblings prefix unevaluated patterns f g p.type_form (one_form ms p.values) p.not_form
-    parts.0 parts.1 parts.2 parts.3)
+    parts.0 parts.1 parts.2 parts.3 parts.4)
 
 ready_null : (dialect : Dialect) → IsDraft dialect → (t : Data) → IsReady t → is_null_schema t ≡ true
     → AcceptsNull dialect t
