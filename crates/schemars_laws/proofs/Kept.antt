@@ -156,7 +156,7 @@ module _ {R : Type 0} (ρ : Rules R) (before after : Context) (P : Members → T
   read-kept r ms p same k =
       go (bytes_eq k (codes "unevaluatedProperties")) (bytes_eq k (codes "dependentSchemas")) before.dialect.reads_unevaluated refl refl refl
     where
-      abbrev Alike : Text → Place → Type 0
+      Alike : Text → Place → Type 0
       Alike l p = option_map (seen p) (reading_at (read_members after (in_keywords ρ r ms)) l)
           ≡ option_map (seen p) (reading_at (read_members before ms) l)
 

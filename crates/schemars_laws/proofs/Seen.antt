@@ -5,7 +5,7 @@ use Rattle.std.specs.Prelude.{bytes_eq, if◌then◌else◌, ◌||◌, ◌&&◌,
 use Rattle.serde_json.specs.Find.{as_str, as_object}
 use Rattle.serde_json.specs.Data.{Data, null, boolean, number, string, array, object}
 use Rattle.schemars_schema.specs.Json.{Text}
-use Rattle.schemars_schema.specs.Verdict.{Verdict, all_of, any_of, one_of}
+use Rattle.schemars_schema.specs.Verdict.{Verdict, Yes, No, Open, all_of, any_of, one_of}
 use Rattle.schemars_schema.specs.References.{Place, NoSchemas, OneSchema, SchemaList, SchemaOrList, SchemasByName, place_under}
 use Rattle.schemars_schema.specs.Acceptance.{Context, Raw, Readings, Reading, Judge, Patterns, keywords, all_keywords, items_say, properties_say, pattern_properties_say, additional_properties_say, each_says, not_says, reference_says, reference_alone, judged_by, judged_by_reference, unevaluated_properties_say, judged_beside, is_covered, has_schema, judged_by_list, contains_says, property_names_say, condition_says, dependent_schemas_say, judged_by_schema, judged_by_condition, judged_by_dependents, judged_by_some, branch_of, beside_members}
 use Rattle.schemars_laws.proofs.Keywords.{all_say, fits-all}
@@ -140,11 +140,10 @@ judged_condition-seen : (b : Bool) (o p q : Option Reading) (v : Data) (k : Text
 judged_condition-seen b None p q v k = refl
 judged_condition-seen b (Some x) p q v k = go x.schema
   where
-    by : Option Judge → Option Reading → Option Reading → Bool
-    by s y z = judged_by_condition b (Some (record { schema = s; listed = None; named = None })) y z v k
-
-    go : (s : Option Judge) → by s (option_map (seen OneSchema) p) (option_map (seen OneSchema) q) ≡ by s p q
-    unfolding by
+    go : (s : Option Judge)
+        → judged_by_condition b (Some (record { schema = s; listed = None; named = None })) (option_map (seen OneSchema) p)
+        (option_map (seen OneSchema) q) v k
+        ≡ judged_by_condition b (Some (record { schema = s; listed = None; named = None })) p q v k
     go None = refl
     go (Some s) = ap (λ j. b && (judged_by s v k || j)) (judged_branch-seen (s.fits v) p q v k)
 
