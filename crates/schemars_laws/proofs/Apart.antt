@@ -1,13 +1,13 @@
 -- The keywords of which dialects read some in another way, apart from all others.
 use Rattle.std.proofs.Common.{◌≡◌, ◌≢◌, ◌⊎◌, inl, inr, List, [], ◌∷◌, Option, Bool, true, false, codes, option_map, refl, sym, ap, ◌∙◌, subst, true≢false}
 use Rattle.std.proofs.Math.Path.{fun_ext}
-use Rattle.std.specs.Prelude.{◌++◌, if◌then◌else◌, ◌||◌, ◌&&◌, not}
+use Rattle.std.specs.Prelude.{◌++◌, if◌then◌else◌, ◌&&◌, not}
 use Rattle.serde_json.specs.Data.{Data, object, Members}
 use Rattle.serde_json.specs.Find.{get_member}
 use Rattle.schemars_schema.specs.Json.{Text}
 use Rattle.schemars_text.specs.OrderedText.{is_listed}
 use Rattle.schemars_schema.specs.Verdict.{Verdict, Yes, No, Open, both, all_of}
-use Rattle.schemars_schema.specs.Acceptance.{Dialect, Context, Raw, Readings, keywords, all_keywords, items_say, reference_says, type_says, const_says, enum_says, each_says, judged_beside, has_schema, reference_alone, is_reference, judge, read_data, read_members, reading_at}
+use Rattle.schemars_schema.specs.Acceptance.{Dialect, Context, Raw, Readings, keywords, all_keywords, items_say, reference_says, type_says, const_says, enum_says, each_says, judged_beside, reference_alone, is_reference, judge, read_data, read_members, reading_at}
 use Rattle.schemars_schema.proofs.Objects.{reading_at-members}
 use Rattle.schemars_laws.specs.Classes.{HasNone, of_draft06}
 use Rattle.schemars_laws.proofs.Keywords.{counts_say, members_say, last_say, fits-all, left_out, AgreeOutside, left_out-agree, AllNone, left_out-none}

@@ -2,12 +2,12 @@
 use Rattle.std.proofs.Common.{◌≡◌, List, ◌∷◌, Option, Some, None, Bool, true, false, codes, option_map, refl, sym, ap, ◌∙◌}
 use Rattle.std.proofs.Math.Path.{fun_ext}
 use Rattle.std.specs.Prelude.{bytes_eq, if◌then◌else◌, ◌||◌, ◌&&◌, option_and_then}
-use Rattle.serde_json.specs.Find.{as_str, as_object}
+use Rattle.serde_json.specs.Find.{as_str}
 use Rattle.serde_json.specs.Data.{Data, null, boolean, number, string, array, object}
 use Rattle.schemars_schema.specs.Json.{Text}
 use Rattle.schemars_schema.specs.Verdict.{Verdict, Yes, No, Open, all_of, any_of, one_of}
 use Rattle.schemars_schema.specs.References.{Place, NoSchemas, OneSchema, SchemaList, SchemaOrList, SchemasByName, place_under}
-use Rattle.schemars_schema.specs.Acceptance.{Context, Raw, Readings, Reading, Judge, Patterns, keywords, all_keywords, items_say, properties_say, pattern_properties_say, additional_properties_say, each_says, not_says, reference_says, reference_alone, judged_by, judged_by_reference, unevaluated_properties_say, judged_beside, is_covered, has_schema, judged_by_list, contains_says, property_names_say, condition_says, dependent_schemas_say, judged_by_schema, judged_by_condition, judged_by_dependents, judged_by_some, branch_of, beside_members}
+use Rattle.schemars_schema.specs.Acceptance.{Context, Raw, Readings, Reading, Judge, Patterns, keywords, all_keywords, items_say, properties_say, pattern_properties_say, additional_properties_say, each_says, not_says, reference_says, reference_alone, judged_by, judged_by_reference, unevaluated_properties_say, judged_beside, is_covered, has_schema, judged_by_list, contains_says, property_names_say, condition_says, dependent_schemas_say, judged_by_schema, judged_by_condition, judged_by_dependents, branch_of}
 use Rattle.schemars_laws.proofs.Keywords.{all_say, fits-all}
 
 -- the place under a keyword whose schemas are read, whether a walk reaches them or not
