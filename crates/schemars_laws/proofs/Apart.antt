@@ -100,7 +100,8 @@ judges-agree c f g read reread v k e h =
     ∙ (ap (λ x. (all_keywords c (left_out four g) x).judges v k) (fun_ext (left_out-agree four read reread h))
     ∙ judges-left_out c g reread v k))
 
--- Two dialects with the same keywords but for these four and those beside `const`, unless none of these is there. What the four say is told once for all that the others may say.
+-- Two dialects with the same keywords but for these four and, where those are missing, the ones that came with `const`.
+-- What the four say is told once for all that the others may say.
 module _ (c : Context) (old new : Dialect) (siblings : new.judges_siblings ≡ old.judges_siblings)
     (unevaluated : new.reads_unevaluated ≡ old.reads_unevaluated)
     (f g : Raw) (read reread : Readings)

@@ -27,7 +27,7 @@ use Rattle.schemars_laws.specs.Stages.{IsTextWith, Stands, IsForOpenApi, AfterNu
 use Rattle.schemars_laws.proofs.Editing.{alike-put, alike-replaced, alike-moved, alike-then, alike-same, asked-moved, once-moved, gone-moved, once-put, absent-once, type-alike, values-alike, const-alike, stands-alike}
 use Rattle.schemars_laws.proofs.Steps.{goes-down-here, by_change, place-bool, first-walked, nullable-walked, siblings-walked, stands-walked}
 
--- beside a reference alone
+-- an object without members has none of the newer keywords
 no_newer : HasNone of_draft06 no_members
 no_newer = (refl, (refl, (refl, (refl, (refl, tt)))))
 
@@ -220,7 +220,8 @@ module _ (N : Text → Type 0) where
               (const-alike (replaced (codes "type") d (nulled ns)) ns (t d (codes "const") refl refl)
               (t d (codes "enum") refl refl)
               (none-alike of_draft06 (replaced (codes "type") d (nulled ns)) ns
-              (λ k there. (t d k (unlisted k (codes "type") of_draft06 there refl) (unlisted k (codes "nullable") of_draft06 there refl)).first)
+              (λ k there. (t d k (unlisted k (codes "type") of_draft06 there refl)
+              (unlisted k (codes "nullable") of_draft06 there refl)).first)
               is.own.const.2)
               is.own.const)
               (t d (codes "prefixItems") refl refl) (t d (codes "items") refl refl) (t d (codes "additionalItems") refl refl) is
