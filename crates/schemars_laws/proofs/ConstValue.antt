@@ -12,8 +12,8 @@ use Rattle.schemars_schema.specs.Verdict.{Verdict}
 use Rattle.schemars_schema.specs.Acceptance.{Dialect, Context, judge, keywords, truth_value, read_data, read_members, reading_at}
 use Rattle.schemars_text.proofs.Members.{differ}
 use Rattle.schemars_transform.specs.Built.{const_as_enum, value_as_enum}
-use Rattle.schemars_laws.specs.Classes.{IsOnce, IsConstAlone, without_const, with_const}
-use Rattle.schemars_laws.proofs.Looked.{without-other, walked, raw-walked, once-walked, Change}
+use Rattle.schemars_laws.specs.Classes.{IsOnce, of_draft06, IsConstAlone, without_const, with_const}
+use Rattle.schemars_laws.proofs.Looked.{without-other, walked, raw-walked, once-walked, nones-walked, Change}
 use Rattle.schemars_laws.proofs.Apart.{four_of, four_by, look_up, says-moved, outside}
 
 abbrev const_members : Option Data → Members → Members
@@ -93,7 +93,7 @@ judge-const c d ms is alone = go (get_member (codes "const") ms) refl alone.1
         ≡ keywords (record c { dialect = with_const d }) (look_up ms) (reading_at (read_members c ms))
     moved o same =
         ap (judge c) (changed o ms)
-        ∙ says-moved c (with_const d) (without_const d) ms (const_members o ms) is refl refl
+        ∙ says-moved c (with_const d) (without_const d) ms (const_members o ms) is refl refl (inr alone.2)
         (λ k out. get-other o k ms (outside k (codes "const") out refl) (outside k (codes "enum") out refl)) same
 
     go : (o : Option Data) → get_member (codes "const") ms ≡ o
@@ -121,7 +121,8 @@ unfolding read_data
 truth-const c b = refl
 
 alone-walked : (ms : Members) → IsConstAlone ms → IsConstAlone (walked const_as_enum ms)
-alone-walked ms alone = (once-walked const_as_enum (codes "const") ms alone.0, one alone.1)
+alone-walked ms alone =
+    (once-walked const_as_enum (codes "const") ms alone.0, one alone.1, nones-walked const_as_enum of_draft06 ms alone.2)
   where
     one : (get_member (codes "const") ms ≡ None) ⊎ (get_member (codes "enum") ms ≡ None)
         → (get_member (codes "const") (walked const_as_enum ms) ≡ None) ⊎ (get_member (codes "enum") (walked const_as_enum ms) ≡ None)

@@ -14,7 +14,7 @@ use Rattle.schemars_text.proofs.Members.{differ, get_member-member, unequal}
 use Rattle.schemars_schema.proofs.Members.{without-put as put_without}
 use Rattle.schemars_transform.specs.Built.{referring}
 use Rattle.schemars_laws.specs.Everywhere.{asked, asked_of_items, asked_of_keywords}
-use Rattle.schemars_laws.specs.Classes.{IsOnce, is_null_alone, IsConstAlone}
+use Rattle.schemars_laws.specs.Classes.{IsOnce, is_null_alone, HasNone, of_draft06, IsConstAlone}
 use Rattle.schemars_laws.proofs.Looked.{without-other}
 use Rattle.schemars_laws.proofs.Siblings.{replaced-other, moved_members, get-moved}
 use Rattle.schemars_laws.proofs.Plain.{Alike, without-swap}
@@ -196,8 +196,9 @@ pub values-alike : (ns ms : Members) → Alike (codes "type") ns ms → Alike (c
 values-alike ns ms a b (inl out) = inl (ap is_null_alone a.first ∙ out)
 values-alike ns ms a b (inr out) = inr (b.first ∙ out)
 
-pub const-alike : (ns ms : Members) → Alike (codes "const") ns ms → Alike (codes "enum") ns ms → IsConstAlone ms → IsConstAlone ns
-const-alike ns ms a b is = (a.others ∙ is.0, either is.1)
+pub const-alike : (ns ms : Members) → Alike (codes "const") ns ms → Alike (codes "enum") ns ms → HasNone of_draft06 ns → IsConstAlone ms
+    → IsConstAlone ns
+const-alike ns ms a b none is = (a.others ∙ is.0, either is.1, none)
   where
     either : (get_member (codes "const") ms ≡ None) ⊎ (get_member (codes "enum") ms ≡ None)
         → (get_member (codes "const") ns ≡ None) ⊎ (get_member (codes "enum") ns ≡ None)

@@ -67,6 +67,11 @@ module _ {R : Type 0} (ρ : Rules R) (before after : Context) (P : Members → T
   unread (object ms) is = absurd is
   unread _ is = refl
 
+  unnamed : (d : Data) → IsNoObject (Some d) → KeptNames d d
+  unfolding read_data
+  unnamed (object ms) is = absurd is
+  unnamed _ is = refl
+
   truth-read : (d : Data) → IsTruth d → read_data after d ≡ read_data before d
   unfolding read_data
   truth-read (boolean b) is = refl
@@ -128,20 +133,19 @@ module _ {R : Type 0} (ρ : Rules R) (before after : Context) (P : Members → T
       go SchemaOrList is = refl
       go SchemasByName is = refl
 
-  -- what stands under `unevaluatedProperties` is read alike, if it is read
-  unevaluated-read : (r : R) (ms : Members) → P ms → before.dialect.reads_unevaluated ≡ true
-      → option_map (seen OneSchema) (reading_at (read_members after (in_keywords ρ r ms)) (codes "unevaluatedProperties"))
-      ≡ option_map (seen OneSchema) (reading_at (read_members before ms) (codes "unevaluatedProperties"))
-  unevaluated-read r ms p reads =
-      ap (option_map (seen OneSchema)) (reading_at-members after (in_keywords ρ r ms) (codes "unevaluatedProperties")
-      ∙ ap (option_map (read_data after)) (raw-kept r ms (codes "unevaluatedProperties") refl))
-      ∙ (go (get_member (codes "unevaluatedProperties") ms) (h.unevaluated ms p reads)
-      ∙ sym (ap (option_map (seen OneSchema)) (reading_at-members before ms (codes "unevaluatedProperties"))))
+  -- what is no object, under a keyword that a walk does not lead to, is read alike
+  plain-read : (r : R) (ms : Members) (k : Text) (p : Place) → place_under k ≡ NoSchemas
+      → ((d : Data) → IsNoObject (Some d) → seen p (read_data after d) ≡ seen p (read_data before d)) → IsNoObject (get_member k ms)
+      → option_map (seen p) (reading_at (read_members after (in_keywords ρ r ms)) k)
+      ≡ option_map (seen p) (reading_at (read_members before ms) k)
+  plain-read r ms k p none same plain =
+      ap (option_map (seen p)) (reading_at-members after (in_keywords ρ r ms) k ∙ ap (option_map (read_data after)) (raw-kept r ms k none))
+      ∙ (go (get_member k ms) plain ∙ sym (ap (option_map (seen p)) (reading_at-members before ms k)))
     where
       go : (o : Option Data) → IsNoObject o
-          → option_map (seen OneSchema) (option_map (read_data after) o) ≡ option_map (seen OneSchema) (option_map (read_data before) o)
+          → option_map (seen p) (option_map (read_data after) o) ≡ option_map (seen p) (option_map (read_data before) o)
       go None is = refl
-      go (Some d) is = ap (λ s. Some (record { schema = s; listed = None; named = None })) (unread d is)
+      go (Some d) is = ap Some (same d is)
 
   read-kept : (r : R) (ms : Members) → P ms
       → ((k : Text) → option_map (seen (place_under k)) (reading_at (read_members after (in_keywords ρ r ms)) k)
@@ -149,17 +153,28 @@ module _ {R : Type 0} (ρ : Rules R) (before after : Context) (P : Members → T
       → (k : Text)
       → option_map (seen (place_read before.dialect.reads_unevaluated k)) (reading_at (read_members after (in_keywords ρ r ms)) k)
       ≡ option_map (seen (place_read before.dialect.reads_unevaluated k)) (reading_at (read_members before ms) k)
-  read-kept r ms p same k = go (bytes_eq k (codes "unevaluatedProperties")) before.dialect.reads_unevaluated refl refl
+  read-kept r ms p same k =
+      go (bytes_eq k (codes "unevaluatedProperties")) (bytes_eq k (codes "dependentSchemas")) before.dialect.reads_unevaluated refl refl refl
     where
-      go : (b reads : Bool) → bytes_eq k (codes "unevaluatedProperties") ≡ b → before.dialect.reads_unevaluated ≡ reads
-          → option_map (seen (if b && reads then OneSchema else place_under k)) (reading_at (read_members after (in_keywords ρ r ms)) k)
-          ≡ option_map (seen (if b && reads then OneSchema else place_under k)) (reading_at (read_members before ms) k)
-      go true true is reads =
-          subst (λ l. option_map (seen OneSchema) (reading_at (read_members after (in_keywords ρ r ms)) l)
-          ≡ option_map (seen OneSchema) (reading_at (read_members before ms) l))
-          (sym ((bytes_eq-Decides k (codes "unevaluatedProperties")).0 is)) (unevaluated-read r ms p reads)
-      go true false is reads = same k
-      go false reads is at = same k
+      Alike : Text → Place → Type 0
+      Alike l p = option_map (seen p) (reading_at (read_members after (in_keywords ρ r ms)) l)
+          ≡ option_map (seen p) (reading_at (read_members before ms) l)
+
+      go : (b e reads : Bool) → bytes_eq k (codes "unevaluatedProperties") ≡ b → bytes_eq k (codes "dependentSchemas") ≡ e
+          → before.dialect.reads_unevaluated ≡ reads
+          → Alike k (if b && reads then OneSchema else if e && reads then SchemasByName else place_under k)
+      go true e true is at reads =
+          subst (λ l. Alike l OneSchema) (sym ((bytes_eq-Decides k (codes "unevaluatedProperties")).0 is))
+          (plain-read r ms (codes "unevaluatedProperties") OneSchema refl
+          (λ d plain. ap (λ s. record { schema = s; listed = None; named = None }) (unread d plain)) (h.unevaluated ms p reads).0)
+      go false true true is at reads =
+          subst (λ l. Alike l SchemasByName) (sym ((bytes_eq-Decides k (codes "dependentSchemas")).0 at))
+          (plain-read r ms (codes "dependentSchemas") SchemasByName refl
+          (λ d plain. ap (λ s. record { schema = None; listed = None; named = s }) (unnamed d plain)) (h.unevaluated ms p reads).1)
+      go false false reads is at unread = same k
+      go true true false is at reads = same k
+      go true false false is at reads = same k
+      go false true false is at reads = same k
 
   said : (r : R) (ms : Members) → P ms
       → ((k : Text) → option_map (seen (place_under k)) (reading_at (read_members after (in_keywords ρ r ms)) k)

@@ -1,17 +1,20 @@
 -- What the keywords of an object say, in groups, and keywords of which some are left out.
-use Rattle.std.proofs.Common.{◌≡◌, List, [], ◌∷◌, Option, None, Bool, true, false, codes, refl}
-use Rattle.std.specs.Prelude.{◌++◌, if◌then◌else◌}
+use Rattle.std.proofs.Common.{◌≡◌, List, [], ◌∷◌, Option, None, Bool, true, false, codes, refl, sym, subst, true≢false}
+use Rattle.std.proofs.lemmas.Slice.Eq.{bytes_eq-Decides}
+use Rattle.std.specs.Prelude.{◌++◌, ◌||◌, bytes_eq, if◌then◌else◌}
 use Rattle.serde_json.specs.Data.{Data}
 use Rattle.schemars_schema.specs.Json.{Text}
 use Rattle.schemars_text.specs.OrderedText.{is_listed}
 use Rattle.schemars_schema.specs.Verdict.{Verdict, all_of, any_of, one_of}
-use Rattle.schemars_schema.specs.Acceptance.{Context, Raw, Readings, all_keywords, items_say, judged_beside, is_covered, reference_says, type_says, const_says, enum_says, minimum_says, maximum_says, min_length_says, max_length_says, pattern_says, min_items_says, max_items_says, unique_items_says, required_says, properties_say, pattern_properties_say, additional_properties_say, each_says, not_says, unevaluated_properties_say}
+use Rattle.schemars_schema.specs.Acceptance.{Context, Raw, Readings, all_keywords, items_say, judged_beside, is_covered, reference_says, type_says, const_says, enum_says, minimum_says, maximum_says, exclusive_minimum_says, exclusive_maximum_says, min_length_says, max_length_says, pattern_says, min_items_says, max_items_says, unique_items_says, contains_says, min_properties_says, max_properties_says, required_says, dependent_required_says, property_names_say, properties_say, pattern_properties_say, additional_properties_say, each_says, not_says, condition_says, dependent_schemas_say, unevaluated_properties_say}
 
 -- about numbers and texts, and about lists as wholes
 abbrev pub counts_say : Context → Raw → Data → List Verdict
 counts_say c raw v =
     minimum_says (raw (codes "minimum")) v
     ∷ maximum_says (raw (codes "maximum")) v
+    ∷ exclusive_minimum_says c.dialect.reads_const (raw (codes "exclusiveMinimum")) (raw (codes "minimum")) v
+    ∷ exclusive_maximum_says c.dialect.reads_const (raw (codes "exclusiveMaximum")) (raw (codes "maximum")) v
     ∷ min_length_says (raw (codes "minLength")) v
     ∷ max_length_says (raw (codes "maxLength")) v
     ∷ pattern_says c.patterns (raw (codes "pattern")) v
@@ -20,10 +23,16 @@ counts_say c raw v =
     ∷ unique_items_says (raw (codes "uniqueItems")) v
     ∷ []
 
--- about members
+-- about an item among others, and about members
 abbrev pub members_say : Context → Raw → Readings → Data → List Verdict
 members_say c raw read v =
-    required_says (raw (codes "required")) v
+    contains_says c.dialect.reads_const c.dialect.reads_unevaluated (read (codes "contains")) (raw (codes "minContains"))
+    (raw (codes "maxContains")) v
+    ∷ min_properties_says (raw (codes "minProperties")) v
+    ∷ max_properties_says (raw (codes "maxProperties")) v
+    ∷ required_says (raw (codes "required")) v
+    ∷ dependent_required_says c.dialect.reads_unevaluated (raw (codes "dependentRequired")) v
+    ∷ property_names_say c.dialect.reads_const (read (codes "propertyNames")) v
     ∷ properties_say (read (codes "properties")) v
     ∷ pattern_properties_say c.patterns (read (codes "patternProperties")) v
     ∷ additional_properties_say (is_covered c.patterns (read (codes "properties")) (read (codes "patternProperties")))
@@ -36,6 +45,8 @@ last_say c read judged v =
     each_says any_of (read (codes "anyOf")) v
     ∷ each_says one_of (read (codes "oneOf")) v
     ∷ not_says (read (codes "not")) v
+    ∷ condition_says c.dialect.reads_const (read (codes "if")) (read (codes "then")) (read (codes "else")) v
+    ∷ dependent_schemas_say c.dialect.reads_unevaluated (read (codes "dependentSchemas")) v
     ∷ unevaluated_properties_say c.dialect.reads_unevaluated judged (read (codes "unevaluatedProperties")) v
     ∷ []
 
@@ -71,3 +82,24 @@ left_out-agree {A} ks f g e k = go (is_listed k ks) refl
     go : (b : Bool) → is_listed k ks ≡ b → (if b then None else f k) ≡ (if b then None else g k)
     go true is = refl
     go false is = e k is
+
+-- ---- keywords that are not there are not missed
+
+abbrev pub AllNone : {A : Type 0} → List Text → (Text → Option A) → Type 0
+AllNone [] f = Unit {0}
+AllNone (k ∷ ks) f = (f k ≡ None) × AllNone ks f
+
+none-listed : {A : Type 0} (ks : List Text) (f : Text → Option A) → AllNone ks f → (k : Text) → is_listed k ks ≡ true → f k ≡ None
+none-listed [] f none k is = absurd (true≢false (sym is))
+none-listed (l ∷ ls) f none k is = go (bytes_eq k l) refl is (none-listed ls f none.1 k)
+  where
+    go : (b : Bool) → bytes_eq k l ≡ b → b || is_listed k ls ≡ true → (is_listed k ls ≡ true → f k ≡ None) → f k ≡ None
+    go true same is later = subst (λ x. f x ≡ None) (sym ((bytes_eq-Decides k l).0 same)) none.0
+    go false same is later = later is
+
+pub left_out-none : {A : Type 0} (ks : List Text) (f : Text → Option A) → AllNone ks f → (k : Text) → left_out ks f k ≡ f k
+left_out-none ks f none k = go (is_listed k ks) refl
+  where
+    go : (b : Bool) → is_listed k ks ≡ b → (if b then None else f k) ≡ f k
+    go true is = sym (none-listed ks f none k is)
+    go false is = refl

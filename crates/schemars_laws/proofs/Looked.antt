@@ -1,5 +1,5 @@
 -- Look-ups in members of which one is taken out, and rewrites that change every schema alike.
-use Rattle.std.proofs.Common.{◌≡◌, ◌≢◌, inl, Option, Some, None, Bool, option_map, refl, sym, ap, ◌∙◌, subst}
+use Rattle.std.proofs.Common.{◌≡◌, ◌≢◌, inl, List, Option, Some, None, Bool, option_map, refl, sym, ap, ◌∙◌, subst}
 use Rattle.serde_json.specs.Data.{Data, null, boolean, number, string, array, object, Members}
 use Rattle.serde_json.specs.Find.{get_member}
 use Rattle.schemars_schema.specs.Json.{Text}
@@ -12,9 +12,9 @@ use Rattle.schemars_schema.proofs.Members.{get_member-without}
 use Rattle.schemars_walk.specs.Rewritten.{Rules, everywhere, rewritten, forms, in_keywords, read_at}
 use Rattle.schemars_walk.proofs.KeywordLaws.{keywords_get}
 use Rattle.schemars_laws.specs.Names.{IsMap}
-use Rattle.schemars_laws.specs.Classes.{IsOnce, IsSchemaList, IsNoList, HasPlainItems}
+use Rattle.schemars_laws.specs.Classes.{IsOnce, HasNone, IsSchemaList, IsNoList, HasPlainItems}
 use Rattle.schemars_laws.proofs.Moved.{Moves}
-use Rattle.schemars_laws.proofs.Walking.{raw-walked as raw-walked_by, none-walked as none-walked_by, once-walked as once-walked_by, list-walked as list-walked_by, no_list-walked as no_list-walked_by, items-walked as items-walked_by}
+use Rattle.schemars_laws.proofs.Walking.{raw-walked as raw-walked_by, none-walked as none-walked_by, nones-walked as nones-walked_by, once-walked as once-walked_by, list-walked as list-walked_by, no_list-walked as no_list-walked_by, items-walked as items-walked_by}
 
 pub without-other : (k l : Text) (ms : Members) → l ≢ k → get_member l (without k ms) ≡ get_member l ms
 without-other k l ms apart = get_member-without l k ms (unequal l k apart)
@@ -62,6 +62,9 @@ raw-walked f k ms none = raw-walked_by (change_rules f) AnyKey (goes-down f) tt 
 
 pub none-walked : (f : Data → Data) (k : Text) (ms : Members) → get_member k ms ≡ None → get_member k (walked f ms) ≡ None
 none-walked f k ms none = none-walked_by (change_rules f) AnyKey (goes-down f) tt k ms none
+
+pub nones-walked : (f : Data → Data) (ks : List Text) (ms : Members) → HasNone ks ms → HasNone ks (walked f ms)
+nones-walked f ks ms none = nones-walked_by (change_rules f) AnyKey (goes-down f) tt ks ms none
 
 pub once-walked : (f : Data → Data) (k : Text) (ms : Members) → IsOnce k ms → IsOnce k (walked f ms)
 once-walked f k ms once = once-walked_by (change_rules f) AnyKey (goes-down f) tt k ms once

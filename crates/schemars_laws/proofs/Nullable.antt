@@ -134,7 +134,7 @@ module _ (c : Context) (d : Dialect) (ms : Members) (is : c.dialect ≡ with_nul
   judge-missing : ((v : Data)
       → type_says true (get_member (codes "type") ms) None v ≡ type_says false (get_member (codes "type") ms) None v) → Says ms
   judge-missing type =
-      says-moved c (without_nullable_read d) (with_nullable_read d) ms ms is refl refl (λ k out. refl)
+      says-moved c (without_nullable_read d) (with_nullable_read d) ms ms is refl refl (inl refl) (λ k out. refl)
       (λ v x. rw none
       (four-missing c d (get_member (codes "prefixItems") ms) (get_member (codes "items") ms) (get_member (codes "additionalItems") ms)
       (get_member (codes "enum") ms) v x (get_member (codes "const") ms) (get_member (codes "type") ms) (type v)))
@@ -142,7 +142,7 @@ module _ (c : Context) (d : Dialect) (ms : Members) (is : c.dialect ≡ with_nul
   judge-alone : get_member (codes "const") ms ≡ None
       → ((v : Data) → type_says false (get_member (codes "type") ms) None v ≡ verdict (is_null v)) → Says (alone_members ms)
   judge-alone const type =
-      says-moved c (without_nullable_read d) (with_nullable_read d) ms (alone_members ms) is refl refl
+      says-moved c (without_nullable_read d) (with_nullable_read d) ms (alone_members ms) is refl refl (inl refl)
       (λ k out. alone-other k ms (outside k (codes "type") out refl) (outside k (codes "const") out refl)
       (outside k (codes "nullable") out refl))
       same
@@ -171,7 +171,7 @@ module _ (c : Context) (d : Dialect) (ms : Members) (is : c.dialect ≡ with_nul
       → ((v : Data) → type_says true (Some (type_without_null t)) (Some (boolean true)) v ≡ type_says false (Some t) None v)
       → Says (among_members t ms)
   judge-among t here type =
-      says-moved c (without_nullable_read d) (with_nullable_read d) ms (among_members t ms) is refl refl
+      says-moved c (without_nullable_read d) (with_nullable_read d) ms (among_members t ms) is refl refl (inl refl)
       (λ k out. among-other t k ms (outside k (codes "type") out refl) (outside k (codes "nullable") out refl)) same
     where
       other : (k : Text) → bytes_eq k (codes "type") ≡ false → bytes_eq k (codes "nullable") ≡ false

@@ -1,10 +1,12 @@
 -- The kinds of schema objects that laws speak of are kept by a walk, and by changes of other keywords.
-use Rattle.std.proofs.Common.{◌≡◌, ◌≢◌, Some, Bool, true, false, codes, refl, sym, ap, ◌∙◌, subst, true≢false}
+use Rattle.std.proofs.Common.{◌≡◌, ◌≢◌, List, [], ◌∷◌, Some, Bool, true, false, codes, refl, sym, ap, ◌∙◌, subst, true≢false}
 use Rattle.std.proofs.lemmas.Slice.Eq.{bytes_eq-Decides}
-use Rattle.std.specs.Prelude.{bytes_eq, if◌then◌else◌, option_and_then}
+use Rattle.std.proofs.Math.Bool.{or-true}
+use Rattle.std.specs.Prelude.{bytes_eq, ◌||◌, if◌then◌else◌, option_and_then}
 use Rattle.serde_json.specs.Data.{Data, Members, no_members, member}
 use Rattle.serde_json.specs.Find.{get_member, as_str}
 use Rattle.schemars_schema.specs.Json.{Text}
+use Rattle.schemars_text.specs.OrderedText.{is_listed}
 use Rattle.schemars_schema.specs.SchemaData.{IsSchema}
 use Rattle.schemars_schema.specs.Edits.{without}
 use Rattle.schemars_schema.specs.References.{NoSchemas, place_under}
@@ -12,14 +14,14 @@ use Rattle.schemars_schema.specs.Acceptance.{Dialect}
 use Rattle.schemars_text.proofs.Members.{differ, get_member-member, unequal}
 use Rattle.schemars_walk.specs.Rewritten.{Rules, in_keywords}
 use Rattle.schemars_laws.specs.Names.{IsNamedBy, HasNameOf, IsNoObject, HasPlainUnevaluated}
-use Rattle.schemars_laws.specs.Classes.{IsText, IsSchemaList, IsNoList, HasPlainItems, HasPlainReference, HasNoUnevaluated}
+use Rattle.schemars_laws.specs.Classes.{HasNone, IsText, IsSchemaList, IsNoList, HasPlainItems, HasPlainReference, HasNoUnevaluated}
 use Rattle.schemars_laws.proofs.Walking.{without-walked, raw-walked as raw-walked_by}
 use Rattle.schemars_laws.proofs.Looked.{without-other, walked, raw-walked, once-walked, list-walked}
 
--- ---- no `unevaluatedProperties`, or none that are read
+-- ---- no `unevaluatedProperties` and `dependentSchemas`, or none that are read
 
 pub none-plain : (d : Dialect) (ms : Members) → HasNoUnevaluated ms → HasPlainUnevaluated d ms
-none-plain d ms none reads = subst IsNoObject (sym none.1) tt
+none-plain d ms none reads = (subst IsNoObject (sym none.1) tt, subst IsNoObject (sym none.2.1.1.1.0) tt)
 
 pub unread-plain : (d : Dialect) (ms : Members) → d.reads_unevaluated ≡ false → HasPlainUnevaluated d ms
 unread-plain d ms unread reads = absurd (true≢false (sym reads ∙ unread))
@@ -75,6 +77,19 @@ without-swap k l (member j d ms) apart = go (bytes_eq l j) refl (bytes_eq k j) r
         ap (λ b. get_member k (if b then without l ms else member j d (without k (without l ms)))) at_k
         ∙ (get_member-member k j d (without k (without l ms))
         ∙ (ap (λ o. if bytes_eq k j then Some d else o) rest ∙ sym (get_member-member k j d (without k ms))))
+
+-- a key that is listed is no other
+pub unlisted : (k l : Text) (ks : List Text) → is_listed k ks ≡ true → is_listed l ks ≡ false → bytes_eq k l ≡ false
+unlisted k l ks there out = unequal k l (λ same. true≢false (sym there ∙ (ap (λ x. is_listed x ks) same ∙ out)))
+
+-- none of these keywords is there, where look-ups of them agree
+pub none-alike : (ks : List Text) (ns ms : Members) → ((k : Text) → is_listed k ks ≡ true → get_member k ns ≡ get_member k ms)
+    → HasNone ks ms → HasNone ks ns
+none-alike [] ns ms agree none = tt
+none-alike (k ∷ ks) ns ms agree none = (
+  agree k (ap (λ b. b || is_listed k ks) ((bytes_eq-Decides k k).1 refl)) ∙ none.0,
+  none-alike ks ns ms (λ l there. agree l (ap (λ b. bytes_eq l k || b) there ∙ or-true (bytes_eq l k))) none.1,
+)
 
 -- keywords without schemas that a walk goes down under
 pub alike-walked : {R : Type 0} (ρ : Rules R) (Enters : Text → Type 0)

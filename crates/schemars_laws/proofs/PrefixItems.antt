@@ -1,5 +1,5 @@
 -- A list under `items` in place of `prefixItems`, for readers that judge by position under `items`.
-use Rattle.std.proofs.Common.{◌≡◌, ◌≢◌, List, [], ◌∷◌, Option, Some, None, Bool, true, false, codes, option_map, refl, sym, ap, ◌∙◌, subst}
+use Rattle.std.proofs.Common.{◌≡◌, ◌≢◌, inl, List, [], ◌∷◌, Option, Some, None, Bool, true, false, codes, option_map, refl, sym, ap, ◌∙◌, subst}
 use Rattle.std.specs.Prelude.{bytes_eq}
 use Rattle.serde_json.specs.Data.{Data, null, boolean, number, string, array, object, Items, no_items, item, Members, put}
 use Rattle.serde_json.specs.Find.{get_member, as_array}
@@ -156,7 +156,7 @@ judge-prefix c d ms is plain =
     let i = get_member (codes "items") ms in
     let new : Members = moved_members p i ms in
     ap (judge c) (changed ms)
-    ∙ says-moved c (by_prefix_items d) (by_items d) ms new is refl refl
+    ∙ says-moved c (by_prefix_items d) (by_items d) ms new is refl refl (inl refl)
     (λ k out. get-other p i k ms (outside k (codes "prefixItems") out refl) (outside k (codes "items") out refl)
     (outside k (codes "additionalItems") out refl))
     same

@@ -5,18 +5,25 @@ use Rattle.std.specs.Prelude.{bytes_eq, if◌then◌else◌, ◌||◌, ◌&&◌,
 use Rattle.serde_json.specs.Find.{as_str}
 use Rattle.serde_json.specs.Data.{Data, null, boolean, number, string, array, object}
 use Rattle.schemars_schema.specs.Json.{Text}
-use Rattle.schemars_schema.specs.Verdict.{Verdict, all_of, any_of, one_of}
+use Rattle.schemars_schema.specs.Verdict.{Verdict, Yes, No, Open, all_of, any_of, one_of}
 use Rattle.schemars_schema.specs.References.{Place, NoSchemas, OneSchema, SchemaList, SchemaOrList, SchemasByName, place_under}
-use Rattle.schemars_schema.specs.Acceptance.{Context, Raw, Readings, Reading, Judge, Patterns, keywords, all_keywords, items_say, properties_say, pattern_properties_say, additional_properties_say, each_says, not_says, reference_says, reference_alone, judged_by, judged_by_reference, unevaluated_properties_say, judged_beside, is_covered, has_schema, judged_by_list}
+use Rattle.schemars_schema.specs.Acceptance.{Context, Raw, Readings, Reading, Judge, Patterns, keywords, all_keywords, items_say, properties_say, pattern_properties_say, additional_properties_say, each_says, not_says, reference_says, reference_alone, judged_by, judged_by_reference, unevaluated_properties_say, judged_beside, is_covered, has_schema, judged_by_list, contains_says, property_names_say, condition_says, dependent_schemas_say, judged_by_schema, judged_by_condition, judged_by_dependents, branch_of}
 use Rattle.schemars_laws.proofs.Keywords.{all_say, fits-all}
 
 -- the place under a keyword whose schemas are read, whether a walk reaches them or not
 abbrev pub place_read : Bool → Text → Place
-place_read reads_unevaluated k = if bytes_eq k (codes "unevaluatedProperties") && reads_unevaluated then OneSchema else place_under k
+place_read reads_unevaluated k =
+    if bytes_eq k (codes "unevaluatedProperties") && reads_unevaluated then OneSchema
+    else if bytes_eq k (codes "dependentSchemas") && reads_unevaluated then SchemasByName
+    else place_under k
 
 -- that of `unevaluatedProperties`
 abbrev pub place_unevaluated : Bool → Place
 place_unevaluated reads = if reads then OneSchema else NoSchemas
+
+-- that of `dependentSchemas`
+abbrev pub place_dependents : Bool → Place
+place_dependents reads = if reads then SchemasByName else NoSchemas
 
 abbrev pub seen : Place → Reading → Reading
 seen NoSchemas x = record { schema = None; listed = None; named = None }
@@ -43,6 +50,15 @@ items-seen true (Some p) (Some i) a v = refl
 items-seen false p None a v = refl
 items-seen false p (Some i) None v = refl
 items-seen false p (Some i) (Some a) v = refl
+
+contains-seen : (b reads : Bool) (o : Option Reading) (least most : Option Data) (v : Data)
+    → contains_says b reads (option_map (seen OneSchema) o) least most v ≡ contains_says b reads o least most v
+contains-seen b reads None least most v = refl
+contains-seen b reads (Some x) least most v = refl
+
+names-seen : (b : Bool) (o : Option Reading) (v : Data) → property_names_say b (option_map (seen OneSchema) o) v ≡ property_names_say b o v
+names-seen b None v = refl
+names-seen b (Some x) v = refl
 
 properties-seen : (o : Option Reading) (v : Data) → properties_say (option_map (seen SchemasByName) o) v ≡ properties_say o v
 properties-seen None v = refl
@@ -78,6 +94,21 @@ not-seen : (o : Option Reading) (v : Data) → not_says (option_map (seen OneSch
 not-seen None v = refl
 not-seen (Some x) v = refl
 
+condition-seen : (b : Bool) (o p q : Option Reading) (v : Data)
+    → condition_says b (option_map (seen OneSchema) o) (option_map (seen OneSchema) p) (option_map (seen OneSchema) q) v
+    ≡ condition_says b o p q v
+condition-seen b None p q v = refl
+condition-seen b (Some x) None None v = refl
+condition-seen b (Some x) None (Some z) v = refl
+condition-seen b (Some x) (Some y) None v = refl
+condition-seen b (Some x) (Some y) (Some z) v = refl
+
+dependents-seen : (b : Bool) (o : Option Reading) (v : Data)
+    → dependent_schemas_say b (option_map (seen (place_dependents b)) o) v ≡ dependent_schemas_say b o v
+dependents-seen b None v = refl
+dependents-seen true (Some x) v = refl
+dependents-seen false (Some x) v = refl
+
 stands-seen : (o : Option Reading) → has_schema (option_map (seen OneSchema) o) ≡ has_schema o
 stands-seen None = refl
 stands-seen (Some x) = refl
@@ -90,6 +121,42 @@ stands_unevaluated-seen false o = refl
 judged_list-seen : (o : Option Reading) (v : Data) (k : Text) → judged_by_list (option_map (seen SchemaList) o) v k ≡ judged_by_list o v k
 judged_list-seen None v k = refl
 judged_list-seen (Some x) v k = refl
+
+judged_schema-seen : (o : Option Reading) (v : Data) (k : Text)
+    → judged_by_schema (option_map (seen OneSchema) o) v k ≡ judged_by_schema o v k
+judged_schema-seen None v k = refl
+judged_schema-seen (Some x) v k = refl
+
+judged_branch-seen : (x : Verdict) (p q : Option Reading) (v : Data) (k : Text)
+    → judged_by_schema (branch_of x (option_map (seen OneSchema) p) (option_map (seen OneSchema) q)) v k
+    ≡ judged_by_schema (branch_of x p q) v k
+judged_branch-seen Yes p q v k = judged_schema-seen p v k
+judged_branch-seen No p q v k = judged_schema-seen q v k
+judged_branch-seen Open p q v k = refl
+
+judged_condition-seen : (b : Bool) (o p q : Option Reading) (v : Data) (k : Text)
+    → judged_by_condition b (option_map (seen OneSchema) o) (option_map (seen OneSchema) p) (option_map (seen OneSchema) q) v k
+    ≡ judged_by_condition b o p q v k
+judged_condition-seen b None p q v k = refl
+judged_condition-seen b (Some x) p q v k = go x.schema
+  where
+    go : (s : Option Judge)
+        → judged_by_condition b (Some (record { schema = s; listed = None; named = None })) (option_map (seen OneSchema) p)
+        (option_map (seen OneSchema) q) v k
+        ≡ judged_by_condition b (Some (record { schema = s; listed = None; named = None })) p q v k
+    go None = refl
+    go (Some s) = ap (λ j. b && (judged_by s v k || j)) (judged_branch-seen (s.fits v) p q v k)
+
+judged_dependents-seen : (b : Bool) (o : Option Reading) (v : Data) (k : Text)
+    → judged_by_dependents b (option_map (seen (place_dependents b)) o) v k ≡ judged_by_dependents b o v k
+judged_dependents-seen b None v k = refl
+judged_dependents-seen true (Some x) v k = refl
+judged_dependents-seen false (Some x) v k = go x.named
+  where
+    go : (s : Option (List (Text × Judge)))
+        → false ≡ judged_by_dependents false (Some (record { schema = None; listed = None; named = s })) v k
+    go None = refl
+    go (Some ss) = refl
 
 pub or-cong : {a b c d : Bool} → a ≡ b → c ≡ d → a || c ≡ b || d
 or-cong {b} {c} e h = ap (λ x. x || c) e ∙ ap (λ x. b || x) h
@@ -104,7 +171,9 @@ judged-seen c raw read v k =
     (or-cong (stands-seen (read (codes "additionalProperties")))
     (or-cong (judged_list-seen (read (codes "allOf")) v k)
     (or-cong (judged_list-seen (read (codes "anyOf")) v k)
-    (or-cong (judged_list-seen (read (codes "oneOf")) v k) refl))))
+    (or-cong (judged_list-seen (read (codes "oneOf")) v k)
+    (or-cong (judged_condition-seen c.dialect.reads_const (read (codes "if")) (read (codes "then")) (read (codes "else")) v k)
+    (or-cong (judged_dependents-seen c.dialect.reads_unevaluated (read (codes "dependentSchemas")) v k) refl))))))
 
 additional_covered-seen : (patterns : Patterns) (o p a : Option Reading) (v : Data)
     → additional_properties_say (is_covered patterns (option_map (seen SchemasByName) o) (option_map (seen SchemasByName) p))
@@ -132,9 +201,12 @@ same {x} h = ap (λ zs. x ∷ zs) h
 verdicts-seen : (c : Context) (raw : Raw) (read : Readings) (v : Data)
     → all_say c raw (seen_under c.dialect.reads_unevaluated read) v ≡ all_say c raw read v
 verdicts-seen c raw read v =
-    same (same (same (same (same (same (same (same (same (same (same (same
+    same (same (same (same (same (same (same (same (same (same (same (same (same (same
     (cons (items-seen c.dialect.reads_prefix_items (read (codes "prefixItems")) (read (codes "items")) (read (codes "additionalItems")) v)
-    (same
+    (cons (contains-seen c.dialect.reads_const c.dialect.reads_unevaluated (read (codes "contains")) (raw (codes "minContains"))
+    (raw (codes "maxContains")) v)
+    (same (same (same (same
+    (cons (names-seen c.dialect.reads_const (read (codes "propertyNames")) v)
     (cons (properties-seen (read (codes "properties")) v)
     (cons (pattern_properties-seen c.patterns (read (codes "patternProperties")) v)
     (cons (additional_covered-seen c.patterns (read (codes "properties")) (read (codes "patternProperties"))
@@ -143,7 +215,9 @@ verdicts-seen c raw read v =
     (cons (each-seen any_of (read (codes "anyOf")) v)
     (cons (each-seen one_of (read (codes "oneOf")) v)
     (cons (not-seen (read (codes "not")) v)
-    (cons (unevaluated_judged-seen c raw read (read (codes "unevaluatedProperties")) v) refl)))))))))))))))))))))
+    (cons (condition-seen c.dialect.reads_const (read (codes "if")) (read (codes "then")) (read (codes "else")) v)
+    (cons (dependents-seen c.dialect.reads_unevaluated (read (codes "dependentSchemas")) v)
+    (cons (unevaluated_judged-seen c raw read (read (codes "unevaluatedProperties")) v) refl))))))))))))))))))))))))))))))
 
 fits-seen : (c : Context) (raw : Raw) (read : Readings) (v : Data)
     → (all_keywords c raw (seen_under c.dialect.reads_unevaluated read)).fits v ≡ (all_keywords c raw read).fits v
@@ -194,15 +268,18 @@ module _ (c : Context) (f : Text → Judge) (raw : Raw) (read : Readings) (e : A
       (or-else (judged_by_list (read (codes "allOf")) v k)
       (or-else (judged_by_list (read (codes "anyOf")) v k)
       (or-else (judged_by_list (read (codes "oneOf")) v k)
-      (judged_reference-same f c.follow (raw (codes "$ref")) v k e)))))
+      (or-else (judged_by_condition c.dialect.reads_const (read (codes "if")) (read (codes "then")) (read (codes "else")) v k)
+      (or-else (judged_by_dependents c.dialect.reads_unevaluated (read (codes "dependentSchemas")) v k)
+      (judged_reference-same f c.follow (raw (codes "$ref")) v k e)))))))
 
   verdicts-follow : (v : Data) → all_say (record c { follow = f }) raw read v ≡ all_say c raw read v
   verdicts-follow v =
       cons (reference-same f c.follow (raw (codes "$ref")) v e)
-      (same (same (same (same (same (same (same (same (same (same (same (same (same (same (same (same (same (same (same (same
+      (same (same (same (same (same (same (same (same (same (same (same (same (same (same (same
+      (same (same (same (same (same (same (same (same (same (same (same (same (same (same
       (cons (ap (λ g. unevaluated_properties_say c.dialect.reads_unevaluated g (read (codes "unevaluatedProperties")) v)
       (fun_ext (judged-follow v)))
-      refl)))))))))))))))))))))
+      refl))))))))))))))))))))))))))))))
 
   all_keywords-follow : all_keywords (record c { follow = f }) raw read ≡ all_keywords c raw read
   unfolding all_keywords

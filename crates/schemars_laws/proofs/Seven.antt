@@ -15,17 +15,24 @@ use Rattle.schemars_transform.specs.Built.{bool_rules, reference_moved, without_
 use Rattle.schemars_transform.specs.Nullable.{all_null, nulls_in, nullable_by, null_taken_out, type_without_null}
 use Rattle.schemars_transform.specs.Unevaluated.{unevaluated_as_additional, closed_by}
 use Rattle.schemars_laws.specs.Everywhere.{asked, demanded, asked_of_keywords}
-use Rattle.schemars_laws.specs.Classes.{IsSchemaList, is_null_alone, IsConstAlone, HasPlainItems, plain_nullable}
+use Rattle.schemars_laws.specs.Classes.{IsSchemaList, is_null_alone, HasNone, of_draft06, of_draft2019_09, IsConstAlone, HasPlainItems, plain_nullable}
 use Rattle.schemars_laws.proofs.Looked.{change_rules}
 use Rattle.schemars_laws.proofs.Siblings.{schema-siblings, moved_members}
 use Rattle.schemars_laws.proofs.Nullable.{nullable_change, nullable}
 use Rattle.schemars_laws.proofs.Unevaluated.{schema-unevaluated}
 use Rattle.schemars_laws.proofs.BoolSchemas.{bool_schemas}
-use Rattle.schemars_laws.proofs.Plain.{Alike, items-alike, alike-without}
+use Rattle.schemars_laws.proofs.Plain.{Alike, items-alike, alike-without, unlisted, none-alike}
 use Rattle.schemars_laws.proofs.Preserved.{Preserves, asked-without, asked-put, asked-replaced, asked-get}
 use Rattle.schemars_laws.specs.Stages.{IsTextWith, Stands, IsForOpenApi, AfterNullable, AfterSiblings, Anything}
 use Rattle.schemars_laws.proofs.Editing.{alike-put, alike-replaced, alike-moved, alike-then, alike-same, asked-moved, once-moved, gone-moved, once-put, absent-once, type-alike, values-alike, const-alike, stands-alike}
 use Rattle.schemars_laws.proofs.Steps.{goes-down-here, by_change, place-bool, first-walked, nullable-walked, siblings-walked, stands-walked}
+
+-- an object without members has none of the newer keywords
+no_newer : HasNone of_draft06 no_members
+no_newer = (refl, (refl, (refl, (refl, (refl, tt)))))
+
+no_newest : HasNone of_draft2019_09 no_members
+no_newest = (refl, (refl, (refl, (refl, tt))))
 
 module _ (N : Text → Type 0) where
   -- ---- the first two
@@ -39,12 +46,17 @@ module _ (N : Text → Type 0) where
         absent-once (codes "unevaluatedProperties")
             (without (codes "unevaluatedProperties") ns) is.own.unevaluated.0,
         is.own.unevaluated.0,
+        none-alike of_draft2019_09 (without (codes "unevaluatedProperties") ns) ns
+            (λ k there. (a k (unlisted k (codes "unevaluatedProperties") of_draft2019_09 there refl)).first) is.own.unevaluated.2,
       );
       type = type-alike (without (codes "unevaluatedProperties") ns) ns (a (codes "type") refl) (a (codes "nullable") refl)
           (a (codes "const") refl) is.own.type;
       values = values-alike (without (codes "unevaluatedProperties") ns) ns (a (codes "type") refl) (a (codes "enum") refl) is.own.values;
       all_of = subst IsSchemaList (sym (a (codes "allOf") refl).first) is.own.all_of;
-      const = const-alike (without (codes "unevaluatedProperties") ns) ns (a (codes "const") refl) (a (codes "enum") refl) is.own.const;
+      const = const-alike (without (codes "unevaluatedProperties") ns) ns (a (codes "const") refl) (a (codes "enum") refl)
+          (none-alike of_draft06 (without (codes "unevaluatedProperties") ns) ns
+          (λ k there. (a k (unlisted k (codes "unevaluatedProperties") of_draft06 there refl)).first) is.own.const.2)
+          is.own.const;
       items = items-alike (without (codes "unevaluatedProperties") ns) ns (a (codes "prefixItems") refl) (a (codes "items") refl)
           (a (codes "additionalItems") refl) is.own.items;
     };
@@ -67,11 +79,11 @@ module _ (N : Text → Type 0) where
     reference = tt;
     once = refl;
     own = record {
-      unevaluated = (refl, refl);
+      unevaluated = (refl, refl, no_newest);
       type = (tt, refl, inl refl);
       values = inl refl;
       all_of = tt;
-      const = (refl, inl refl);
+      const = (refl, inl refl, no_newer);
       items = (refl, tt, tt, refl);
     };
   }
@@ -81,11 +93,11 @@ module _ (N : Text → Type 0) where
     reference = tt;
     once = refl;
     own = record {
-      unevaluated = (refl, refl);
+      unevaluated = (refl, refl, no_newest);
       type = (tt, refl, inl refl);
       values = inl refl;
       all_of = tt;
-      const = (refl, inl refl);
+      const = (refl, inl refl, no_newer);
       items = (refl, tt, tt, refl);
     };
   }
@@ -188,7 +200,10 @@ module _ (N : Text → Type 0) where
 
           nulls : Q (nulled ns)
           nulls = after-alike (nulled ns) ns (n (codes "$ref") refl) (n (codes "allOf") refl)
-              (const-alike (nulled ns) ns (n (codes "const") refl) (n (codes "enum") refl) is.own.const)
+              (const-alike (nulled ns) ns (n (codes "const") refl) (n (codes "enum") refl)
+              (none-alike of_draft06 (nulled ns) ns (λ k there. (n k (unlisted k (codes "nullable") of_draft06 there refl)).first)
+              is.own.const.2)
+              is.own.const)
               (n (codes "prefixItems") refl) (n (codes "items") refl) (n (codes "additionalItems") refl) is
 
           inside-nulls : asked_of_keywords Q (nulled ns)
@@ -203,7 +218,12 @@ module _ (N : Text → Type 0) where
           among d = after-alike (replaced (codes "type") d (nulled ns)) ns (t d (codes "$ref") refl refl)
               (t d (codes "allOf") refl refl)
               (const-alike (replaced (codes "type") d (nulled ns)) ns (t d (codes "const") refl refl)
-              (t d (codes "enum") refl refl) is.own.const)
+              (t d (codes "enum") refl refl)
+              (none-alike of_draft06 (replaced (codes "type") d (nulled ns)) ns
+              (λ k there. (t d k (unlisted k (codes "type") of_draft06 there refl)
+              (unlisted k (codes "nullable") of_draft06 there refl)).first)
+              is.own.const.2)
+              is.own.const)
               (t d (codes "prefixItems") refl refl) (t d (codes "items") refl refl) (t d (codes "additionalItems") refl refl) is
 
           inside-among : (d : Data) → asked_of_keywords Q (replaced (codes "type") d (nulled ns))
@@ -235,6 +255,9 @@ module _ (N : Text → Type 0) where
                 (alike-without (codes "const") (codes "type") (put (codes "const") null (nulled ns)) refl).others
                     ∙ once-put (codes "const") null (nulled ns) ((n (codes "const") refl).first ∙ no_const only is.own.type.2),
                 inr ((c (codes "enum") refl refl refl).first ∙ no_enum only is.own.values),
+                none-alike of_draft06 (alone_members ns) ns
+                    (λ k there. (c k (unlisted k (codes "type") of_draft06 there refl) (unlisted k (codes "const") of_draft06 there refl)
+                    (unlisted k (codes "nullable") of_draft06 there refl)).first) is.own.const.2,
               )
               (c (codes "prefixItems") refl refl refl) (c (codes "items") refl refl refl) (c (codes "additionalItems") refl refl refl) is
 
@@ -267,7 +290,9 @@ module _ (N : Text → Type 0) where
             reference = subst (IsTextWith N) (sym is.once) tt;
             once = absent-once (codes "$ref") (without (codes "$ref") ns) is.once;
             own = (
-              const-alike (without (codes "$ref") ns) ns (w (codes "const") refl) (w (codes "enum") refl) is.own.1,
+              const-alike (without (codes "$ref") ns) ns (w (codes "const") refl) (w (codes "enum") refl)
+                  (none-alike of_draft06 (without (codes "$ref") ns) ns
+                  (λ k there. (w k (unlisted k (codes "$ref") of_draft06 there refl)).first) is.own.1.2) is.own.1,
               items-alike (without (codes "$ref") ns) ns (w (codes "prefixItems") refl) (w (codes "items") refl)
                   (w (codes "additionalItems") refl) is.own.2,
             );
@@ -281,7 +306,10 @@ module _ (N : Text → Type 0) where
             reference = subst (IsTextWith N) (sym (gone-moved r ns is.once)) tt;
             once = once-moved r ns is.once;
             own = (
-              const-alike (moved_members r ns) ns (w (codes "const") refl refl) (w (codes "enum") refl refl) is.own.1,
+              const-alike (moved_members r ns) ns (w (codes "const") refl refl) (w (codes "enum") refl refl)
+                  (none-alike of_draft06 (moved_members r ns) ns
+                  (λ k there. (w k (unlisted k (codes "allOf") of_draft06 there refl)
+                  (unlisted k (codes "$ref") of_draft06 there refl)).first) is.own.1.2) is.own.1,
               items-alike (moved_members r ns) ns (w (codes "prefixItems") refl refl) (w (codes "items") refl refl)
                   (w (codes "additionalItems") refl refl) is.own.2,
             );
@@ -291,7 +319,7 @@ module _ (N : Text → Type 0) where
               w k out ref_out = alike-moved r k ns out ref_out
 
           alone : (r : Data) → IsTextWith N (Some r) → Q (member (codes "$ref") r no_members)
-          alone r text = record { reference = text; once = refl; own = ((refl, inl refl), (refl, tt, tt, refl)) }
+          alone r text = record { reference = text; once = refl; own = ((refl, inl refl, no_newer), (refl, tt, tt, refl)) }
 
           each : (b : Bool) (o : Option Data) → get_member (codes "$ref") ns ≡ o
               → (asked Q (if b then object ns else reference_moved o (object (without (codes "$ref") ns)))).as_schema
@@ -323,7 +351,10 @@ module _ (N : Text → Type 0) where
               → ((k : Text) → bytes_eq k (codes "examples") ≡ false → bytes_eq k (codes "example") ≡ false → Alike k ls ms) → Q ms → Q ls
           kept ls ms w is =
               stands-alike N AfterSiblings AfterSiblings ls ms (w (codes "$ref") refl refl) (
-                const-alike ls ms (w (codes "const") refl refl) (w (codes "enum") refl refl) is.own.0,
+                const-alike ls ms (w (codes "const") refl refl) (w (codes "enum") refl refl)
+                    (none-alike of_draft06 ls ms
+                    (λ k there. (w k (unlisted k (codes "examples") of_draft06 there refl)
+                    (unlisted k (codes "example") of_draft06 there refl)).first) is.own.0.2) is.own.0,
                 items-alike ls ms (w (codes "prefixItems") refl refl) (w (codes "items") refl refl)
                     (w (codes "additionalItems") refl refl) is.own.1,
               ) is

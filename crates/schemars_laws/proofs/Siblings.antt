@@ -14,7 +14,7 @@ use Rattle.schemars_text.specs.OrderedText.{is_listed}
 use Rattle.schemars_schema.specs.SchemaData.{IsSchema}
 use Rattle.schemars_schema.specs.Edits.{without, replaced, with_item, with_last, changed_at}
 use Rattle.schemars_schema.specs.Verdict.{Verdict, Yes, No, Open, both, all_of, is_yes}
-use Rattle.schemars_schema.specs.Acceptance.{Dialect, Context, Raw, Readings, Judge, judge, keywords, all_keywords, reference_alone, is_reference, truth_value, read_data, read_items, read_members, reading_at, judged_by_reference, judged_by, judged_by_list, judged_by_some, judged_beside, both_some, reference_says, type_says, const_says, enum_says, items_say, has_schema, is_covered, each_says}
+use Rattle.schemars_schema.specs.Acceptance.{Dialect, Context, Raw, Readings, Judge, judge, keywords, all_keywords, reference_alone, is_reference, truth_value, read_data, read_items, read_members, reading_at, judged_by_reference, judged_by, judged_by_list, judged_by_some, judged_beside, both_some, reference_says, type_says, const_says, enum_says, items_say, has_schema, is_covered, each_says, judged_by_condition, judged_by_dependents}
 use Rattle.schemars_schema.proofs.Objects.{schema-judge, reading_at-members, judge-agree}
 use Rattle.schemars_transform.specs.Built.{referring, reference_moved, without_siblings}
 use Rattle.schemars_laws.proofs.Keywords.{counts_say, members_say, last_say, fits-all, left_out, AgreeOutside, left_out-agree}
@@ -45,7 +45,9 @@ judged_say : Context → Readings → Data → Text → Bool → Bool → Bool
 judged_say c read v k listed referred =
     is_covered c.patterns (read (codes "properties")) (read (codes "patternProperties")) k
     || (has_schema (read (codes "additionalProperties"))
-    || (listed || (judged_by_list (read (codes "anyOf")) v k || (judged_by_list (read (codes "oneOf")) v k || referred))))
+    || (listed || (judged_by_list (read (codes "anyOf")) v k || (judged_by_list (read (codes "oneOf")) v k
+    || (judged_by_condition c.dialect.reads_const (read (codes "if")) (read (codes "then")) (read (codes "else")) v k
+    || (judged_by_dependents c.dialect.reads_unevaluated (read (codes "dependentSchemas")) v k || referred))))))
 
 judges_say : Context → Readings → Data → Text → Bool → Bool → Bool
 judges_say c read v k listed referred =
@@ -112,16 +114,17 @@ with_reference No No No = refl
 with_reference No No Open = refl
 
 -- so is what they judge
-judged_with : (a s b m n r : Bool) → a || (s || ((b || r) || (m || (n || false)))) ≡ a || (s || (b || (m || (n || r))))
-judged_with true s b m n r = refl
-judged_with false true b m n r = refl
-judged_with false false true m n r = refl
-judged_with false false false true n true = refl
-judged_with false false false true n false = refl
-judged_with false false false false true true = refl
-judged_with false false false false true false = refl
-judged_with false false false false false true = refl
-judged_with false false false false false false = refl
+judged_with : (a s b m n i j r : Bool)
+    → a || (s || ((b || r) || (m || (n || (i || (j || false)))))) ≡ a || (s || (b || (m || (n || (i || (j || r))))))
+judged_with true s b m n i j r = refl
+judged_with false true b m n i j r = refl
+judged_with false false true m n i j r = refl
+judged_with false false false m n i j false = refl
+judged_with false false false true n i j true = refl
+judged_with false false false false true i j true = refl
+judged_with false false false false false true j true = refl
+judged_with false false false false false false true true = refl
+judged_with false false false false false false false true = refl
 
 -- ---- the members of one schema
 
@@ -255,7 +258,9 @@ module _ (c : Context) (raw : Raw) (read : Readings) (v : Data) (a r : Verdict) 
       regrouped k =
           judged_with (is_covered c.patterns (read (codes "properties")) (read (codes "patternProperties")) k)
           (has_schema (read (codes "additionalProperties"))) (listed k) (judged_by_list (read (codes "anyOf")) v k)
-          (judged_by_list (read (codes "oneOf")) v k) (referred k)
+          (judged_by_list (read (codes "oneOf")) v k)
+          (judged_by_condition c.dialect.reads_const (read (codes "if")) (read (codes "then")) (read (codes "else")) v k)
+          (judged_by_dependents c.dialect.reads_unevaluated (read (codes "dependentSchemas")) v k) (referred k)
 
   judges-moved : (k : Text) → judges_say c read v k (listed k || referred k) false ≡ judges_say c read v k (listed k) (referred k)
   unfolding judges_say judged_say
@@ -263,7 +268,9 @@ module _ (c : Context) (raw : Raw) (read : Readings) (v : Data) (a r : Verdict) 
       ap (λ b. b || (c.dialect.reads_unevaluated && has_schema (read (codes "unevaluatedProperties"))))
       (judged_with (is_covered c.patterns (read (codes "properties")) (read (codes "patternProperties")) k)
       (has_schema (read (codes "additionalProperties"))) (listed k) (judged_by_list (read (codes "anyOf")) v k)
-      (judged_by_list (read (codes "oneOf")) v k) (referred k))
+      (judged_by_list (read (codes "oneOf")) v k)
+      (judged_by_condition c.dialect.reads_const (read (codes "if")) (read (codes "then")) (read (codes "else")) v k)
+      (judged_by_dependents c.dialect.reads_unevaluated (read (codes "dependentSchemas")) v k) (referred k))
 
 -- in a dialect that passes over siblings
 module _ (c : Context) (d : Dialect) where

@@ -10,11 +10,11 @@ use Rattle.schemars_walk.specs.Rewritten.{Rules, in_keywords}
 use Rattle.schemars_transform.specs.Built.{bool_rules}
 use Rattle.schemars_transform.specs.declared.built_in.bool_schemas.ReplaceBoolSchemas.{ReplaceBoolSchemas}
 use Rattle.schemars_laws.specs.Everywhere.{asked, asked_of_keywords}
-use Rattle.schemars_laws.proofs.Walking.{list-walked, items-walked}
+use Rattle.schemars_laws.proofs.Walking.{nones-walked, list-walked, items-walked}
 use Rattle.schemars_laws.proofs.Looked.{change_rules, walked}
 use Rattle.schemars_laws.proofs.Plain.{Alike, alike-walked}
 use Rattle.schemars_laws.specs.Names.{IsNamedBy}
-use Rattle.schemars_laws.specs.Classes.{IsText}
+use Rattle.schemars_laws.specs.Classes.{IsText, HasNone, of_draft06, of_draft2019_09}
 use Rattle.schemars_laws.specs.Stages.{IsTextWith, Stands, IsForOpenApi, AfterNullable, AfterSiblings}
 use Rattle.schemars_laws.proofs.Preserved.{Preserves, change-preserves}
 use Rattle.schemars_laws.proofs.Editing.{type-alike, values-alike, const-alike, stands-alike}
@@ -57,30 +57,35 @@ module _ {R : Type 0} (ρ : Rules R)
   same : (k : Text) → IsEntered k → place_under k ≡ NoSchemas → Alike k ns ms
   same k entered none = alike-walked ρ IsEntered place r k ms entered none
 
+  newer : HasNone of_draft06 ms → HasNone of_draft06 ns
+  newer none = nones-walked ρ IsEntered place r of_draft06 ms none
+
   pub first-walked : IsForOpenApi ms → IsForOpenApi ns
   first-walked is = record {
     unevaluated = (
       (same (codes "unevaluatedProperties") refl refl).others ∙ is.unevaluated.0,
       (same (codes "unevaluatedProperties") refl refl).first
           ∙ is.unevaluated.1,
+      nones-walked ρ IsEntered place r of_draft2019_09 ms is.unevaluated.2,
     );
     type = type-alike ns ms (same (codes "type") refl refl) (same (codes "nullable") refl refl) (same (codes "const") refl refl) is.type;
     values = values-alike ns ms (same (codes "type") refl refl) (same (codes "enum") refl refl) is.values;
     all_of = list-walked ρ IsEntered place schema r (codes "allOf") ms refl refl is.all_of;
-    const = const-alike ns ms (same (codes "const") refl refl) (same (codes "enum") refl refl) is.const;
+    const = const-alike ns ms (same (codes "const") refl refl) (same (codes "enum") refl refl) (newer is.const.2)
+        is.const;
     items = items-walked ρ IsEntered place schema refl refl r ms is.items;
   }
 
   pub nullable-walked : AfterNullable ms → AfterNullable ns
   nullable-walked is = (
     list-walked ρ IsEntered place schema r (codes "allOf") ms refl refl is.0,
-    const-alike ns ms (same (codes "const") refl refl) (same (codes "enum") refl refl) is.1,
+    const-alike ns ms (same (codes "const") refl refl) (same (codes "enum") refl refl) (newer is.1.2) is.1,
     items-walked ρ IsEntered place schema refl refl r ms is.2,
   )
 
   pub siblings-walked : AfterSiblings ms → AfterSiblings ns
   siblings-walked is = (
-    const-alike ns ms (same (codes "const") refl refl) (same (codes "enum") refl refl) is.0,
+    const-alike ns ms (same (codes "const") refl refl) (same (codes "enum") refl refl) (newer is.0.2) is.0,
     items-walked ρ IsEntered place schema refl refl r ms is.1,
   )
 

@@ -1,47 +1,48 @@
 -- Where there are no `unevaluatedProperties`, nothing changes, whether they are read or not.
-use Rattle.std.proofs.Common.{◌≡◌, ◌≢◌, List, Option, Some, None, Bool, true, false, codes, option_map, refl, sym, ap, ◌∙◌, subst}
+use Rattle.std.proofs.Common.{◌≡◌, ◌≢◌, List, ◌∷◌, Option, Some, None, Bool, true, false, codes, refl, sym, ap, ◌∙◌, subst}
+use Rattle.std.proofs.Math.Path.{fun_ext}
 use Rattle.std.proofs.lemmas.Slice.Eq.{bytes_eq-Decides}
-use Rattle.std.specs.Prelude.{bytes_eq, if◌then◌else◌, ◌||◌, ◌&&◌, not}
+use Rattle.std.specs.Prelude.{bytes_eq}
 use Rattle.serde_json.specs.Data.{Data, boolean, object, Members, no_members, member, put}
 use Rattle.serde_json.specs.Find.{get_member}
 use Rattle.serde_json.proofs.Views.{get_member-put_other}
 use Rattle.schemars_schema.specs.Json.{Text}
 use Rattle.schemars_schema.specs.SchemaData.{IsSchema}
 use Rattle.schemars_schema.specs.Edits.{without}
-use Rattle.schemars_schema.specs.Verdict.{Yes}
-use Rattle.schemars_schema.specs.Acceptance.{Dialect, Context, Raw, Readings, judge, keywords, all_keywords, reference_alone, is_reference, read_data, read_members, reading_at, unevaluated_properties_say, judged_beside, has_schema}
-use Rattle.schemars_schema.proofs.Objects.{judge-agree, reading_at-members}
+use Rattle.schemars_schema.specs.Acceptance.{Dialect, Context, Raw, Readings, judge, keywords, all_keywords, read_data, read_members, reading_at}
+use Rattle.schemars_schema.proofs.Objects.{judge-agree}
 use Rattle.schemars_text.proofs.Members.{differ}
 use Rattle.schemars_transform.specs.Unevaluated.{unevaluated_as_additional, closed_by, property_names, properties_made, properties_named, object_with_names, with_names}
-use Rattle.schemars_laws.specs.Classes.{HasNoUnevaluated, with_unevaluated, without_unevaluated}
-use Rattle.schemars_laws.proofs.Seen.{judge_ext}
+use Rattle.schemars_laws.specs.Classes.{of_draft2019_09, HasNoUnevaluated, with_unevaluated, without_unevaluated}
+use Rattle.schemars_laws.proofs.Keywords.{left_out, AllNone, left_out-none}
 use Rattle.schemars_laws.proofs.Formats.{truth-judge}
-use Rattle.schemars_laws.proofs.Looked.{without-other, walked, none-walked, once-walked, Change}
-use Rattle.schemars_laws.proofs.Apart.{look_up}
+use Rattle.schemars_laws.proofs.Looked.{without-other, walked, none-walked, nones-walked, once-walked, Change}
+use Rattle.schemars_laws.proofs.Apart.{look_up, read-none}
+
+-- with the keywords that came with them
+abbrev unevaluated_keywords : List Text
+unevaluated_keywords = codes "unevaluatedProperties" ∷ of_draft2019_09
 
 -- what is not there is not missed
-module _ (c : Context) (d : Dialect) (raw : Raw) (read : Readings) (none : read (codes "unevaluatedProperties") ≡ None) where
+module _ (c : Context) (d : Dialect) where
   abbrev now : Context
   now = record c { dialect = without_unevaluated d }
 
   abbrev was : Context
   was = record c { dialect = with_unevaluated d }
 
-  said : (judged : Text → Bool) (v : Data) → unevaluated_properties_say true judged (read (codes "unevaluatedProperties")) v ≡ Yes
-  said judged v = ap (λ o. unevaluated_properties_say true judged o v) none
-
-  fits-same : (v : Data) → (all_keywords now raw read).fits v ≡ (all_keywords was raw read).fits v
+  left_out-same : (raw : Raw) (read : Readings)
+      → keywords now (left_out unevaluated_keywords raw) (left_out unevaluated_keywords read)
+      ≡ keywords was (left_out unevaluated_keywords raw) (left_out unevaluated_keywords read)
   unfolding all_keywords
-  fits-same v = rw (said (judged_beside was raw read v) v) refl
+  left_out-same raw read = refl
 
-  judges-same : (v : Data) (k : Text) → (all_keywords now raw read).judges v k ≡ (all_keywords was raw read).judges v k
-  unfolding all_keywords
-  judges-same v k = ap (λ o. judged_beside c raw read v k || has_schema o) (sym none)
-
-  keywords-same : keywords now raw read ≡ keywords was raw read
-  keywords-same =
-      ap (λ j. if not d.judges_siblings && is_reference (raw (codes "$ref")) then reference_alone c raw else j)
-      (judge_ext _ _ fits-same judges-same)
+  keywords-same : (raw : Raw) (read : Readings) → AllNone unevaluated_keywords raw → AllNone unevaluated_keywords read
+      → keywords now raw read ≡ keywords was raw read
+  keywords-same raw read none unread =
+      subst (λ x. keywords now x read ≡ keywords was x read) (fun_ext (left_out-none unevaluated_keywords raw none))
+      (subst (λ x. keywords now (left_out unevaluated_keywords raw) x ≡ keywords was (left_out unevaluated_keywords raw) x)
+      (fun_ext (left_out-none unevaluated_keywords read unread)) (left_out-same raw read))
 
 judge-without : (c : Context) (ms : Members) → HasNoUnevaluated ms
     → judge c (unevaluated_as_additional (object ms)) ≡ judge c (object ms)
@@ -64,7 +65,7 @@ judge-unevaluated c d ms is none =
     judge-without c ms none
     ∙ (ap (λ e. keywords (record c { dialect = e }) (look_up ms) (reading_at (read_members c ms))) is
     ∙ keywords-same c d (look_up ms) (reading_at (read_members c ms))
-    (reading_at-members c ms (codes "unevaluatedProperties") ∙ ap (option_map (read_data c)) none.1))
+    (none.1, none.2) (read-none c unevaluated_keywords ms (none.1, none.2)))
 
 -- ---- what the change makes of any schema
 
@@ -120,6 +121,7 @@ pub none-kept : (ms : Members) → HasNoUnevaluated ms → HasNoUnevaluated (wal
 none-kept ms none = (
   once-walked unevaluated_as_additional (codes "unevaluatedProperties") ms none.0,
   none-walked unevaluated_as_additional (codes "unevaluatedProperties") ms none.1,
+  nones-walked unevaluated_as_additional of_draft2019_09 ms none.2,
 )
 
 pub unevaluated_properties : (key : Text) (d : Dialect) → key ≢ codes "unevaluatedProperties" → key ≢ codes "additionalProperties"

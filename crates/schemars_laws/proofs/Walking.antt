@@ -1,6 +1,6 @@
 -- What a walk leaves under the keywords that the laws ask about, by any rewrite that goes down under the keywords of which
 -- Enters holds as references say.
-use Rattle.std.proofs.Common.{◌≡◌, Option, Some, None, Bool, true, false, codes, option_map, refl, sym, ap, ◌∙◌, subst}
+use Rattle.std.proofs.Common.{◌≡◌, List, [], ◌∷◌, Option, Some, None, Bool, true, false, codes, option_map, refl, sym, ap, ◌∙◌, subst}
 use Rattle.std.specs.Prelude.{bytes_eq, if◌then◌else◌}
 use Rattle.serde_json.specs.Data.{Data, null, boolean, number, string, array, object, Items, no_items, item, Members, no_members, member}
 use Rattle.serde_json.specs.Find.{get_member}
@@ -10,7 +10,7 @@ use Rattle.schemars_schema.specs.Edits.{without}
 use Rattle.schemars_schema.specs.References.{Place, NoSchemas, SchemaList, SchemaOrList, place_under}
 use Rattle.schemars_walk.specs.Rewritten.{Rules, form_at, forms, in_items, in_keywords}
 use Rattle.schemars_walk.proofs.KeywordLaws.{keywords_get}
-use Rattle.schemars_laws.specs.Classes.{IsOnce, AreSchemas, IsSchemaList, IsNoList, HasPlainItems}
+use Rattle.schemars_laws.specs.Classes.{IsOnce, HasNone, AreSchemas, IsSchemaList, IsNoList, HasPlainItems}
 
 module _ {R : Type 0} (ρ : Rules R) (Enters : Text → Type 0)
     (place : (r : R) (k : Text) (d : Data) → Enters k → ρ.place r k d ≡ place_under k) where
@@ -27,6 +27,10 @@ module _ {R : Type 0} (ρ : Rules R) (Enters : Text → Type 0)
 
   pub none-walked : (r : R) (k : Text) (ms : Members) → get_member k ms ≡ None → get_member k (in_keywords ρ r ms) ≡ None
   none-walked r k ms none = keywords_get ρ r k ms ∙ ap (option_map (λ d. form_at (ρ.place r k d) d (forms ρ r d))) none
+
+  pub nones-walked : (r : R) (ks : List Text) (ms : Members) → HasNone ks ms → HasNone ks (in_keywords ρ r ms)
+  nones-walked r [] ms none = tt
+  nones-walked r (k ∷ ks) ms none = (none-walked r k ms none.0, nones-walked r ks ms none.1)
 
   pub once-walked : (r : R) (k : Text) (ms : Members) → IsOnce k ms → IsOnce k (in_keywords ρ r ms)
   once-walked r k ms once = ap (get_member k) (without-walked r k ms) ∙ none-walked r k (without k ms) once
