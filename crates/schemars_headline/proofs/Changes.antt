@@ -3,7 +3,6 @@ use Rattle.std.proofs.Common.{◌≡◌, ◌≢◌, ◌⊎◌, inl, inr, List, [
 use Rattle.std.specs.Prelude.{◌++◌, not}
 use Rattle.std.proofs.lemmas.Slice.Eq.{bytes_eq-Decides}
 use Rattle.std.proofs.lemmas.Bool.{and_parts, not-true}
-use Rattle.std.proofs.Math.Bool.{or-true}
 use Rattle.schemars_headline.proofs.Words.{bytes_eq, if◌then◌else◌, ◌||◌, ◌&&◌, Data, null, boolean, number, string, array, object, Items, no_items, item, Members, no_members, member, put, get_member, get_member-put, get_member-put_other, Text, is_listed, IsSchema, members_in, put_members, AreNotes, without, replaced, holds_text, NoSchemas, place_under, draft2020_12, is_null, differ, is_null_choice, is_combined, or_null, allow_null, type_with_null, null_in_type, enum_with_null, null_in_enum, const_or_null, null_in_const, null_in_values, annotated, Everywhere, demanded, IsOnce, IsSchemaList, HasPlainItems, IsTextWith, Stands, IsForOpenApi, AreSomeTypes, absent-once, weaker}
 use Rattle.schemars_schema.specs.Annotations.{is_annotation}
 use Rattle.schemars_schema.specs.Edits.{with_item}
@@ -17,7 +16,7 @@ use Rattle.schemars_laws.specs.Classes.{AreTexts, is_null_alone, HasNone, of_dra
 use Rattle.schemars_laws.specs.Stages.{HasSomeTypes}
 use Rattle.schemars_laws.proofs.Editing.{without-put, alike-put, alike-replaced, once-put, type-alike, values-alike, const-alike, stands-alike}
 use Rattle.schemars_laws.proofs.Looked.{without-other}
-use Rattle.schemars_laws.proofs.Plain.{Alike, items-alike, without-swap}
+use Rattle.schemars_laws.proofs.Plain.{Alike, items-alike, without-swap, none-alike}
 use Rattle.schemars_laws.proofs.Preserved.{asked-without, asked-put, asked-replaced}
 
 -- ---- keywords
@@ -103,14 +102,6 @@ watched-2019_09 k at = among k of_draft2019_09 watched refl at
 abbrev pub AgreeAt : List Text → Members → Members → Type 0
 AgreeAt ks ns ms = (k : Text) → is_listed k ks ≡ true → get_member k ns ≡ get_member k ms
 
-pub none-agree : (ks : List Text) (ns ms : Members) → AgreeAt ks ns ms → HasNone ks ms → HasNone ks ns
-none-agree [] ns ms a is = tt
-none-agree (k ∷ ks) ns ms a is =
-    (
-      a k (ap (λ b. b || is_listed k ks) ((bytes_eq-Decides k k).1 refl)) ∙ is.0,
-      none-agree ks ns ms (λ l at. a l (ap (λ b. bytes_eq l k || b) at ∙ or-true (bytes_eq l k))) is.1,
-    )
-
 -- ---- classes of schema objects
 
 -- what a class asks of references, and of `unevaluatedProperties`
@@ -127,9 +118,9 @@ abbrev pub without_rest : (Text → Type 0) → Demand
 without_rest N = record {
   refers = N;
   rest = HasNoUnevaluated;
-  stays = λ ns ms a b is. (a.others ∙ is.0, a.first ∙ is.1.0, none-agree of_draft2019_09 ns ms b is.1.1);
+  stays = λ ns ms a b is. (a.others ∙ is.0, a.first ∙ is.1, none-alike of_draft2019_09 ns ms b is.2);
   lacking = λ ms is. is;
-  plain = λ ms is. (subst IsNoObject (sym is.1.0) tt, subst IsNoObject (sym is.1.1.1.1.1.0) tt);
+  plain = λ ms is. (subst IsNoObject (sym is.1) tt, subst IsNoObject (sym is.2.1.1.1.0) tt);
 }
 
 -- they are no schema object, and there are no dependent schemas: so 2019-09 asks, which reads them
@@ -138,7 +129,7 @@ with_rest N = record {
   refers = N;
   rest = λ ms. IsNoObject (get_member (codes "unevaluatedProperties") ms) × (get_member (codes "dependentSchemas") ms ≡ None);
   stays = λ ns ms a b is. (subst IsNoObject (sym a.first) is.0, b (codes "dependentSchemas") refl ∙ is.1);
-  lacking = λ ms is. (subst IsNoObject (sym is.1.0) tt, is.1.1.1.1.1.0);
+  lacking = λ ms is. (subst IsNoObject (sym is.1) tt, is.2.1.1.1.0);
   plain = λ ms is. (is.0, subst IsNoObject (sym is.1) tt);
 }
 
@@ -195,7 +186,8 @@ module _ (R : Demand) where
         type = type-alike ns ms (a (codes "type") refl) (a (codes "nullable") refl) (a (codes "const") refl) is.own.type;
         values = values-alike ns ms (a (codes "type") refl) (a (codes "enum") refl) is.own.values;
         all_of = subst IsSchemaList (sym (a (codes "allOf") refl).first) is.own.all_of;
-        const = const-alike ns ms (a (codes "const") refl) (a (codes "enum") refl) (λ k at. (a k (watched-draft06 k at)).first) is.own.const;
+        const = const-alike ns ms (a (codes "const") refl) (a (codes "enum") refl)
+            (none-alike of_draft06 ns ms (λ k at. (a k (watched-draft06 k at)).first) is.own.const.2) is.own.const;
         items = items-alike ns ms (a (codes "prefixItems") refl) (a (codes "items") refl) (a (codes "additionalItems") refl) is.own.items;
       }) is
 
@@ -249,7 +241,8 @@ module _ (R : Demand) where
         values = no_enum here alone;
         all_of = subst IsSchemaList (sym (other (codes "type") (codes "allOf") t ms refl).first) is.own.all_of;
         const = const-alike (put (codes "type") t ms) ms (other (codes "type") (codes "const") t ms refl)
-            (other (codes "type") (codes "enum") t ms refl) (agree-put (codes "type") t ms of_draft06 refl) is.own.const;
+            (other (codes "type") (codes "enum") t ms refl)
+            (none-alike of_draft06 (put (codes "type") t ms) ms (agree-put (codes "type") t ms of_draft06 refl) is.own.const.2) is.own.const;
         items = items-alike (put (codes "type") t ms) ms (other (codes "type") (codes "prefixItems") t ms refl)
             (other (codes "type") (codes "items") t ms refl)
             (other (codes "type") (codes "additionalItems") t ms refl) is.own.items;
@@ -319,7 +312,7 @@ module _ (R : Demand) where
         (
           once-put (codes "const") c ms const,
           inr ((other (codes "const") (codes "enum") c ms refl).first ∙ enum),
-          none-agree of_draft06 (put (codes "const") c ms) ms (agree-put (codes "const") c ms of_draft06 refl) is.own.own.const.1.1,
+          none-alike of_draft06 (put (codes "const") c ms) ms (agree-put (codes "const") c ms of_draft06 refl) is.own.own.const.2,
         ) alone is.own;
     inside = asked-put (Class R) (codes "const") c ms tt is.inside;
   }
@@ -330,7 +323,7 @@ module _ (R : Demand) where
     own = class-values (put (codes "enum") e ms) ms (λ k out at. alike-value (codes "enum") k e ms refl out) (
       (other (codes "enum") (codes "const") e ms refl).others ∙ is.own.own.const.0,
       inl ((other (codes "enum") (codes "const") e ms refl).first ∙ const),
-      none-agree of_draft06 (put (codes "enum") e ms) ms (agree-put (codes "enum") e ms of_draft06 refl) is.own.own.const.1.1,
+      none-alike of_draft06 (put (codes "enum") e ms) ms (agree-put (codes "enum") e ms of_draft06 refl) is.own.own.const.2,
     ) alone is.own;
     inside = asked-put (Class R) (codes "enum") e ms tt is.inside;
   }
@@ -343,8 +336,8 @@ module _ (R : Demand) where
     }) (
       absent-once (codes "const") (without (codes "const") ms) is.own.own.const.0,
       inl is.own.own.const.0,
-      none-agree of_draft06 (without (codes "const") ms) ms
-          (λ k at. without-other (codes "const") k ms (apart-from k (codes "const") (valued-draft06 k at) refl)) is.own.own.const.1.1,
+      none-alike of_draft06 (without (codes "const") ms) ms
+          (λ k at. without-other (codes "const") k ms (apart-from k (codes "const") (valued-draft06 k at) refl)) is.own.own.const.2,
     ) alone is.own;
     inside = asked-without (Class R) (codes "const") ms is.inside;
   }
@@ -370,8 +363,8 @@ module _ (R : Demand) where
   pub nothing : AreGood no_members
   unfolding asked_of_keywords
   nothing = record {
-    own = class-of no_members tt refl (R.lacking no_members (refl, refl, (refl, refl, refl, refl, tt))) tt refl refl refl tt (refl, tt, tt, refl)
-        (refl, refl, refl, refl, refl, tt);
+    own = class-of no_members tt refl (R.lacking no_members (refl, refl, (refl, (refl, (refl, (refl, tt)))))) tt refl refl refl tt (refl, tt, tt, refl)
+        (refl, (refl, (refl, (refl, (refl, tt)))));
     inside = tt;
   }
 

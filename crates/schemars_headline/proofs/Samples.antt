@@ -42,7 +42,7 @@ module _ (R : Demand) where
   unfolding asked
   are-positions ts is = record {
     own = own-items R _ tt refl refl refl refl refl refl (refl, schemas-of ts is, tt, refl)
-        ((refl, refl, refl, refl, refl, tt), (refl, refl, refl, refl, tt));
+        ((refl, (refl, (refl, (refl, (refl, tt))))), (refl, (refl, (refl, (refl, tt)))));
     inside = (asked-items R ts is, (tt, tt));
   }
 

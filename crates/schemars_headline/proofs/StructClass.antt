@@ -105,11 +105,10 @@ module _ (N : Text → Type 0) where
           form.at (codes "additionalItems") refl,
         ) (
           form.at (codes "exclusiveMinimum") refl,
-          form.at (codes "exclusiveMaximum") refl,
-          form.at (codes "contains") refl,
-          form.at (codes "propertyNames") refl,
-          form.at (codes "if") refl,
-          tt,
+          (
+            form.at (codes "exclusiveMaximum") refl,
+            (form.at (codes "contains") refl, (form.at (codes "propertyNames") refl, (form.at (codes "if") refl, tt))),
+          ),
         )
 
     abbrev Asked : Text → Data → Type 0
