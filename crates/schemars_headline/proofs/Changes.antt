@@ -308,12 +308,11 @@ module _ (R : Demand) where
   pub are-const : (c : Data) (ms : Members) → get_member (codes "const") ms ≡ None → get_member (codes "enum") ms ≡ None
       → is_null_alone (get_member (codes "type") ms) ≡ false → AreGood ms → AreGood (put (codes "const") c ms)
   are-const c ms const enum alone is = record {
-    own = class-values (put (codes "const") c ms) ms (λ k out at. alike-value (codes "const") k c ms refl out)
-        (
-          once-put (codes "const") c ms const,
-          inr ((other (codes "const") (codes "enum") c ms refl).first ∙ enum),
-          none-alike of_draft06 (put (codes "const") c ms) ms (agree-put (codes "const") c ms of_draft06 refl) is.own.own.const.2,
-        ) alone is.own;
+    own = class-values (put (codes "const") c ms) ms (λ k out at. alike-value (codes "const") k c ms refl out) (
+      once-put (codes "const") c ms const,
+      inr ((other (codes "const") (codes "enum") c ms refl).first ∙ enum),
+      none-alike of_draft06 (put (codes "const") c ms) ms (agree-put (codes "const") c ms of_draft06 refl) is.own.own.const.2,
+    ) alone is.own;
     inside = asked-put (Class R) (codes "const") c ms tt is.inside;
   }
 

@@ -92,8 +92,7 @@ module _ (N : Text → Type 0) where
     own : Class R ms
     own =
         class-of R ms (subst (IsTextWith N) (sym (form.at (codes "$ref") refl)) tt)
-        (absent-once (codes "$ref") ms (form.at (codes "$ref") refl))
-        (
+        (absent-once (codes "$ref") ms (form.at (codes "$ref") refl)) (
           subst IsNoObject (sym (form.at (codes "unevaluatedProperties") refl)) (no_object ps closed),
           form.at (codes "dependentSchemas") refl,
         )
