@@ -1,7 +1,7 @@
 -- Each part says what its contract says; and each call has less work left.
 use Rattle.std.proofs.Common.{◌≡◌, ◌∙◌, ◌+◌, ◌<◌, ◌≤◌, List, Bool, false, Option, None, option_map, sym, ap, subst, arith, IfOk, OnOk, drop}
 use Rattle.std.specs.Prelude.{◌||◌, string_bytes, is_some, unwrap_or, codes, if◌then◌else◌, map}
-use Rattle.serde_json.specs.Data.{Data, object, Items, depth, items_depth, members_depth}
+use Rattle.serde_json.specs.Data.{Data, object, Items, Members, depth, items_depth, members_depth}
 use Rattle.serde_json.specs.Find.{get_member, as_object}
 use Rattle.serde_json.specs.View.{view, items_view, members_view}
 use Rattle.schemars_schema.specs.Json.{Text}
@@ -9,12 +9,12 @@ use Rattle.schemars_schema.specs.Verdict.{Verdict, Yes, verdict, all_of, any_of,
 use Rattle.schemars_schema.specs.Acceptance.{Context, Judge, Raw, context, judge, follow, where_some, all_keywords, reference_alone, judged_by_some, judged_beside, by_patterns, matches_some, each_member, matches}
 use Rattle.schemars_schema.proofs.Containers.{object-as_object}
 use Rattle.schemars_validate.specs.Meant.{meant}
-use Rattle.schemars_validate.specs.Judged.{marked, keys_of, is_taken, unmarked_by, each_unmarked, is_marked}
-use Rattle.schemars_validate.specs.Schemas.{schema_at, schemas_in, judge_at, judges_of, judges_in, named_judges_in, named_judges}
-use Rattle.schemars_validate.specs.Parts.{reads, items_by, members_by, each_item, member_by}
-use Rattle.schemars_validate.proofs.Measures.{depth_at, items_depth_at, members_depth_at, schema_under, list_under, map_under, first_under, other_under, unevaluated_under, resolved_shallow, reference_less}
+use Rattle.schemars_validate.specs.Judged.{marked, keys_of, is_taken, unmarked_by, each_unmarked, is_marked, judged_beside_members, judged_by_one}
+use Rattle.schemars_validate.specs.Schemas.{schema_at, schemas_in, schema_where_read, schemas_where_read, judge_at, judges_of, judges_in, named_judges_in, named_judges}
+use Rattle.schemars_validate.specs.Parts.{reads, items_by, members_by, each_item, member_by, names_by, dependents_by}
+use Rattle.schemars_validate.proofs.Measures.{depth_at, items_depth_at, members_depth_at, schema_under, list_under, map_under, first_under, other_under, read_under, read_map_under, resolved_shallow, reference_less}
 use Rattle.schemars_validate.proofs.Readings.{judge_other}
-use Rattle.schemars_validate.proofs.Judging.{object_alone, object_whole, object_with, object_with_marks, object_without, object_without_marks, beside_says, beside_marks, negated, mapped_some, marked_none, kept_marks, no_text_says, no_text_marks, unanswered_says, unanswered_marks, answered_says, answered_marks, follow_zero, follow_lost, follow_found, next_marks}
+use Rattle.schemars_validate.proofs.Judging.{object_alone, object_whole, object_with, object_with_marks, object_without, object_without_marks, inside_says, beside_says, beside_marks, negated, mapped_some, marked_none, kept_marks, no_text_says, no_text_marks, unanswered_says, unanswered_marks, answered_says, answered_marks, follow_zero, follow_lost, follow_found, next_marks}
 use Rattle.std.specs.Slice.Iter.{iter_rest}
 use Rattle.serde_json.proofs.Views.{Entry}
 use Rattle.schemars_text.proofs.Lists.{from_here, nothing_left}
@@ -78,7 +78,7 @@ object-beside-requires-in-None g t c = λ κs s. (omega (arith, c.decreases), s)
 pub object-unevaluated-requires : goal.object-unevaluated-requires
 object-unevaluated-requires g t c =
     let deep = ap depth_at c.in-Some.ensures in
-    let under = unevaluated_under c.args.d.now.dialect.reads_unevaluated (codes "unevaluatedProperties")
+    let under = read_under c.args.d.now.dialect.reads_unevaluated (codes "unevaluatedProperties")
     (members_view c.args.keywords.now.entries) in
     λ κs s. (omega (arith, deep, under, c.decreases), s)
 
@@ -151,39 +151,37 @@ object-returns-in-None-clause-judged g t c =
 
 -- ---- all keywords but the last
 
-pub beside-items-requires : goal.beside-items-requires
-beside-items-requires g t c =
-    let ms = members_view c.args.keywords.now.entries in
-    let r = c.args.d.now.dialect.reads_prefix_items in
-    let first = ap items_depth c.item_schemas.ensures.first in
-    let others = ap depth_at c.item_schemas.ensures.others in
-    λ κs s. (omega (arith, first, others, first_under r ms, other_under r ms, c.decreases), s)
-
-pub beside-members-requires : goal.beside-members-requires
-beside-members-requires g t c =
-    let ms = members_view c.args.keywords.now.entries in
-    let named = ap members_depth_at c.member_schemas-schemas.ensures.named in
-    let matched = ap members_depth_at c.member_schemas-schemas.ensures.by_pattern in
-    let others = ap depth_at c.member_schemas-schemas.ensures.others in
-    λ κs s. (omega (arith, named, matched, others, map_under (codes "properties") ms, map_under (codes "patternProperties") ms, schema_under (codes "additionalProperties") ms, c.decreases), s)
+pub beside-inside-requires : goal.beside-inside-requires
+beside-inside-requires g t c = λ κs s. (omega (arith, c.decreases), s)
 
 pub beside-each-requires : goal.beside-each-requires
 beside-each-requires g t c =
     let ms = members_view c.args.keywords.now.entries in
-    let deep = ap items_depth_at (c.schemas_in.ensures ∙ ap schemas_in c.member-2.ensures) in
+    let deep = ap items_depth_at (c.schemas_in.ensures ∙ ap schemas_in c.member.ensures) in
     λ κs s. (omega (arith, deep, list_under (codes "allOf") ms, c.decreases), s)
 
 pub beside-each-requires-2 : goal.beside-each-requires-2
 beside-each-requires-2 g t c =
     let ms = members_view c.args.keywords.now.entries in
-    let deep = ap items_depth_at (c.schemas_in-2.ensures ∙ ap schemas_in c.member-3.ensures) in
+    let deep = ap items_depth_at (c.schemas_in-2.ensures ∙ ap schemas_in c.member-2.ensures) in
     λ κs s. (omega (arith, deep, list_under (codes "anyOf") ms, c.decreases), s)
 
 pub beside-each-requires-3 : goal.beside-each-requires-3
 beside-each-requires-3 g t c =
     let ms = members_view c.args.keywords.now.entries in
-    let deep = ap items_depth_at (c.schemas_in-3.ensures ∙ ap schemas_in c.member-4.ensures) in
+    let deep = ap items_depth_at (c.schemas_in-3.ensures ∙ ap schemas_in c.member-3.ensures) in
     λ κs s. (omega (arith, deep, list_under (codes "oneOf") ms, c.decreases), s)
+
+pub beside-condition-requires : goal.beside-condition-requires
+beside-condition-requires g t c = λ κs s. (omega (arith, c.decreases), s)
+
+pub beside-dependents-requires : goal.beside-dependents-requires
+beside-dependents-requires g t c =
+    let ms = members_view c.args.keywords.now.entries in
+    let r = c.args.d.now.dialect.reads_unevaluated in
+    let deep = ap members_depth_at (c.schemas_where_read-named.ensures
+    ∙ (λ i. schemas_where_read (c.reads_unevaluated.ensures i) (c.member-4.ensures i))) in
+    λ κs s. (omega (arith, deep, read_map_under r (codes "dependentSchemas") ms, c.decreases), s)
 
 pub beside-reference-requires : goal.beside-reference-requires
 beside-reference-requires g t c = λ κs s. (omega (arith, c.decreases), s)
@@ -208,24 +206,23 @@ beside-returns-clause-verdict g t c =
     ∙ beside_says x raw v _ _ _ _ _ _ _ _ _
     c.in_ok-reference.ensures.verdict
     c.by_itself-itself.ensures
-    (c.in_ok-items.ensures
-    ∙ (λ i. items_by (judges_of x (c.item_schemas.ensures.first i)) (judge_at x (c.item_schemas.ensures.others i)) v))
-    (c.required_says-required.ensures ∙ ap (λ (o : Option Data). Rattle.schemars_schema.specs.Acceptance.required_says o v) c.member.ensures)
-    (c.in_ok-members.ensures
-    ∙ (λ i. members_by reading (named_judges_in x (c.member_schemas-schemas.ensures.named i))
-    (named_judges_in x (c.member_schemas-schemas.ensures.by_pattern i)) (judge_at x (c.member_schemas-schemas.ensures.others i)) v))
+    c.in_ok-inside.ensures
     (c.in_ok-all.ensures.verdict
     ∙ ap (λ (o : Option Items). where_some o (λ ds. all_of (map (λ s. s.fits v) (judges_of x ds))))
-    (c.schemas_in.ensures ∙ ap schemas_in c.member-2.ensures))
+    (c.schemas_in.ensures ∙ ap schemas_in c.member.ensures))
     (c.in_ok-any.ensures.verdict
     ∙ ap (λ (o : Option Items). where_some o (λ ds. any_of (map (λ s. s.fits v) (judges_of x ds))))
-    (c.schemas_in-2.ensures ∙ ap schemas_in c.member-3.ensures))
+    (c.schemas_in-2.ensures ∙ ap schemas_in c.member-2.ensures))
     (c.in_ok-one.ensures.verdict
     ∙ ap (λ (o : Option Items). where_some o (λ ds. one_of (map (λ s. s.fits v) (judges_of x ds))))
-    (c.schemas_in-3.ensures ∙ ap schemas_in c.member-4.ensures))
+    (c.schemas_in-3.ensures ∙ ap schemas_in c.member-3.ensures))
     (c.unless_missing-not.ensures
     ∙ (ap (λ (y : Verdict). if is_some c.schema_at-denied.result then y else Yes) c.opposite.ensures
     ∙ negated x (schema_at (raw (codes "not"))) v (is_some c.schema_at-denied.result) _ is said))
+    c.in_ok-chosen.ensures.verdict
+    (c.in_ok-dependent.ensures.verdict
+    ∙ ap (λ (o : Option Members). dependents_by (named_judges_in x o) v) (c.schemas_where_read-named.ensures
+    ∙ (λ i. schemas_where_read (c.reads_unevaluated.ensures i) (c.member-4.ensures i))))
 
 pub beside-returns-clause-judged : goal.beside-returns-clause-judged
 beside-returns-clause-judged g t c =
@@ -236,20 +233,73 @@ beside-returns-clause-judged g t c =
     let raw : Raw = λ k. get_member k ms in
     let old = c.args.marks.now.items in
     beside_marks x raw v old c.mark_members.new.marks.items c.each.new.marks.items c.each-2.new.marks.items c.each-3.new.marks.items
-    c.reference.new.marks.items
+    c.condition.new.marks.items c.dependents.new.marks.items c.reference.new.marks.items
     (c.mark_members.ensures
-    ∙ (λ i. marked (is_taken reading (c.member_schemas-schemas.ensures.named i) (c.member_schemas-schemas.ensures.by_pattern i)
-    (c.member_schemas-schemas.ensures.others i)) (keys_of v) old))
+    ∙ (λ i. marked (is_taken reading (c.member_schemas.ensures.named i) (c.member_schemas.ensures.by_pattern i)
+    (c.member_schemas.ensures.others i)) (keys_of v) old))
     (c.in_ok-all.ensures.judged
     ∙ ap (λ (o : Option Items). marked (judged_by_some (judges_in x o) v) (keys_of v) c.mark_members.new.marks.items)
-    (c.schemas_in.ensures ∙ ap schemas_in c.member-2.ensures))
+    (c.schemas_in.ensures ∙ ap schemas_in c.member.ensures))
     (c.in_ok-any.ensures.judged
     ∙ ap (λ (o : Option Items). marked (judged_by_some (judges_in x o) v) (keys_of v) c.each.new.marks.items)
-    (c.schemas_in-2.ensures ∙ ap schemas_in c.member-3.ensures))
+    (c.schemas_in-2.ensures ∙ ap schemas_in c.member-2.ensures))
     (c.in_ok-one.ensures.judged
     ∙ ap (λ (o : Option Items). marked (judged_by_some (judges_in x o) v) (keys_of v) c.each-2.new.marks.items)
-    (c.schemas_in-3.ensures ∙ ap schemas_in c.member-4.ensures))
+    (c.schemas_in-3.ensures ∙ ap schemas_in c.member-3.ensures))
+    c.in_ok-chosen.ensures.judged
+    (c.in_ok-dependent.ensures.judged
+    ∙ ap (λ (o : Option Members). marked (judged_beside_members (named_judges_in x o) v) (keys_of v) c.condition.new.marks.items)
+    (c.schemas_where_read-named.ensures ∙ (λ i. schemas_where_read (c.reads_unevaluated.ensures i) (c.member-4.ensures i))))
     c.in_ok-reference.ensures.judged
+
+-- ---- items, members and keys
+
+pub inside-items-requires : goal.inside-items-requires
+inside-items-requires g t c =
+    let ms = members_view c.args.keywords.now.entries in
+    let r = c.args.d.now.dialect.reads_prefix_items in
+    let first = ap items_depth c.item_schemas.ensures.first in
+    let others = ap depth_at c.item_schemas.ensures.others in
+    λ κs s. (omega (arith, first, others, first_under r ms, other_under r ms, c.decreases), s)
+
+pub inside-contains-requires : goal.inside-contains-requires
+inside-contains-requires g t c = λ κs s. (omega (arith, c.decreases), s)
+
+pub inside-names-requires : goal.inside-names-requires
+inside-names-requires g t c =
+    let ms = members_view c.args.keywords.now.entries in
+    let r = c.args.d.now.dialect.reads_const in
+    let deep = ap depth_at (c.schema_where_read-of_names.ensures
+    ∙ (λ i. schema_where_read (c.reads_const.ensures i) (c.member.ensures i))) in
+    λ κs s. (omega (arith, deep, read_under r (codes "propertyNames") ms, c.decreases), s)
+
+pub inside-members-requires : goal.inside-members-requires
+inside-members-requires g t c =
+    let ms = members_view c.args.keywords.now.entries in
+    let named = ap members_depth_at c.member_schemas.ensures.named in
+    let matched = ap members_depth_at c.member_schemas.ensures.by_pattern in
+    let others = ap depth_at c.member_schemas.ensures.others in
+    λ κs s. (omega (arith, named, matched, others, map_under (codes "properties") ms, map_under (codes "patternProperties") ms, schema_under (codes "additionalProperties") ms, c.decreases), s)
+
+pub inside-returns : goal.inside-returns
+inside-returns g t c =
+    let reading = g.P.Patterns.reading c.args.d.now.patterns.now in
+    let x = context c.args.d.now.dialect (view c.args.d.now.whole.now) reading c.args.left in
+    let v = view c.args.value.now in
+    let ms = members_view c.args.keywords.now.entries in
+    let raw : Raw = λ k. get_member k ms in
+    c.all_of.ensures
+    ∙ inside_says x raw v _ _ _ _ _
+    (c.in_ok-items.ensures
+    ∙ (λ i. items_by (judges_of x (c.item_schemas.ensures.first i)) (judge_at x (c.item_schemas.ensures.others i)) v))
+    c.in_ok-contains.ensures
+    c.by_keys-keys.ensures
+    (c.in_ok-names.ensures
+    ∙ ap (λ (o : Option Data). names_by (judge_at x o) v) (c.schema_where_read-of_names.ensures
+    ∙ (λ i. schema_where_read (c.reads_const.ensures i) (c.member.ensures i))))
+    (c.in_ok-members.ensures
+    ∙ (λ i. members_by reading (named_judges_in x (c.member_schemas.ensures.named i))
+    (named_judges_in x (c.member_schemas.ensures.by_pattern i)) (judge_at x (c.member_schemas.ensures.others i)) v))
 
 -- ---- references
 
