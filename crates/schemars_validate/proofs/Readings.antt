@@ -369,13 +369,13 @@ pattern_parts : (patterns : Patterns) (c : Context) (x : Option Members) (ms : M
 pattern_parts patterns c None ms = sym (each_nothing ms)
 pattern_parts patterns c (Some ns) ms = refl
 
-chosen : (b : Bool) → (if b then Yes else Yes) ≡ Yes
-chosen true = refl
-chosen false = refl
+either_way : (b : Bool) → (if b then Yes else Yes) ≡ Yes
+either_way true = refl
+either_way false = refl
 
 other_parts : (taken : Text → Bool) (others : Option Judge) (ms : Members)
     → where_some others (λ s. each_member (λ k w. if taken k then Yes else s.fits w) ms) ≡ each_member (of_others taken others) ms
-other_parts taken None ms = sym (each_same (of_others taken None) (λ k w. Yes) (λ k w. chosen (taken k)) ms ∙ each_nothing ms)
+other_parts taken None ms = sym (each_same (of_others taken None) (λ k w. Yes) (λ k w. either_way (taken k)) ms ∙ each_nothing ms)
 other_parts taken (Some s) ms = refl
 
 in_kind : {A : Type 0} (x : Option A) (f g : A → Verdict) → ((a : A) → f a ≡ g a) → where_some x f ≡ where_some x g
