@@ -3,17 +3,17 @@ use Rattle.std.proofs.Common.{◌≡◌, ℕ, zero, suc, ◌-◌, ◌<◌, List,
 use Rattle.std.proofs.Math.Path.{fun_ext}
 use Rattle.std.specs.Prelude.{◌&&◌, ◌||◌, not, is_some, option_map, option_and_then, if◌then◌else◌, map, codes}
 use Rattle.serde_json.specs.Data.{Data, object, Items, Members, no_members, member}
-use Rattle.serde_json.specs.Find.{get_member, as_str, as_object}
+use Rattle.serde_json.specs.Find.{get_member, as_str, as_array, as_object}
 use Rattle.schemars_schema.specs.Json.{Text}
 use Rattle.schemars_schema.specs.Lookup.{resolved}
 use Rattle.schemars_schema.specs.Verdict.{Verdict, Yes, No, Open, both, opposite, all_of, any_of, one_of, is_yes}
-use Rattle.schemars_schema.specs.Acceptance.{Dialect, Patterns, Context, Judge, Raw, context, judge, all_keywords, reference_alone, is_reference, follow, unanswered, read_data, where_some, each_member, reference_says, judged_by, judged_by_some, judged_by_list, judged_by_reference, judged_beside, unevaluated_properties_say, has_schema, schema_named, matches_some, named_in, Reading, contains_says, condition_says, chosen, schema_says, branch_of, judged_by_schema, judged_by_condition, judged_by_dependents}
+use Rattle.schemars_schema.specs.Acceptance.{Dialect, Patterns, Context, Judge, Raw, context, judge, all_keywords, reference_alone, is_reference, follow, unanswered, read_data, where_some, each_member, reference_says, judged_by, judged_by_some, judged_by_list, judged_by_reference, judged_beside, unevaluated_properties_say, has_schema, schema_named, matches_some, named_in, Reading, contains_says, count_of_fitting, condition_says, chosen, schema_says, branch_of, judged_by_schema, judged_by_condition, judged_by_dependents}
 use Rattle.schemars_schema.proofs.Verdicts.{both-yes, both-assoc}
 use Rattle.schemars_schema.proofs.Objects.{says, judge-object}
 use Rattle.schemars_validate.specs.Schemas.{schema_at, schemas_in, schemas_by_name, schema_where_read, schemas_where_read, judge_at, judges_in, named_judges, named_judges_in, judges_of}
 use Rattle.schemars_validate.specs.Judged.{keys_in, keys_of, marked, unmarked, each_unmarked, unmarked_by, is_named, is_matched, is_taken, judged_by_one, judged_beside_members}
 use Rattle.schemars_validate.specs.Parts.{by_itself, by_keys, inside, besides, names_by, dependents_by, reads, items_by, members_by, first_schemas, other_schema}
-use Rattle.schemars_validate.proofs.Readings.{read_items_say, read_members_say, read_each, read_one, read_names, read_condition, read_dependents, read_named, read_schema, read_listed, named_in-read, named-judges, matched-judges, read_additional}
+use Rattle.schemars_validate.proofs.Readings.{read_items_say, read_members_say, read_each, read_one, read_names, read_contains, counted_says, read_condition, read_dependents, read_named, read_schema, read_listed, named_in-read, named-judges, matched-judges, read_additional}
 
 -- ---- an object
 
@@ -222,6 +222,9 @@ dependents_judged true c x v k =
 dependents_judged false c x v k =
     sym (no_one (as_object v)) ∙ no_one (option_and_then (λ r. r.named) (option_map (read_data c) x))
 
+pub no_beside_marks : (v : Data) (ks : List Text) (bs : List Bool) → bs ≡ marked (judged_beside_members [] v) ks bs
+no_beside_marks v ks bs = sym (marked_same _ _ (λ k. sym (no_one (as_object v))) ks bs ∙ marked_none ks bs)
+
 -- by its own keywords, by each list, by the condition, by schemas beside members and by the reference
 pub beside_judged : (c : Context) (raw : Raw) (v : Data) (k : Text)
     → (((((((is_taken c.patterns (schemas_by_name (raw (codes "properties"))) (schemas_by_name (raw (codes "patternProperties")))
@@ -291,6 +294,23 @@ beside_marks c raw v m0 m1 m2 m3 m4 m5 m6 m7 e1 e2 e3 e4 e5 e6 e7 =
     let seven = then_marked (λ (k : Text). ((((f1 k || f2 k) || f3 k) || f4 k) || f5 k) || f6 k) f7 ks m0 m6 m7 six e7 in
     seven ∙ marked_same (λ (k : Text). (((((f1 k || f2 k) || f3 k) || f4 k) || f5 k) || f6 k) || f7 k) (judged_beside c raw (reads c raw) v)
     (beside_judged c raw v) ks m0
+
+-- ---- `contains`
+
+pub no_contains : (r counts : Bool) (c : Context) (x least most : Option Data) (v : Data) → None ≡ schema_where_read r x
+    → Yes ≡ contains_says r counts (option_map (read_data c) x) least most v
+no_contains r counts c x least most v is =
+    ap (λ o. where_some (judge_at c o) (λ s. where_some (as_array v) (λ vs. counted_says counts least most (count_of_fitting s vs)))) is
+    ∙ read_contains r counts c x least most v
+
+pub contained : (r counts : Bool) (c : Context) (x least most : Option Data) (d v : Data) (vs : Items) (count : Option ℕ)
+    → Some d ≡ schema_where_read r x → Some vs ≡ as_array v → count ≡ count_of_fitting (judge c d) vs
+    → counted_says counts least most count ≡ contains_says r counts (option_map (read_data c) x) least most v
+contained r counts c x least most d v vs count is items counted =
+    ap (counted_says counts least most) counted
+    ∙ (ap (λ o. where_some o (λ vs. counted_says counts least most (count_of_fitting (judge c d) vs))) items
+    ∙ (ap (λ o. where_some (judge_at c o) (λ s. where_some (as_array v) (λ vs. counted_says counts least most (count_of_fitting s vs)))) is
+    ∙ read_contains r counts c x least most v))
 
 -- ---- a condition
 
