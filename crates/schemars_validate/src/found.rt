@@ -125,7 +125,10 @@ pub fn unevaluated_in(dialect: Dialect, keywords: &Map<String, Value>) -> Option
         ≡ schema_where_read dialect.reads_unevaluated
         (get_member (codes "unevaluatedProperties") (members_view keywords.now.entries)) }
 {
-    schema_where_read(dialect.reads_unevaluated(), member(keywords, "unevaluatedProperties"))
+    schema_where_read(
+        dialect.reads_unevaluated(),
+        member(keywords, "unevaluatedProperties"),
+    )
 }
 
 /// The schemas of the first items of a list, and of all others.

@@ -132,7 +132,10 @@ fn beside<P: Patterns>(
         marks,
     )?;
     let chosen = condition(d, left, keywords, value, marks)?;
-    let named = schemas_where_read(d.dialect.reads_unevaluated(), member(keywords, "dependentSchemas"));
+    let named = schemas_where_read(
+        d.dialect.reads_unevaluated(),
+        member(keywords, "dependentSchemas"),
+    );
     let dependent = dependents(d, left, named, value, marks)?;
     let reference = reference(d, left, keywords, value, marks)?;
     let denied = schema_at(member(keywords, "not"));

@@ -612,11 +612,7 @@ fn dependent_required_says(
 }
 
 // What is required beside each of the members.
-fn each_required(
-    lists: &Map<String, Value>,
-    members: &Map<String, Value>,
-    value: &Value,
-) -> Verdict
+fn each_required(lists: &Map<String, Value>, members: &Map<String, Value>, value: &Value) -> Verdict
     ensures { meant result ≡ each_member (λ k names. where_some (get_member k (members_view members.now.entries))
         (λ w. required_says (Some names) (view value.now))) (members_view lists.now.entries) }
 {

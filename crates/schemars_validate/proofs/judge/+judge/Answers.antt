@@ -6,7 +6,7 @@ use Rattle.serde_json.specs.Find.{get_member, as_object}
 use Rattle.serde_json.specs.View.{view, items_view, members_view}
 use Rattle.schemars_schema.specs.Json.{Text}
 use Rattle.schemars_schema.specs.Verdict.{Verdict, Yes, No, Open, verdict, all_of, any_of, one_of, both}
-use Rattle.schemars_schema.specs.Acceptance.{Context, read_data, Judge, Raw, context, judge, follow, where_some, count_of_fitting, beside_members, all_keywords, reference_alone, judged_by_some, judged_beside, by_patterns, matches_some, each_member, matches}
+use Rattle.schemars_schema.specs.Acceptance.{read_data, Judge, Raw, context, judge, follow, where_some, count_of_fitting, beside_members, judged_by_some, judged_beside, by_patterns, matches_some, each_member, matches}
 use Rattle.schemars_schema.proofs.Containers.{object-as_object}
 use Rattle.schemars_validate.specs.Meant.{meant}
 use Rattle.schemars_validate.specs.Judged.{marked, keys_of, is_taken, unmarked_by, each_unmarked, is_marked, judged_beside_members, judged_by_one}
