@@ -1,5 +1,5 @@
 -- A number that is a count: whole, and not below zero.
-use Rattle.std.proofs.Common.{◌≡◌, ℕ, ℤ, pos, negsuc, true, refl, sym, ap, ◌∙◌, true≢false, Option, Some, None, nat_le, arith}
+use Rattle.std.proofs.Common.{◌≡◌, ℕ, ℤ, pos, negsuc, ◌+◌, true, refl, sym, ap, ◌∙◌, true≢false, Option, Some, None, nat_le, arith}
 use Rattle.std.proofs.lemmas.Bool.Decides.{nat_tests}
 use Rattle.std.specs.Prelude.{is_some, option_map, option_and_then, int_le}
 use Rattle.serde_json.specs.Data.{Num, unsigned}
@@ -37,3 +37,7 @@ count_at_least n k count = go (whole_of n) refl count
     go None is some = absurd (true≢false (sym some))
     go (Some (pos m)) is some = ap Some (least-whole (pos k) n (pos m) is)
     go (Some (negsuc m)) is some = absurd (true≢false (sym some))
+
+-- so many beside those of a count
+abbrev pub added : ℕ → Option ℕ → Option ℕ
+added n count = option_map (λ m. n + m) count

@@ -9,7 +9,7 @@ use Rattle.schemars_schema.specs.SchemaData.{is_schema}
 use Rattle.schemars_schema.specs.Encoding.{lookup, percent_decoded}
 use Rattle.schemars_schema.specs.Lookup.{resolved}
 use Rattle.schemars_schema.specs.Acceptance.{when}
-use Rattle.schemars_validate.specs.Schemas.{are_schemas, are_named_schemas, schema_at, schemas_in, schemas_by_name}
+use Rattle.schemars_validate.specs.Schemas.{are_schemas, are_named_schemas, schema_at, schemas_in, schemas_by_name, schema_where_read, schemas_where_read}
 use Rattle.schemars_validate.specs.Parts.{first_schemas, other_schema, items_or_none}
 
 abbrev pub depth_at : Option Data → ℕ
@@ -90,9 +90,13 @@ other_under false ms = go (is_some (schemas_in (get_member (codes "items") ms)))
     go true = schema_under (codes "additionalItems") ms
     go false = schema_under (codes "items") ms
 
-pub unevaluated_under : (r : Bool) (k : Text) (ms : Members) → depth_at (if r then schema_at (get_member k ms) else None) ≤ members_depth ms
-unevaluated_under true k ms = schema_under k ms
-unevaluated_under false k ms = omega arith
+pub read_under : (r : Bool) (k : Text) (ms : Members) → depth_at (schema_where_read r (get_member k ms)) ≤ members_depth ms
+read_under true k ms = schema_under k ms
+read_under false k ms = omega arith
+
+pub read_map_under : (r : Bool) (k : Text) (ms : Members) → members_depth_at (schemas_where_read r (get_member k ms)) ≤ members_depth ms
+read_map_under true k ms = map_under k ms
+read_map_under false k ms = omega arith
 
 -- ---- what a reference leads to is no deeper than the document
 

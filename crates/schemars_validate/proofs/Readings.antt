@@ -6,12 +6,12 @@ use Rattle.serde_json.specs.Find.{get_member, as_array, as_object, as_bool}
 use Rattle.schemars_text.proofs.Members.{get_member-member}
 use Rattle.schemars_schema.specs.Json.{Text}
 use Rattle.schemars_schema.specs.SchemaData.{is_schema}
-use Rattle.schemars_schema.specs.Verdict.{Verdict, Yes, both, opposite}
-use Rattle.schemars_schema.specs.Acceptance.{Context, Judge, Reading, Patterns, Raw, judge, read_data, read_items, read_members, all_named, both_some, truth_value, where_some, when, by_position, each_past, items_say, positions_say, past_say, past_list_say, count_of_positions, each_says, not_says, schema_named, matches_some, by_patterns, each_member, named_in, properties_say, pattern_properties_say, additional_properties_say, is_covered, matches}
+use Rattle.schemars_schema.specs.Verdict.{Verdict, Yes, Open, both, verdict}
+use Rattle.schemars_schema.specs.Acceptance.{Context, Judge, Reading, Patterns, Raw, judge, read_data, read_items, read_members, all_named, both_some, truth_value, where_some, when, by_position, each_past, items_say, positions_say, past_say, past_list_say, count_of_positions, each_says, schema_says, condition_says, chosen, contains_says, count_of_fitting, where_read, property_names_say, dependent_schemas_say, schema_named, matches_some, by_patterns, each_member, named_in, properties_say, pattern_properties_say, additional_properties_say, is_covered, matches}
 use Rattle.schemars_schema.proofs.Verdicts.{both-yes, both-assoc, both-middle}
-use Rattle.schemars_validate.specs.Schemas.{are_schemas, are_named_schemas, schema_at, schemas_in, schemas_by_name, judge_at, judges_of, named_judges, named_judges_in}
+use Rattle.schemars_validate.specs.Schemas.{are_schemas, are_named_schemas, schema_at, schemas_in, schemas_by_name, schema_where_read, schemas_where_read, judge_at, judges_of, named_judges, named_judges_in}
 use Rattle.schemars_validate.specs.Judged.{is_named, matches_one, is_matched}
-use Rattle.schemars_validate.specs.Parts.{each_item, items_by, items_or_none, first_schemas, other_schema, member_by, members_by, reads}
+use Rattle.schemars_validate.specs.Parts.{each_item, items_by, items_or_none, first_schemas, other_schema, member_by, members_by, reads, names_by, dependents_by, is_contained}
 
 -- ---- schemas
 
@@ -121,14 +121,65 @@ read_each join c x v = sym (flat (option_map (read_data c) x) ∙ (ap (λ y. whe
     through None = refl
     through (Some ds) = refl
 
-pub read_not : (c : Context) (x : Option Data) (v : Data)
-    → where_some (judge_at c (schema_at x)) (λ s. opposite (s.fits v)) ≡ not_says (option_map (read_data c) x) v
-read_not c x v = sym (flat (option_map (read_data c) x) ∙ ap (λ y. where_some y (λ s. opposite (s.fits v))) (read_schema c x))
+pub read_one : (f : Judge → Verdict) (c : Context) (x : Option Data)
+    → where_some (judge_at c (schema_at x)) f ≡ where_some (option_map (read_data c) x) (λ r. where_some r.schema f)
+read_one f c x = sym (flat (option_map (read_data c) x) ∙ ap (λ y. where_some y f) (read_schema c x))
   where
-    flat : (y : Option Reading) → where_some y (λ r. where_some r.schema (λ s. opposite (s.fits v)))
-        ≡ where_some (option_and_then (λ r. r.schema) y) (λ s. opposite (s.fits v))
+    flat : (y : Option Reading) → where_some y (λ r. where_some r.schema f) ≡ where_some (option_and_then (λ r. r.schema) y) f
     flat None = refl
     flat (Some r) = refl
+
+-- ---- keywords that only some drafts read
+
+swapped : {A B : Type 0} (of : Option B) (x : Option A) (f : A → B → Verdict)
+    → where_some of (λ b. where_some x (λ a. f a b)) ≡ where_some x (λ a. where_some of (λ b. f a b))
+swapped None None f = refl
+swapped None (Some a) f = refl
+swapped (Some b) None f = refl
+swapped (Some b) (Some a) f = refl
+
+pub read_where_read : {B : Type 0} (r : Bool) (c : Context) (x : Option Data) (of : Option B) (f : Judge → B → Verdict)
+    → where_some (judge_at c (schema_where_read r x)) (λ s. where_some of (λ b. f s b))
+    ≡ where_read r (option_map (read_data c) x) (λ y. where_some of (λ b. where_some y.schema (λ s. f s b)))
+read_where_read true c None of f = refl
+read_where_read true c (Some d) of f =
+    sym (ap (λ o. where_some of (λ b. where_some o (λ s. f s b))) (read_schema c (Some d)) ∙ swapped of (judge_at c (schema_at (Some d))) f)
+read_where_read false c None of f = refl
+read_where_read false c (Some d) of f = refl
+
+pub read_names : (r : Bool) (c : Context) (x : Option Data) (v : Data)
+    → names_by (judge_at c (schema_where_read r x)) v ≡ property_names_say r (option_map (read_data c) x) v
+read_names r c x v = read_where_read r c x (as_object v) (λ s ms. each_member (λ k w. s.fits (string k)) ms)
+
+abbrev pub counted_says : Bool → Option Data → Option Data → Option ℕ → Verdict
+counted_says reads least most count = elim count [ None ↦ Open | Some n ↦ verdict (is_contained reads least most n) ]
+
+pub read_contains : (r counts : Bool) (c : Context) (x least most : Option Data) (v : Data)
+    → where_some (judge_at c (schema_where_read r x)) (λ s. where_some (as_array v) (λ vs. counted_says counts least most (count_of_fitting s vs)))
+    ≡ contains_says r counts (option_map (read_data c) x) least most v
+read_contains r counts c x least most v = read_where_read r c x (as_array v) (λ s vs. counted_says counts least most (count_of_fitting s vs))
+
+pub read_condition : (r : Bool) (c : Context) (x : Option Data) (accepted refused : Option Reading) (v : Data)
+    → where_some (judge_at c (schema_where_read r x)) (λ s. chosen (s.fits v) (schema_says accepted v) (schema_says refused v))
+    ≡ condition_says r (option_map (read_data c) x) accepted refused v
+read_condition r c x accepted refused v =
+    read_where_read r c x (Some v) (λ s w. chosen (s.fits v) (schema_says accepted v) (schema_says refused v))
+
+-- of no schemas
+no_dependents : (v : Data) → dependents_by [] v ≡ Yes
+no_dependents v = says_nothing (as_object v)
+
+pub read_dependents : (r : Bool) (c : Context) (x : Option Data) (v : Data)
+    → dependents_by (named_judges_in c (schemas_where_read r x)) v ≡ dependent_schemas_say r (option_map (read_data c) x) v
+read_dependents true c None v = no_dependents v
+read_dependents true c (Some d) v =
+    sym (ap (λ o. where_some o (λ ss. dependents_by ss v)) (read_named c (Some d)) ∙ through (schemas_by_name (Some d)))
+  where
+    through : (y : Option Members) → where_some (option_map (named_judges c) y) (λ ss. dependents_by ss v) ≡ dependents_by (named_judges_in c y) v
+    through None = sym (no_dependents v)
+    through (Some ms) = refl
+read_dependents false c None v = no_dependents v
+read_dependents false c (Some d) v = no_dependents v
 
 -- ---- lists
 
@@ -318,13 +369,13 @@ pattern_parts : (patterns : Patterns) (c : Context) (x : Option Members) (ms : M
 pattern_parts patterns c None ms = sym (each_nothing ms)
 pattern_parts patterns c (Some ns) ms = refl
 
-chosen : (b : Bool) → (if b then Yes else Yes) ≡ Yes
-chosen true = refl
-chosen false = refl
+either_way : (b : Bool) → (if b then Yes else Yes) ≡ Yes
+either_way true = refl
+either_way false = refl
 
 other_parts : (taken : Text → Bool) (others : Option Judge) (ms : Members)
     → where_some others (λ s. each_member (λ k w. if taken k then Yes else s.fits w) ms) ≡ each_member (of_others taken others) ms
-other_parts taken None ms = sym (each_same (of_others taken None) (λ k w. Yes) (λ k w. chosen (taken k)) ms ∙ each_nothing ms)
+other_parts taken None ms = sym (each_same (of_others taken None) (λ k w. Yes) (λ k w. either_way (taken k)) ms ∙ each_nothing ms)
 other_parts taken (Some s) ms = refl
 
 in_kind : {A : Type 0} (x : Option A) (f g : A → Verdict) → ((a : A) → f a ≡ g a) → where_some x f ≡ where_some x g

@@ -9,7 +9,7 @@ use Rattle.serde_json.proofs.Views.{Entry}
 use Rattle.std.specs.Slice.Iter.{iter_rest, iter_steps}
 use Rattle.schemars_schema.specs.Json.{Text}
 use Rattle.schemars_schema.specs.Verdict.{Verdict, Yes, both}
-use Rattle.schemars_schema.specs.Acceptance.{Context, Judge, Patterns, judge, where_some, by_patterns, matches_some, schema_named}
+use Rattle.schemars_schema.specs.Acceptance.{Context, Judge, Patterns, judge, where_some, by_patterns, matches_some, schema_named, beside_members}
 use Rattle.schemars_schema.proofs.Verdicts.{both-assoc}
 use Rattle.schemars_validate.specs.Judged.{each_unmarked, is_marked}
 use Rattle.schemars_validate.specs.Schemas.{first_of, judge_at, judges_of, named_judges_in}
@@ -141,3 +141,9 @@ or_no false = refl
 pub no_item_says : (ss : List Judge) (others : Option Judge) → each_item ss others no_items ≡ Yes
 no_item_says [] others = refl
 no_item_says (s ∷ ss) others = refl
+
+-- ---- schemas beside members
+
+pub beside_one : (s : Text × Judge) (ss : List (Text × Judge)) (ms : Members) → is_some (get_member s.0 ms) ≡ true
+    → beside_members (s ∷ ss) ms ≡ s.1 ∷ beside_members ss ms
+beside_one s ss ms there = ap (λ b. if b then s.1 ∷ beside_members ss ms else beside_members ss ms) there

@@ -4,7 +4,7 @@ use Rattle.serde_json.specs.Data.{Data, null, boolean, number, string, array, ob
 use Rattle.schemars_schema.specs.Json.{Text}
 use Rattle.serde_json.specs.Find.{get_member, as_object}
 use Rattle.schemars_schema.specs.Verdict.{Verdict, Yes, both}
-use Rattle.schemars_schema.specs.Acceptance.{Judge, Patterns, matches, where_some}
+use Rattle.schemars_schema.specs.Acceptance.{Judge, Patterns, matches, where_some, judged_by, judged_by_some, beside_members}
 
 abbrev pub keys_in : Members → List Text
 keys_in no_members = []
@@ -41,6 +41,14 @@ each_unmarked s (member k w ms) (b ∷ bs) = both (if b then Yes else s.fits w) 
 
 abbrev pub unmarked_by : Judge → Data → List Bool → Verdict
 unmarked_by s v bs = where_some (as_object v) (λ ms. each_unmarked s ms bs)
+
+-- ---- which members a schema of the same value judges, if there is one, and those by name
+
+abbrev pub judged_by_one : Option Judge → Data → Text → Bool
+judged_by_one schema v k = elim schema [ None ↦ false | Some s ↦ judged_by s v k ]
+
+abbrev pub judged_beside_members : List (Text × Judge) → Data → Text → Bool
+judged_beside_members ss v k = elim (as_object v) [ None ↦ false | Some ms ↦ judged_by_some (beside_members ss ms) v k ]
 
 -- ---- which members `properties` and `patternProperties` judge
 

@@ -1,5 +1,5 @@
 -- Schemas under a keyword: one, a list of them, or schemas by name.
-use Rattle.std.specs.Prelude.{◌&&◌, Bool, true, List, [], ◌∷◌, Option, Some, None, option_and_then, option_map}
+use Rattle.std.specs.Prelude.{◌&&◌, Bool, true, List, [], ◌∷◌, Option, Some, None, option_and_then, option_map, if◌then◌else◌}
 use Rattle.serde_json.specs.Data.{Data, Items, no_items, item, Members, no_members, member}
 use Rattle.serde_json.specs.Find.{as_array, as_object}
 use Rattle.schemars_schema.specs.Json.{Text}
@@ -30,6 +30,13 @@ schemas_in x = option_and_then (λ d. option_and_then (λ ds. when (are_schemas 
 -- the schemas of a map of schemas alone
 abbrev pub schemas_by_name : Option Data → Option Members
 schemas_by_name x = option_and_then (λ d. option_and_then (λ ms. when (are_named_schemas ms) ms) (as_object d)) x
+
+-- under a keyword that only some drafts read
+abbrev pub schema_where_read : Bool → Option Data → Option Data
+schema_where_read reads x = if reads then schema_at x else None
+
+abbrev pub schemas_where_read : Bool → Option Data → Option Members
+schemas_where_read reads x = if reads then schemas_by_name x else None
 
 -- how it judges
 abbrev pub judge_at : Context → Option Data → Option Judge

@@ -1,8 +1,9 @@
 //! What stands under a keyword.
 ghost use Rattle.std.specs.Prelude.{◌≡◌, ◌||◌, ◌&&◌, not, None, IfOk, is_some, option_map, option_and_then, codes, if◌then◌else◌};
+ghost use Rattle.serde_json.specs.Data.{string};
 ghost use Rattle.serde_json.specs.Find.{get_member, as_str};
 ghost use Rattle.serde_json.specs.View.{view, items_view, members_view};
-ghost use Rattle.schemars_validate.specs.Schemas.{are_schemas, are_named_schemas, first_of, schema_at, schemas_in, schemas_by_name};
+ghost use Rattle.schemars_validate.specs.Schemas.{are_schemas, are_named_schemas, first_of, schema_at, schemas_in, schemas_by_name, schema_where_read, schemas_where_read};
 ghost use Rattle.schemars_validate.specs.Parts.{first_schemas, other_schema, items_or_none};
 ghost use Rattle.schemars_schema.specs.Lookup.{resolved};
 ghost use Rattle.schemars_schema.specs.Acceptance.{is_reference};
@@ -61,6 +62,22 @@ pub fn schemas_by_name(value: Option<&Value>) -> Option<&Map<String, Value>>
     }
 }
 
+/// The schema under a keyword that only some drafts read.
+pub fn schema_where_read(reads: bool, value: Option<&Value>) -> Option<&Value>
+    ensures { option_map (λ v. view v.now) result
+        ≡ schema_where_read reads (option_map (λ v. view v.now) value.entry) }
+{
+    if reads { schema_at(value) } else { None }
+}
+
+/// The schemas by name under a keyword that only some drafts read.
+pub fn schemas_where_read(reads: bool, value: Option<&Value>) -> Option<&Map<String, Value>>
+    ensures { option_map (λ s. members_view s.now.entries) result
+        ≡ schemas_where_read reads (option_map (λ v. view v.now) value.entry) }
+{
+    if reads { schemas_by_name(value) } else { None }
+}
+
 fn are_schemas(values: &[Value]) -> bool
     ensures { result ≡ are_schemas (items_view values.now) }
 {
@@ -105,15 +122,13 @@ pub fn refers_alone(dialect: Dialect, keywords: &Map<String, Value>) -> bool
 /// The schema under `unevaluatedProperties`, where that is read.
 pub fn unevaluated_in(dialect: Dialect, keywords: &Map<String, Value>) -> Option<&Value>
     ensures { option_map (λ s. view s.now) result
-        ≡ (if dialect.reads_unevaluated
-        then schema_at (get_member (codes "unevaluatedProperties") (members_view keywords.now.entries))
-        else None) }
+        ≡ schema_where_read dialect.reads_unevaluated
+        (get_member (codes "unevaluatedProperties") (members_view keywords.now.entries)) }
 {
-    if dialect.reads_unevaluated() {
-        schema_at(member(keywords, "unevaluatedProperties"))
-    } else {
-        None
-    }
+    schema_where_read(
+        dialect.reads_unevaluated(),
+        member(keywords, "unevaluatedProperties"),
+    )
 }
 
 /// The schemas of the first items of a list, and of all others.
@@ -240,4 +255,11 @@ pub fn or_else<'k>(first: Option<&'k Value>, other: Option<&'k Value>) -> Option
         Some(schema) => Some(schema),
         None => other,
     }
+}
+
+/// A text as a value.
+pub fn text(alloc: Global, text: &str) -> Result<Value, AllocError>
+    ensures { IfOk result (λ v. view v ≡ string text.now) }
+{
+    Ok(Value::String(String::from_str(alloc, text)?))
 }

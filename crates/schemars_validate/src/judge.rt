@@ -4,22 +4,23 @@ ghost use Rattle.serde_json.specs.Data.{object};
 ghost use Rattle.serde_json.specs.Find.{get_member};
 ghost use Rattle.serde_json.specs.View.{view, items_view, members_view};
 ghost use Rattle.schemars_schema.specs.Verdict.{all_of};
-ghost use Rattle.schemars_schema.specs.Acceptance.{Raw, context, judge, follow, where_some, reference_says, judged_by, judged_by_reference, judged_by_some, by_patterns, matches_some, judged_beside};
+ghost use Rattle.schemars_schema.specs.Acceptance.{Raw, context, judge, follow, where_some, reference_says, contains_says, count_of_fitting, condition_says, judged_by, judged_by_reference, judged_by_some, judged_by_condition, by_patterns, matches_some, judged_beside};
 ghost use Rattle.schemars_validate.specs.Meant.{meant};
-ghost use Rattle.schemars_validate.specs.Judged.{marked, keys_of, unmarked_by};
+ghost use Rattle.schemars_validate.specs.Judged.{marked, keys_of, unmarked_by, judged_by_one, judged_beside_members};
 ghost use Rattle.schemars_validate.specs.Joined.{joined_by};
 ghost use Rattle.schemars_validate.specs.Schemas.{judge_at, judges_of, judges_in, named_judges_in};
-ghost use Rattle.schemars_validate.specs.Parts.{besides, reads, items_by, members_by, member_by};
+ghost use Rattle.schemars_validate.specs.Parts.{besides, inside, reads, items_by, members_by, member_by, names_by, dependents_by};
 
 use crate::dialect::Dialect;
 use crate::found::{
     ItemSchemas, Matched, MemberSchemas, item_schemas, member, member_schemas, or_else, others_for,
-    reference_in, refers_alone, resolved, schema_at, schema_named, schemas_in, unevaluated_in,
+    reference_in, refers_alone, resolved, schema_at, schema_named, schema_where_read, schemas_in,
+    schemas_where_read, text, unevaluated_in,
 };
 use crate::joined::{Join, Joined};
 use crate::marks::{copied, keep, mark_all, mark_members, unless_marked, unmarked};
 use crate::patterns::Patterns;
-use crate::scalars::{by_itself, required_says};
+use crate::scalars::{by_itself, by_keys, is_contained};
 use crate::verdict::{Verdict, all_of, both, opposite, unless_missing, verdict_of};
 use serde_json::{Map, Value};
 use std::alloc::{AllocError, Global};
@@ -104,11 +105,8 @@ fn beside<P: Patterns>(
         ≡ marked (judged_beside c raw (reads c raw) (view value.now)) (keys_of (view value.now)) marks.old.items) }
 {
     let itself = by_itself(d.dialect, d.patterns, keywords, value);
-    let required = required_says(member(keywords, "required"), value);
-    let items = items(d, left, &item_schemas(d.dialect, keywords), value)?;
-    let schemas = member_schemas(keywords);
-    mark_members(d.patterns, &schemas, value, marks);
-    let members = members(d, left, &schemas, value)?;
+    let inside = inside(d, left, keywords, value)?;
+    mark_members(d.patterns, &member_schemas(keywords), value, marks);
     let all = each(
         d,
         left,
@@ -133,13 +131,40 @@ fn beside<P: Patterns>(
         value,
         marks,
     )?;
+    let chosen = condition(d, left, keywords, value, marks)?;
+    let named = schemas_where_read(
+        d.dialect.reads_unevaluated(),
+        member(keywords, "dependentSchemas"),
+    );
+    let dependent = dependents(d, left, named, value, marks)?;
     let reference = reference(d, left, keywords, value, marks)?;
     let denied = schema_at(member(keywords, "not"));
     let fits_denied = alone(d, left, denied, value)?;
     let not = unless_missing(denied, opposite(fits_denied));
     Ok(all_of(&[
-        reference, itself, items, required, members, all, any, one, not,
+        reference, itself, inside, all, any, one, not, chosen, dependent,
     ]))
+}
+
+// The keywords for items, for members and for keys.
+#[cycle(judge)]
+fn inside<P: Patterns>(
+    d: &Document<'_, P>,
+    left: u64,
+    keywords: &Map<String, Value>,
+    value: &Value,
+) -> Result<Verdict, AllocError>
+    ensures { let c = context d.now.dialect (view d.now.whole.now) (P.reading d.now.patterns.now) left in
+        IfOk result (λ says. meant says
+        ≡ all_of (inside c (λ k. get_member k (members_view keywords.now.entries)) (view value.now))) }
+{
+    let items = items(d, left, &item_schemas(d.dialect, keywords), value)?;
+    let contains = contains(d, left, keywords, value)?;
+    let keys = by_keys(d.dialect, keywords, value);
+    let of_names = schema_where_read(d.dialect.reads_const(), member(keywords, "propertyNames"));
+    let names = names(d, left, of_names, value)?;
+    let members = members(d, left, &member_schemas(keywords), value)?;
+    Ok(all_of(&[items, contains, keys, names, members]))
 }
 
 #[cycle(judge)]
@@ -233,6 +258,83 @@ fn items<P: Patterns>(
         let next = first.next();
         let schema = or_else(next, schemas.others);
         says = both(says, alone(d, left, schema, item)?);
+    }
+    Ok(says)
+}
+
+// `contains`, with `minContains` and `maxContains`.
+#[cycle(judge)]
+fn contains<P: Patterns>(
+    d: &Document<'_, P>,
+    left: u64,
+    keywords: &Map<String, Value>,
+    value: &Value,
+) -> Result<Verdict, AllocError>
+    ensures { let c = context d.now.dialect (view d.now.whole.now) (P.reading d.now.patterns.now) left in
+        let raw : Raw = λ k. get_member k (members_view keywords.now.entries) in
+        IfOk result (λ says. meant says
+        ≡ contains_says d.now.dialect.reads_const d.now.dialect.reads_unevaluated (reads c raw (codes "contains"))
+        (raw (codes "minContains")) (raw (codes "maxContains")) (view value.now)) }
+{
+    let asked = schema_where_read(d.dialect.reads_const(), member(keywords, "contains"));
+    let Some(schema) = asked else {
+        return Ok(Verdict::Yes);
+    };
+    let Some(items) = value.as_array() else {
+        return Ok(Verdict::Yes);
+    };
+    let Some(count) = count_of_fitting(d, left, schema, items)? else {
+        return Ok(Verdict::Open);
+    };
+    let least = member(keywords, "minContains");
+    let most = member(keywords, "maxContains");
+    Ok(verdict_of(is_contained(d.dialect.reads_unevaluated(), least, most, count)))
+}
+
+// How many items fit, unless the schema leaves one open.
+#[cycle(judge)]
+fn count_of_fitting<P: Patterns>(
+    d: &Document<'_, P>,
+    left: u64,
+    schema: &Value,
+    items: &[Value],
+) -> Result<Option<u64>, AllocError>
+    ensures { let c = context d.now.dialect (view d.now.whole.now) (P.reading d.now.patterns.now) left in
+        IfOk result (λ count. count ≡ count_of_fitting (judge c (view schema.now)) (items_view items.now)) }
+{
+    let mut count: usize = 0;
+    for item in items {
+        match alone(d, left, Some(schema), item)? {
+            Verdict::Yes => count += 1,
+            Verdict::No => {}
+            Verdict::Open => return Ok(None),
+        }
+    }
+    Ok(Some(count as u64))
+}
+
+// A schema for each key, as a text.
+#[cycle(judge)]
+fn names<P: Patterns>(
+    d: &Document<'_, P>,
+    left: u64,
+    of_names: Option<&Value>,
+    value: &Value,
+) -> Result<Verdict, AllocError>
+    ensures { let c = context d.now.dialect (view d.now.whole.now) (P.reading d.now.patterns.now) left in
+        IfOk result (λ says. meant says
+        ≡ names_by (judge_at c (option_map (λ s. view s.now) of_names.entry)) (view value.now)) }
+{
+    let mut says = Verdict::Yes;
+    let Some(schema) = of_names else {
+        return Ok(says);
+    };
+    let Some(members) = value.as_object() else {
+        return Ok(says);
+    };
+    for (key, _) in members.iter() {
+        let name = text(d.alloc, key.as_str())?;
+        says = both(says, alone(d, left, Some(schema), &name)?);
     }
     Ok(says)
 }
@@ -346,6 +448,93 @@ fn each<P: Patterns>(
         joined = joined.with(says);
     }
     Ok(joined.by(join))
+}
+
+// `if`, with `then` and `else`.
+#[cycle(judge)]
+fn condition<P: Patterns>(
+    d: &Document<'_, P>,
+    left: u64,
+    keywords: &Map<String, Value>,
+    value: &Value,
+    marks: &mut Vec<bool>,
+) -> Result<Verdict, AllocError>
+    ensures verdict { let c = context d.now.dialect (view d.now.whole.now) (P.reading d.now.patterns.now) left in
+        let raw : Raw = λ k. get_member k (members_view keywords.now.entries) in
+        IfOk result (λ says. meant says
+        ≡ condition_says d.now.dialect.reads_const (reads c raw (codes "if")) (reads c raw (codes "then"))
+        (reads c raw (codes "else")) (view value.now)) }
+    ensures judged { let c = context d.now.dialect (view d.now.whole.now) (P.reading d.now.patterns.now) left in
+        let raw : Raw = λ k. get_member k (members_view keywords.now.entries) in
+        OnOk result (marks.new.items
+        ≡ marked (judged_by_condition d.now.dialect.reads_const (reads c raw (codes "if")) (reads c raw (codes "then"))
+        (reads c raw (codes "else")) (view value.now)) (keys_of (view value.now)) marks.old.items) }
+{
+    let asked = schema_where_read(d.dialect.reads_const(), member(keywords, "if"));
+    let Some(schema) = asked else {
+        return Ok(Verdict::Yes);
+    };
+    let says = fits(d, left, schema, value, marks)?;
+    match says {
+        Verdict::Yes => branch(d, left, schema_at(member(keywords, "then")), value, marks),
+        Verdict::No => branch(d, left, schema_at(member(keywords, "else")), value, marks),
+        Verdict::Open => Ok(says),
+    }
+}
+
+// A schema of the same value, if there is one.
+#[cycle(judge)]
+fn branch<P: Patterns>(
+    d: &Document<'_, P>,
+    left: u64,
+    schema: Option<&Value>,
+    value: &Value,
+    marks: &mut Vec<bool>,
+) -> Result<Verdict, AllocError>
+    ensures verdict { let c = context d.now.dialect (view d.now.whole.now) (P.reading d.now.patterns.now) left in
+        IfOk result (λ says. meant says
+        ≡ where_some (judge_at c (option_map (λ s. view s.now) schema.entry)) (λ s. s.fits (view value.now))) }
+    ensures judged { let c = context d.now.dialect (view d.now.whole.now) (P.reading d.now.patterns.now) left in
+        OnOk result (marks.new.items
+        ≡ marked (judged_by_one (judge_at c (option_map (λ s. view s.now) schema.entry)) (view value.now))
+        (keys_of (view value.now)) marks.old.items) }
+{
+    match schema {
+        Some(schema) => fits(d, left, schema, value, marks),
+        None => Ok(Verdict::Yes),
+    }
+}
+
+// The schemas whose names are keys of the value.
+#[cycle(judge)]
+fn dependents<P: Patterns>(
+    d: &Document<'_, P>,
+    left: u64,
+    by_name: Option<&Map<String, Value>>,
+    value: &Value,
+    marks: &mut Vec<bool>,
+) -> Result<Verdict, AllocError>
+    ensures verdict { let c = context d.now.dialect (view d.now.whole.now) (P.reading d.now.patterns.now) left in
+        IfOk result (λ says. meant says
+        ≡ dependents_by (named_judges_in c (option_map (λ s. members_view s.now.entries) by_name.entry)) (view value.now)) }
+    ensures judged { let c = context d.now.dialect (view d.now.whole.now) (P.reading d.now.patterns.now) left in
+        OnOk result (marks.new.items
+        ≡ marked (judged_beside_members (named_judges_in c (option_map (λ s. members_view s.now.entries) by_name.entry))
+        (view value.now)) (keys_of (view value.now)) marks.old.items) }
+{
+    let mut says = Verdict::Yes;
+    let Some(schemas) = by_name else {
+        return Ok(says);
+    };
+    let Some(members) = value.as_object() else {
+        return Ok(says);
+    };
+    for (name, schema) in schemas.iter() {
+        if member(members, name.as_str()).is_some() {
+            says = both(says, fits(d, left, schema, value, marks)?);
+        }
+    }
+    Ok(says)
 }
 
 // A schema for the members that are not marked.

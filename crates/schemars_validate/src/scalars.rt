@@ -5,17 +5,17 @@ ghost use Rattle.serde_json.specs.Find.{get_member};
 ghost use Rattle.serde_json.specs.View.{view, number_view, items_view, members_view};
 ghost use Rattle.schemars_schema.specs.Json.{is_among, are_distinct};
 ghost use Rattle.schemars_schema.specs.Numbers.{whole_of};
-ghost use Rattle.schemars_schema.specs.Acceptance.{is_of_type, is_of_some_type, are_type_names, is_true, is_null, type_says, const_says, enum_says, minimum_says, maximum_says, from_zero, count_of_number, min_items_says, max_items_says, code_points, min_length_says, max_length_says, pattern_says, unique_items_says, have_all, required_says};
+ghost use Rattle.schemars_schema.specs.Acceptance.{is_of_type, is_of_some_type, are_type_names, is_true, is_null, type_says, const_says, enum_says, minimum_says, maximum_says, exclusive_bound, exclusive_minimum_says, exclusive_maximum_says, from_zero, count_of_number, min_items_says, max_items_says, code_points, min_length_says, max_length_says, pattern_says, unique_items_says, or_one, is_up_to, contained_count, where_some, each_member, min_properties_says, max_properties_says, have_all, required_says, dependent_required_says};
 ghost use Rattle.schemars_schema.specs.Verdict.{all_of};
 ghost use Rattle.schemars_validate.specs.Meant.{meant};
 ghost use Rattle.schemars_validate.specs.Texts.{are_texts, texts_of};
-ghost use Rattle.schemars_validate.specs.Parts.{by_itself};
+ghost use Rattle.schemars_validate.specs.Parts.{by_itself, by_keys, is_contained};
 
 use crate::dialect::Dialect;
 use crate::found::member;
 use crate::numbers::{is_whole, numbers_le};
 use crate::patterns::Patterns;
-use crate::verdict::{Verdict, all_of, verdict_of};
+use crate::verdict::{Verdict, all_of, both, verdict_of};
 use schemars_schema::edits::{holds_text, is_listed, is_text};
 use schemars_schema::json_eq;
 use serde_json::{Map, Number, Value};
@@ -24,7 +24,7 @@ const TYPES: [&str; 7] = [
     "null", "boolean", "object", "array", "number", "string", "integer",
 ];
 
-/// What the keywords that judge a value by itself say, but for `required`.
+/// What the keywords that judge a value by itself say, but for those that look at the keys.
 pub fn by_itself<P: Patterns>(
     dialect: Dialect,
     patterns: &P,
@@ -45,12 +45,41 @@ pub fn by_itself<P: Patterns>(
         enum_says(member(keywords, "enum"), value),
         minimum_says(member(keywords, "minimum"), value),
         maximum_says(member(keywords, "maximum"), value),
+        exclusive_minimum_says(
+            dialect.reads_const(),
+            member(keywords, "exclusiveMinimum"),
+            member(keywords, "minimum"),
+            value,
+        ),
+        exclusive_maximum_says(
+            dialect.reads_const(),
+            member(keywords, "exclusiveMaximum"),
+            member(keywords, "maximum"),
+            value,
+        ),
         min_length_says(member(keywords, "minLength"), value),
         max_length_says(member(keywords, "maxLength"), value),
         pattern_says(patterns, member(keywords, "pattern"), value),
         min_items_says(member(keywords, "minItems"), value),
         max_items_says(member(keywords, "maxItems"), value),
         unique_items_says(member(keywords, "uniqueItems"), value),
+    ])
+}
+
+/// What the keywords that look at the keys say.
+pub fn by_keys(dialect: Dialect, keywords: &Map<String, Value>, value: &Value) -> Verdict
+    ensures { meant result ≡ all_of (by_keys dialect
+        (λ k. get_member k (members_view keywords.now.entries)) (view value.now)) }
+{
+    all_of(&[
+        min_properties_says(member(keywords, "minProperties"), value),
+        max_properties_says(member(keywords, "maxProperties"), value),
+        required_says(member(keywords, "required"), value),
+        dependent_required_says(
+            dialect.reads_unevaluated(),
+            member(keywords, "dependentRequired"),
+            value,
+        ),
     ])
 }
 
@@ -253,6 +282,69 @@ fn maximum_says(most: Option<&Value>, value: &Value) -> Verdict
     }
 }
 
+// The bound itself or, before Draft 6, a truth value that excludes the bound beside it.
+fn exclusive_bound<'k>(
+    reads_const: bool,
+    bound: &'k Value,
+    beside: Option<&'k Value>,
+) -> Option<&'k Number>
+    ensures { option_map (λ n. number_view n.now) result
+        ≡ exclusive_bound reads_const (view bound.now) (option_map (λ v. view v.now) beside.entry) }
+{
+    if reads_const {
+        return bound.as_number();
+    }
+    if bound.as_bool() != Some(true) {
+        return None;
+    }
+    match beside {
+        Some(limit) => limit.as_number(),
+        None => None,
+    }
+}
+
+fn exclusive_minimum_says(
+    reads_const: bool,
+    exclusive: Option<&Value>,
+    minimum: Option<&Value>,
+    value: &Value,
+) -> Verdict
+    ensures { meant result ≡ exclusive_minimum_says reads_const (option_map (λ v. view v.now) exclusive.entry)
+        (option_map (λ v. view v.now) minimum.entry) (view value.now) }
+{
+    let Some(exclusive) = exclusive else {
+        return Verdict::Yes;
+    };
+    match value.as_number() {
+        Some(n) => match exclusive_bound(reads_const, exclusive, minimum) {
+            Some(m) => verdict_of(!numbers_le(*n, *m)),
+            None => Verdict::Yes,
+        },
+        None => Verdict::Yes,
+    }
+}
+
+fn exclusive_maximum_says(
+    reads_const: bool,
+    exclusive: Option<&Value>,
+    maximum: Option<&Value>,
+    value: &Value,
+) -> Verdict
+    ensures { meant result ≡ exclusive_maximum_says reads_const (option_map (λ v. view v.now) exclusive.entry)
+        (option_map (λ v. view v.now) maximum.entry) (view value.now) }
+{
+    let Some(exclusive) = exclusive else {
+        return Verdict::Yes;
+    };
+    match value.as_number() {
+        Some(n) => match exclusive_bound(reads_const, exclusive, maximum) {
+            Some(m) => verdict_of(!numbers_le(*m, *n)),
+            None => Verdict::Yes,
+        },
+        None => Verdict::Yes,
+    }
+}
+
 // ---- counts
 
 // Whether the number is whole, and not below zero.
@@ -401,7 +493,71 @@ fn unique_items_says(unique: Option<&Value>, value: &Value) -> Verdict
     }
 }
 
+/// Whether so many items are as many as `minContains` and `maxContains` ask for.
+pub fn is_contained(reads: bool, least: Option<&Value>, most: Option<&Value>, count: u64) -> bool
+    ensures { result ≡ is_contained reads (option_map (λ v. view v.now) least.entry)
+        (option_map (λ v. view v.now) most.entry) count }
+{
+    reaches(reads, least, count) && stays_within(reads, most, count)
+}
+
+fn reaches(reads: bool, least: Option<&Value>, count: u64) -> bool
+    ensures { result ≡ nat_le (or_one (contained_count reads (option_map (λ v. view v.now) least.entry))) count }
+{
+    match least {
+        Some(least) if reads => match is_at_most(least, count) {
+            Some(fits) => fits,
+            None => 1 <= count,
+        },
+        _ => 1 <= count,
+    }
+}
+
+fn stays_within(reads: bool, most: Option<&Value>, count: u64) -> bool
+    ensures { result ≡ is_up_to (contained_count reads (option_map (λ v. view v.now) most.entry)) count }
+{
+    match most {
+        Some(most) if reads => match is_at_least(most, count) {
+            Some(fits) => fits,
+            None => true,
+        },
+        _ => true,
+    }
+}
+
 // ---- objects
+
+#[tactic(auto, using(crate::proofs::Lists::members_counted))]
+fn min_properties_says(least: Option<&Value>, value: &Value) -> Verdict
+    ensures { meant result ≡ min_properties_says (option_map (λ v. view v.now) least.entry) (view value.now) }
+{
+    let Some(least) = least else {
+        return Verdict::Yes;
+    };
+    match value.as_object() {
+        Some(members) => match is_at_most(least, members.len() as u64) {
+            Some(fits) => verdict_of(fits),
+            None => Verdict::Yes,
+        },
+        None => Verdict::Yes,
+    }
+}
+
+#[tactic(auto, using(crate::proofs::Lists::members_counted))]
+fn max_properties_says(most: Option<&Value>, value: &Value) -> Verdict
+    ensures { meant result ≡ max_properties_says (option_map (λ v. view v.now) most.entry) (view value.now) }
+{
+    let Some(most) = most else {
+        return Verdict::Yes;
+    };
+    match value.as_object() {
+        Some(members) => match is_at_least(most, members.len() as u64) {
+            Some(fits) => verdict_of(fits),
+            None => Verdict::Yes,
+        },
+        None => Verdict::Yes,
+    }
+}
 
 // Whether the members have each of the texts as a key.
 fn have_all(keys: &[Value], members: &Map<String, Value>) -> bool
@@ -417,7 +573,7 @@ fn have_all(keys: &[Value], members: &Map<String, Value>) -> bool
     true
 }
 
-pub fn required_says(required: Option<&Value>, value: &Value) -> Verdict
+fn required_says(required: Option<&Value>, value: &Value) -> Verdict
     ensures { meant result ≡ required_says (option_map (λ v. view v.now) required.entry) (view value.now) }
 {
     let Some(required) = required else {
@@ -430,4 +586,41 @@ pub fn required_says(required: Option<&Value>, value: &Value) -> Verdict
         },
         None => Verdict::Yes,
     }
+}
+
+fn dependent_required_says(
+    reads_unevaluated: bool,
+    dependent: Option<&Value>,
+    value: &Value,
+) -> Verdict
+    ensures { meant result ≡ dependent_required_says reads_unevaluated (option_map (λ v. view v.now) dependent.entry)
+        (view value.now) }
+{
+    let Some(dependent) = dependent else {
+        return Verdict::Yes;
+    };
+    if !reads_unevaluated {
+        return Verdict::Yes;
+    }
+    match value.as_object() {
+        Some(members) => match dependent.as_object() {
+            Some(lists) => each_required(lists, members, value),
+            None => Verdict::Yes,
+        },
+        None => Verdict::Yes,
+    }
+}
+
+// What is required beside each of the members.
+fn each_required(lists: &Map<String, Value>, members: &Map<String, Value>, value: &Value) -> Verdict
+    ensures { meant result ≡ each_member (λ k names. where_some (get_member k (members_view members.now.entries))
+        (λ w. required_says (Some names) (view value.now))) (members_view lists.now.entries) }
+{
+    let mut says = Verdict::Yes;
+    for (key, names) in lists.iter() {
+        if member(members, key.as_str()).is_some() {
+            says = both(says, required_says(Some(names), value));
+        }
+    }
+    says
 }

@@ -1,26 +1,26 @@
 -- Each part says what its contract says; and each call has less work left.
-use Rattle.std.proofs.Common.{◌≡◌, ◌∙◌, ◌+◌, ◌<◌, ◌≤◌, List, Bool, false, Option, None, option_map, sym, ap, subst, arith, IfOk, OnOk, drop}
+use Rattle.std.proofs.Common.{◌≡◌, ◌∙◌, ◌+◌, ◌<◌, ◌≤◌, List, Bool, true, false, refl, Option, Some, None, option_map, sym, ap, subst, arith, IfOk, OnOk, drop}
 use Rattle.std.specs.Prelude.{◌||◌, string_bytes, is_some, unwrap_or, codes, if◌then◌else◌, map}
-use Rattle.serde_json.specs.Data.{Data, object, Items, depth, items_depth, members_depth}
+use Rattle.serde_json.specs.Data.{Data, object, Items, Members, depth, items_depth, members_depth}
 use Rattle.serde_json.specs.Find.{get_member, as_object}
 use Rattle.serde_json.specs.View.{view, items_view, members_view}
 use Rattle.schemars_schema.specs.Json.{Text}
-use Rattle.schemars_schema.specs.Verdict.{Verdict, Yes, verdict, all_of, any_of, one_of, both}
-use Rattle.schemars_schema.specs.Acceptance.{Context, Judge, Raw, context, judge, follow, where_some, all_keywords, reference_alone, judged_by_some, judged_beside, by_patterns, matches_some, each_member, matches}
+use Rattle.schemars_schema.specs.Verdict.{Verdict, Yes, No, Open, verdict, all_of, any_of, one_of, both}
+use Rattle.schemars_schema.specs.Acceptance.{read_data, Judge, Raw, context, judge, follow, where_some, count_of_fitting, beside_members, judged_by_some, judged_beside, by_patterns, matches_some, each_member, matches}
 use Rattle.schemars_schema.proofs.Containers.{object-as_object}
 use Rattle.schemars_validate.specs.Meant.{meant}
-use Rattle.schemars_validate.specs.Judged.{marked, keys_of, is_taken, unmarked_by, each_unmarked, is_marked}
-use Rattle.schemars_validate.specs.Schemas.{schema_at, schemas_in, judge_at, judges_of, judges_in, named_judges_in, named_judges}
-use Rattle.schemars_validate.specs.Parts.{reads, items_by, members_by, each_item, member_by}
-use Rattle.schemars_validate.proofs.Measures.{depth_at, items_depth_at, members_depth_at, schema_under, list_under, map_under, first_under, other_under, unevaluated_under, resolved_shallow, reference_less}
-use Rattle.schemars_validate.proofs.Readings.{judge_other}
-use Rattle.schemars_validate.proofs.Judging.{object_alone, object_whole, object_with, object_with_marks, object_without, object_without_marks, beside_says, beside_marks, negated, mapped_some, marked_none, kept_marks, no_text_says, no_text_marks, unanswered_says, unanswered_marks, answered_says, answered_marks, follow_zero, follow_lost, follow_found, next_marks}
+use Rattle.schemars_validate.specs.Judged.{marked, keys_of, is_taken, unmarked_by, each_unmarked, is_marked, judged_beside_members, judged_by_one}
+use Rattle.schemars_validate.specs.Schemas.{schema_at, schemas_in, schema_where_read, schemas_where_read, judge_at, judges_of, judges_in, named_judges_in, named_judges}
+use Rattle.schemars_validate.specs.Parts.{reads, items_by, members_by, each_item, member_by, names_by, dependents_by, is_contained}
+use Rattle.schemars_validate.proofs.Measures.{depth_at, items_depth_at, members_depth_at, schema_under, list_under, map_under, first_under, other_under, read_under, read_map_under, resolved_shallow, reference_less}
+use Rattle.schemars_validate.proofs.Readings.{judge_other, read_one}
+use Rattle.schemars_validate.proofs.Judging.{object_alone, object_whole, object_with, object_with_marks, object_without, object_without_marks, no_contains, contained, no_condition_says, condition_said, no_condition_marks, condition_marks, no_beside_marks, inside_says, beside_says, beside_marks, negated, mapped_some, marked_none, kept_marks, no_text_says, no_text_marks, unanswered_says, unanswered_marks, answered_says, answered_marks, follow_zero, follow_lost, follow_found, next_marks}
 use Rattle.std.specs.Slice.Iter.{iter_rest}
 use Rattle.serde_json.proofs.Views.{Entry}
 use Rattle.schemars_text.proofs.Lists.{from_here, nothing_left}
 use Rattle.schemars_schema.proofs.Verdicts.{both-yes}
 use Rattle.schemars_validate.specs.Joined.{SoFar, so_far, with_one, with_each, taken_by}
-use Rattle.schemars_validate.proofs.Stepping.{one_more_said, item_under, entry_deep, item_says, next_deep, unmarked_member_says, asked_deep, named_deep, others_deep, member_parts, one_matches, none_matches, or_no, no_item_says}
+use Rattle.schemars_validate.proofs.Stepping.{one_more_said, beside_one, item_under, entry_deep, item_says, next_deep, unmarked_member_says, asked_deep, named_deep, others_deep, member_parts, one_matches, none_matches, or_no, no_item_says}
 use Rattle.schemars_validate.proofs.judge.+judge.Goals as goal
 
 -- ---- a schema
@@ -78,7 +78,7 @@ object-beside-requires-in-None g t c = λ κs s. (omega (arith, c.decreases), s)
 pub object-unevaluated-requires : goal.object-unevaluated-requires
 object-unevaluated-requires g t c =
     let deep = ap depth_at c.in-Some.ensures in
-    let under = unevaluated_under c.args.d.now.dialect.reads_unevaluated (codes "unevaluatedProperties")
+    let under = read_under c.args.d.now.dialect.reads_unevaluated (codes "unevaluatedProperties")
     (members_view c.args.keywords.now.entries) in
     λ κs s. (omega (arith, deep, under, c.decreases), s)
 
@@ -151,39 +151,37 @@ object-returns-in-None-clause-judged g t c =
 
 -- ---- all keywords but the last
 
-pub beside-items-requires : goal.beside-items-requires
-beside-items-requires g t c =
-    let ms = members_view c.args.keywords.now.entries in
-    let r = c.args.d.now.dialect.reads_prefix_items in
-    let first = ap items_depth c.item_schemas.ensures.first in
-    let others = ap depth_at c.item_schemas.ensures.others in
-    λ κs s. (omega (arith, first, others, first_under r ms, other_under r ms, c.decreases), s)
-
-pub beside-members-requires : goal.beside-members-requires
-beside-members-requires g t c =
-    let ms = members_view c.args.keywords.now.entries in
-    let named = ap members_depth_at c.member_schemas-schemas.ensures.named in
-    let matched = ap members_depth_at c.member_schemas-schemas.ensures.by_pattern in
-    let others = ap depth_at c.member_schemas-schemas.ensures.others in
-    λ κs s. (omega (arith, named, matched, others, map_under (codes "properties") ms, map_under (codes "patternProperties") ms, schema_under (codes "additionalProperties") ms, c.decreases), s)
+pub beside-inside-requires : goal.beside-inside-requires
+beside-inside-requires g t c = λ κs s. (omega (arith, c.decreases), s)
 
 pub beside-each-requires : goal.beside-each-requires
 beside-each-requires g t c =
     let ms = members_view c.args.keywords.now.entries in
-    let deep = ap items_depth_at (c.schemas_in.ensures ∙ ap schemas_in c.member-2.ensures) in
+    let deep = ap items_depth_at (c.schemas_in.ensures ∙ ap schemas_in c.member.ensures) in
     λ κs s. (omega (arith, deep, list_under (codes "allOf") ms, c.decreases), s)
 
 pub beside-each-requires-2 : goal.beside-each-requires-2
 beside-each-requires-2 g t c =
     let ms = members_view c.args.keywords.now.entries in
-    let deep = ap items_depth_at (c.schemas_in-2.ensures ∙ ap schemas_in c.member-3.ensures) in
+    let deep = ap items_depth_at (c.schemas_in-2.ensures ∙ ap schemas_in c.member-2.ensures) in
     λ κs s. (omega (arith, deep, list_under (codes "anyOf") ms, c.decreases), s)
 
 pub beside-each-requires-3 : goal.beside-each-requires-3
 beside-each-requires-3 g t c =
     let ms = members_view c.args.keywords.now.entries in
-    let deep = ap items_depth_at (c.schemas_in-3.ensures ∙ ap schemas_in c.member-4.ensures) in
+    let deep = ap items_depth_at (c.schemas_in-3.ensures ∙ ap schemas_in c.member-3.ensures) in
     λ κs s. (omega (arith, deep, list_under (codes "oneOf") ms, c.decreases), s)
+
+pub beside-condition-requires : goal.beside-condition-requires
+beside-condition-requires g t c = λ κs s. (omega (arith, c.decreases), s)
+
+pub beside-dependents-requires : goal.beside-dependents-requires
+beside-dependents-requires g t c =
+    let ms = members_view c.args.keywords.now.entries in
+    let r = c.args.d.now.dialect.reads_unevaluated in
+    let deep = ap members_depth_at (c.schemas_where_read-named.ensures
+    ∙ (λ i. schemas_where_read (c.reads_unevaluated.ensures i) (c.member-4.ensures i))) in
+    λ κs s. (omega (arith, deep, read_map_under r (codes "dependentSchemas") ms, c.decreases), s)
 
 pub beside-reference-requires : goal.beside-reference-requires
 beside-reference-requires g t c = λ κs s. (omega (arith, c.decreases), s)
@@ -208,24 +206,23 @@ beside-returns-clause-verdict g t c =
     ∙ beside_says x raw v _ _ _ _ _ _ _ _ _
     c.in_ok-reference.ensures.verdict
     c.by_itself-itself.ensures
-    (c.in_ok-items.ensures
-    ∙ (λ i. items_by (judges_of x (c.item_schemas.ensures.first i)) (judge_at x (c.item_schemas.ensures.others i)) v))
-    (c.required_says-required.ensures ∙ ap (λ (o : Option Data). Rattle.schemars_schema.specs.Acceptance.required_says o v) c.member.ensures)
-    (c.in_ok-members.ensures
-    ∙ (λ i. members_by reading (named_judges_in x (c.member_schemas-schemas.ensures.named i))
-    (named_judges_in x (c.member_schemas-schemas.ensures.by_pattern i)) (judge_at x (c.member_schemas-schemas.ensures.others i)) v))
+    c.in_ok-inside.ensures
     (c.in_ok-all.ensures.verdict
     ∙ ap (λ (o : Option Items). where_some o (λ ds. all_of (map (λ s. s.fits v) (judges_of x ds))))
-    (c.schemas_in.ensures ∙ ap schemas_in c.member-2.ensures))
+    (c.schemas_in.ensures ∙ ap schemas_in c.member.ensures))
     (c.in_ok-any.ensures.verdict
     ∙ ap (λ (o : Option Items). where_some o (λ ds. any_of (map (λ s. s.fits v) (judges_of x ds))))
-    (c.schemas_in-2.ensures ∙ ap schemas_in c.member-3.ensures))
+    (c.schemas_in-2.ensures ∙ ap schemas_in c.member-2.ensures))
     (c.in_ok-one.ensures.verdict
     ∙ ap (λ (o : Option Items). where_some o (λ ds. one_of (map (λ s. s.fits v) (judges_of x ds))))
-    (c.schemas_in-3.ensures ∙ ap schemas_in c.member-4.ensures))
+    (c.schemas_in-3.ensures ∙ ap schemas_in c.member-3.ensures))
     (c.unless_missing-not.ensures
     ∙ (ap (λ (y : Verdict). if is_some c.schema_at-denied.result then y else Yes) c.opposite.ensures
     ∙ negated x (schema_at (raw (codes "not"))) v (is_some c.schema_at-denied.result) _ is said))
+    c.in_ok-chosen.ensures.verdict
+    (c.in_ok-dependent.ensures.verdict
+    ∙ ap (λ (o : Option Members). dependents_by (named_judges_in x o) v) (c.schemas_where_read-named.ensures
+    ∙ (λ i. schemas_where_read (c.reads_unevaluated.ensures i) (c.member-4.ensures i))))
 
 pub beside-returns-clause-judged : goal.beside-returns-clause-judged
 beside-returns-clause-judged g t c =
@@ -236,20 +233,311 @@ beside-returns-clause-judged g t c =
     let raw : Raw = λ k. get_member k ms in
     let old = c.args.marks.now.items in
     beside_marks x raw v old c.mark_members.new.marks.items c.each.new.marks.items c.each-2.new.marks.items c.each-3.new.marks.items
-    c.reference.new.marks.items
+    c.condition.new.marks.items c.dependents.new.marks.items c.reference.new.marks.items
     (c.mark_members.ensures
-    ∙ (λ i. marked (is_taken reading (c.member_schemas-schemas.ensures.named i) (c.member_schemas-schemas.ensures.by_pattern i)
-    (c.member_schemas-schemas.ensures.others i)) (keys_of v) old))
+    ∙ (λ i. marked (is_taken reading (c.member_schemas.ensures.named i) (c.member_schemas.ensures.by_pattern i)
+    (c.member_schemas.ensures.others i)) (keys_of v) old))
     (c.in_ok-all.ensures.judged
     ∙ ap (λ (o : Option Items). marked (judged_by_some (judges_in x o) v) (keys_of v) c.mark_members.new.marks.items)
-    (c.schemas_in.ensures ∙ ap schemas_in c.member-2.ensures))
+    (c.schemas_in.ensures ∙ ap schemas_in c.member.ensures))
     (c.in_ok-any.ensures.judged
     ∙ ap (λ (o : Option Items). marked (judged_by_some (judges_in x o) v) (keys_of v) c.each.new.marks.items)
-    (c.schemas_in-2.ensures ∙ ap schemas_in c.member-3.ensures))
+    (c.schemas_in-2.ensures ∙ ap schemas_in c.member-2.ensures))
     (c.in_ok-one.ensures.judged
     ∙ ap (λ (o : Option Items). marked (judged_by_some (judges_in x o) v) (keys_of v) c.each-2.new.marks.items)
-    (c.schemas_in-3.ensures ∙ ap schemas_in c.member-4.ensures))
+    (c.schemas_in-3.ensures ∙ ap schemas_in c.member-3.ensures))
+    c.in_ok-chosen.ensures.judged
+    (c.in_ok-dependent.ensures.judged
+    ∙ ap (λ (o : Option Members). marked (judged_beside_members (named_judges_in x o) v) (keys_of v) c.condition.new.marks.items)
+    (c.schemas_where_read-named.ensures ∙ (λ i. schemas_where_read (c.reads_unevaluated.ensures i) (c.member-4.ensures i))))
     c.in_ok-reference.ensures.judged
+
+-- ---- items, members and keys
+
+pub inside-items-requires : goal.inside-items-requires
+inside-items-requires g t c =
+    let ms = members_view c.args.keywords.now.entries in
+    let r = c.args.d.now.dialect.reads_prefix_items in
+    let first = ap items_depth c.item_schemas.ensures.first in
+    let others = ap depth_at c.item_schemas.ensures.others in
+    λ κs s. (omega (arith, first, others, first_under r ms, other_under r ms, c.decreases), s)
+
+pub inside-contains-requires : goal.inside-contains-requires
+inside-contains-requires g t c = λ κs s. (omega (arith, c.decreases), s)
+
+pub inside-names-requires : goal.inside-names-requires
+inside-names-requires g t c =
+    let ms = members_view c.args.keywords.now.entries in
+    let r = c.args.d.now.dialect.reads_const in
+    let deep = ap depth_at (c.schema_where_read-of_names.ensures
+    ∙ (λ i. schema_where_read (c.reads_const.ensures i) (c.member.ensures i))) in
+    λ κs s. (omega (arith, deep, read_under r (codes "propertyNames") ms, c.decreases), s)
+
+pub inside-members-requires : goal.inside-members-requires
+inside-members-requires g t c =
+    let ms = members_view c.args.keywords.now.entries in
+    let named = ap members_depth_at c.member_schemas.ensures.named in
+    let matched = ap members_depth_at c.member_schemas.ensures.by_pattern in
+    let others = ap depth_at c.member_schemas.ensures.others in
+    λ κs s. (omega (arith, named, matched, others, map_under (codes "properties") ms, map_under (codes "patternProperties") ms, schema_under (codes "additionalProperties") ms, c.decreases), s)
+
+pub inside-returns : goal.inside-returns
+inside-returns g t c =
+    let reading = g.P.Patterns.reading c.args.d.now.patterns.now in
+    let x = context c.args.d.now.dialect (view c.args.d.now.whole.now) reading c.args.left in
+    let v = view c.args.value.now in
+    let ms = members_view c.args.keywords.now.entries in
+    let raw : Raw = λ k. get_member k ms in
+    c.all_of.ensures
+    ∙ inside_says x raw v _ _ _ _ _
+    (c.in_ok-items.ensures
+    ∙ (λ i. items_by (judges_of x (c.item_schemas.ensures.first i)) (judge_at x (c.item_schemas.ensures.others i)) v))
+    c.in_ok-contains.ensures
+    c.by_keys-keys.ensures
+    (c.in_ok-names.ensures
+    ∙ ap (λ (o : Option Data). names_by (judge_at x o) v) (c.schema_where_read-of_names.ensures
+    ∙ (λ i. schema_where_read (c.reads_const.ensures i) (c.member.ensures i))))
+    (c.in_ok-members.ensures
+    ∙ (λ i. members_by reading (named_judges_in x (c.member_schemas.ensures.named i))
+    (named_judges_in x (c.member_schemas.ensures.by_pattern i)) (judge_at x (c.member_schemas.ensures.others i)) v))
+
+-- ---- `contains`
+
+pub contains-returns-in_default : goal.contains-returns-in_default
+contains-returns-in_default g t c =
+    let x = context c.args.d.now.dialect (view c.args.d.now.whole.now) (g.P.Patterns.reading c.args.d.now.patterns.now) c.args.left in
+    let v = view c.args.value.now in
+    let ms = members_view c.args.keywords.now.entries in
+    let r = c.args.d.now.dialect.reads_const in
+    let read = c.schema_where_read-asked.ensures ∙ (λ i. schema_where_read (c.reads_const.ensures i) (c.member.ensures i)) in
+    let none = ap (option_map (λ s. view s.now)) (sym c.in_default.is) ∙ read in
+    no_contains r c.args.d.now.dialect.reads_unevaluated x (get_member (codes "contains") ms) (get_member (codes "minContains") ms)
+    (get_member (codes "maxContains") ms) v none
+
+pub contains-count_of_fitting-requires : goal.contains-count_of_fitting-requires
+contains-count_of_fitting-requires g t c =
+    let ms = members_view c.args.keywords.now.entries in
+    let r = c.args.d.now.dialect.reads_const in
+    let read = c.schema_where_read-asked.ensures ∙ (λ i. schema_where_read (c.reads_const.ensures i) (c.member.ensures i)) in
+    let deep = ap (λ o. depth_at (option_map (λ s. view s.now) o)) c.in-Some.is in
+    let same = ap depth_at read in
+    λ κs s. (omega (arith, deep, same, read_under r (codes "contains") ms, c.decreases), s)
+
+pub contains-returns-in_default-2 : goal.contains-returns-in_default-2
+contains-returns-in_default-2 g t c =
+    let x = context c.args.d.now.dialect (view c.args.d.now.whole.now) (g.P.Patterns.reading c.args.d.now.patterns.now) c.args.left in
+    let v = view c.args.value.now in
+    let ms = members_view c.args.keywords.now.entries in
+    let r = c.args.d.now.dialect.reads_const in
+    let read = c.schema_where_read-asked.ensures ∙ (λ i. schema_where_read (c.reads_const.ensures i) (c.member.ensures i)) in
+    let some = ap (option_map (λ s. view s.now)) (sym c.in-Some.is) ∙ read in
+    let vs = items_view c.in-Some-as_array.items.now.items in
+    let fitting = sym c.in_default-2.is ∙ (c.in_ok-count.ensures
+    ∙ ap (λ ds. count_of_fitting (judge x (view c.in-Some.schema.now)) (items_view ds)) c.deref.ensures.value) in
+    contained r c.args.d.now.dialect.reads_unevaluated x (get_member (codes "contains") ms) (get_member (codes "minContains") ms)
+    (get_member (codes "maxContains") ms) (view c.in-Some.schema.now) v vs None some c.in-Some-as_array.ensures fitting
+
+pub contains-returns : goal.contains-returns
+contains-returns g t c =
+    let x = context c.args.d.now.dialect (view c.args.d.now.whole.now) (g.P.Patterns.reading c.args.d.now.patterns.now) c.args.left in
+    let v = view c.args.value.now in
+    let ms = members_view c.args.keywords.now.entries in
+    let r = c.args.d.now.dialect.reads_const in
+    let read = c.schema_where_read-asked.ensures ∙ (λ i. schema_where_read (c.reads_const.ensures i) (c.member.ensures i)) in
+    let some = ap (option_map (λ s. view s.now)) (sym c.in-Some.is) ∙ read in
+    let vs = items_view c.in-Some-as_array.items.now.items in
+    let fitting = sym c.in-Some-2.is ∙ (c.in_ok-count.ensures
+    ∙ ap (λ ds. count_of_fitting (judge x (view c.in-Some.schema.now)) (items_view ds)) c.deref.ensures.value) in
+    c.verdict_of.ensures
+    ∙ (ap verdict (c.is_contained.ensures ∙ (λ i. is_contained (c.reads_unevaluated.ensures i) (c.member-least.ensures i) (c.member-most.ensures i) c.in-Some-2.count))
+    ∙ contained r c.args.d.now.dialect.reads_unevaluated x (get_member (codes "contains") ms) (get_member (codes "minContains") ms)
+    (get_member (codes "maxContains") ms) (view c.in-Some.schema.now) v vs (Some c.in-Some-2.count) some c.in-Some-as_array.ensures fitting)
+
+-- ---- a condition
+
+pub condition-returns-in_default-clause-verdict : goal.condition-returns-in_default-clause-verdict
+condition-returns-in_default-clause-verdict g t c =
+    let x = context c.args.d.now.dialect (view c.args.d.now.whole.now) (g.P.Patterns.reading c.args.d.now.patterns.now) c.args.left in
+    let v = view c.args.value.now in
+    let ms = members_view c.args.keywords.now.entries in
+    let r = c.args.d.now.dialect.reads_const in
+    let read = c.schema_where_read-asked.ensures ∙ (λ i. schema_where_read (c.reads_const.ensures i) (c.member.ensures i)) in
+    let none = ap (option_map (λ s. view s.now)) (sym c.in_default.is) ∙ read in
+    no_condition_says r x (get_member (codes "if") ms) (option_map (read_data x) (get_member (codes "then") ms))
+    (option_map (read_data x) (get_member (codes "else") ms)) v none
+
+pub condition-returns-in_default-clause-judged : goal.condition-returns-in_default-clause-judged
+condition-returns-in_default-clause-judged g t c =
+    let x = context c.args.d.now.dialect (view c.args.d.now.whole.now) (g.P.Patterns.reading c.args.d.now.patterns.now) c.args.left in
+    let v = view c.args.value.now in
+    let ms = members_view c.args.keywords.now.entries in
+    let r = c.args.d.now.dialect.reads_const in
+    let read = c.schema_where_read-asked.ensures ∙ (λ i. schema_where_read (c.reads_const.ensures i) (c.member.ensures i)) in
+    let none = ap (option_map (λ s. view s.now)) (sym c.in_default.is) ∙ read in
+    no_condition_marks r x (get_member (codes "if") ms) (option_map (read_data x) (get_member (codes "then") ms))
+    (option_map (read_data x) (get_member (codes "else") ms)) v (keys_of v) c.args.marks.now.items none
+
+pub condition-fits-requires : goal.condition-fits-requires
+condition-fits-requires g t c =
+    let ms = members_view c.args.keywords.now.entries in
+    let r = c.args.d.now.dialect.reads_const in
+    let read = c.schema_where_read-asked.ensures ∙ (λ i. schema_where_read (c.reads_const.ensures i) (c.member.ensures i)) in
+    let deep = ap (λ o. depth_at (option_map (λ s. view s.now) o)) c.in-Some.is in
+    let same = ap depth_at read in
+    λ κs s. (omega (arith, deep, same, read_under r (codes "if") ms, c.decreases), s)
+
+pub condition-branch-d-requires : goal.condition-branch-d-requires
+condition-branch-d-requires g t c =
+    let ms = members_view c.args.keywords.now.entries in
+    let deep = ap depth_at (c.schema_at.ensures ∙ ap schema_at c.member-in-Yes.ensures) in
+    λ κs s. (omega (arith, deep, schema_under (codes "then") ms, c.decreases), s)
+
+pub condition-branch-d-requires-in-No : goal.condition-branch-d-requires-in-No
+condition-branch-d-requires-in-No g t c =
+    let ms = members_view c.args.keywords.now.entries in
+    let deep = ap depth_at (c.schema_at-in-No.ensures ∙ ap schema_at c.member-in-No.ensures) in
+    λ κs s. (omega (arith, deep, schema_under (codes "else") ms, c.decreases), s)
+
+pub condition-returns-in-Yes-clause-verdict : goal.condition-returns-in-Yes-clause-verdict
+condition-returns-in-Yes-clause-verdict g t c =
+    let x = context c.args.d.now.dialect (view c.args.d.now.whole.now) (g.P.Patterns.reading c.args.d.now.patterns.now) c.args.left in
+    let v = view c.args.value.now in
+    let ms = members_view c.args.keywords.now.entries in
+    let r = c.args.d.now.dialect.reads_const in
+    let read = c.schema_where_read-asked.ensures ∙ (λ i. schema_where_read (c.reads_const.ensures i) (c.member.ensures i)) in
+    let some = ap (option_map (λ s. view s.now)) (sym c.in-Some.is) ∙ read in
+    let d = view c.in-Some.schema.now in
+    let accepted = option_map (read_data x) (get_member (codes "then") ms) in
+    let refused = option_map (read_data x) (get_member (codes "else") ms) in
+    let said : Yes ≡ (judge x d).fits v = sym (ap meant c.in-Yes.is) ∙ c.in_ok-says.ensures.verdict in
+    let P : Verdict → Type 0 = λ y. IfOk c.branch-d.result (λ says. meant says ≡ y) in
+    subst P (ap (λ (o : Option Data). where_some (judge_at x o) (λ j. j.fits v)) (c.schema_at.ensures ∙ ap schema_at c.member-in-Yes.ensures)
+    ∙ (read_one (λ j. j.fits v) x (get_member (codes "then") ms)
+    ∙ condition_said r x (get_member (codes "if") ms) accepted refused d v Yes some said))
+    c.branch-d.ensures.verdict
+
+pub condition-returns-in-Yes-clause-judged : goal.condition-returns-in-Yes-clause-judged
+condition-returns-in-Yes-clause-judged g t c =
+    let x = context c.args.d.now.dialect (view c.args.d.now.whole.now) (g.P.Patterns.reading c.args.d.now.patterns.now) c.args.left in
+    let v = view c.args.value.now in
+    let ms = members_view c.args.keywords.now.entries in
+    let r = c.args.d.now.dialect.reads_const in
+    let read = c.schema_where_read-asked.ensures ∙ (λ i. schema_where_read (c.reads_const.ensures i) (c.member.ensures i)) in
+    let some = ap (option_map (λ s. view s.now)) (sym c.in-Some.is) ∙ read in
+    let d = view c.in-Some.schema.now in
+    let accepted = option_map (read_data x) (get_member (codes "then") ms) in
+    let refused = option_map (read_data x) (get_member (codes "else") ms) in
+    let said : Yes ≡ (judge x d).fits v = sym (ap meant c.in-Yes.is) ∙ c.in_ok-says.ensures.verdict in
+    let m1 = c.fits.new.marks.items in
+    let P : List Bool → Type 0 = λ y. OnOk c.branch-d.result (c.branch-d.new.marks.items ≡ y) in
+    subst P (ap (λ (o : Option Data). marked (judged_by_one (judge_at x o) v) (keys_of v) m1)
+    (c.schema_at.ensures ∙ ap schema_at c.member-in-Yes.ensures)
+    ∙ condition_marks r x (get_member (codes "if") ms) (get_member (codes "then") ms) accepted refused d v Yes (keys_of v)
+    c.args.marks.now.items m1 _ some said refl c.in_ok-says.ensures.judged refl)
+    c.branch-d.ensures.judged
+
+pub condition-returns-in-No-clause-verdict : goal.condition-returns-in-No-clause-verdict
+condition-returns-in-No-clause-verdict g t c =
+    let x = context c.args.d.now.dialect (view c.args.d.now.whole.now) (g.P.Patterns.reading c.args.d.now.patterns.now) c.args.left in
+    let v = view c.args.value.now in
+    let ms = members_view c.args.keywords.now.entries in
+    let r = c.args.d.now.dialect.reads_const in
+    let read = c.schema_where_read-asked.ensures ∙ (λ i. schema_where_read (c.reads_const.ensures i) (c.member.ensures i)) in
+    let some = ap (option_map (λ s. view s.now)) (sym c.in-Some.is) ∙ read in
+    let d = view c.in-Some.schema.now in
+    let accepted = option_map (read_data x) (get_member (codes "then") ms) in
+    let refused = option_map (read_data x) (get_member (codes "else") ms) in
+    let said : No ≡ (judge x d).fits v = sym (ap meant c.in-No.is) ∙ c.in_ok-says.ensures.verdict in
+    let P : Verdict → Type 0 = λ y. IfOk c.branch-d-in-No.result (λ says. meant says ≡ y) in
+    subst P (ap (λ (o : Option Data). where_some (judge_at x o) (λ j. j.fits v)) (c.schema_at-in-No.ensures ∙ ap schema_at c.member-in-No.ensures)
+    ∙ (read_one (λ j. j.fits v) x (get_member (codes "else") ms)
+    ∙ condition_said r x (get_member (codes "if") ms) accepted refused d v No some said))
+    c.branch-d-in-No.ensures.verdict
+
+pub condition-returns-in-No-clause-judged : goal.condition-returns-in-No-clause-judged
+condition-returns-in-No-clause-judged g t c =
+    let x = context c.args.d.now.dialect (view c.args.d.now.whole.now) (g.P.Patterns.reading c.args.d.now.patterns.now) c.args.left in
+    let v = view c.args.value.now in
+    let ms = members_view c.args.keywords.now.entries in
+    let r = c.args.d.now.dialect.reads_const in
+    let read = c.schema_where_read-asked.ensures ∙ (λ i. schema_where_read (c.reads_const.ensures i) (c.member.ensures i)) in
+    let some = ap (option_map (λ s. view s.now)) (sym c.in-Some.is) ∙ read in
+    let d = view c.in-Some.schema.now in
+    let accepted = option_map (read_data x) (get_member (codes "then") ms) in
+    let refused = option_map (read_data x) (get_member (codes "else") ms) in
+    let said : No ≡ (judge x d).fits v = sym (ap meant c.in-No.is) ∙ c.in_ok-says.ensures.verdict in
+    let m1 = c.fits.new.marks.items in
+    let P : List Bool → Type 0 = λ y. OnOk c.branch-d-in-No.result (c.branch-d-in-No.new.marks.items ≡ y) in
+    subst P (ap (λ (o : Option Data). marked (judged_by_one (judge_at x o) v) (keys_of v) m1)
+    (c.schema_at-in-No.ensures ∙ ap schema_at c.member-in-No.ensures)
+    ∙ condition_marks r x (get_member (codes "if") ms) (get_member (codes "else") ms) accepted refused d v No (keys_of v)
+    c.args.marks.now.items m1 _ some said refl c.in_ok-says.ensures.judged refl)
+    c.branch-d-in-No.ensures.judged
+
+pub condition-returns-in-Open-clause-judged : goal.condition-returns-in-Open-clause-judged
+condition-returns-in-Open-clause-judged g t c =
+    let x = context c.args.d.now.dialect (view c.args.d.now.whole.now) (g.P.Patterns.reading c.args.d.now.patterns.now) c.args.left in
+    let v = view c.args.value.now in
+    let ms = members_view c.args.keywords.now.entries in
+    let r = c.args.d.now.dialect.reads_const in
+    let read = c.schema_where_read-asked.ensures ∙ (λ i. schema_where_read (c.reads_const.ensures i) (c.member.ensures i)) in
+    let some = ap (option_map (λ s. view s.now)) (sym c.in-Some.is) ∙ read in
+    let d = view c.in-Some.schema.now in
+    let accepted = option_map (read_data x) (get_member (codes "then") ms) in
+    let refused = option_map (read_data x) (get_member (codes "else") ms) in
+    let said : Open ≡ (judge x d).fits v = sym (ap meant c.in-Open.is) ∙ c.in_ok-says.ensures.verdict in
+    let m1 = c.fits.new.marks.items in
+    condition_marks r x (get_member (codes "if") ms) None accepted refused d v Open (keys_of v) c.args.marks.now.items m1 m1 some said refl
+    c.in_ok-says.ensures.judged (sym (marked_none (keys_of v) m1))
+
+pub branch-returns-in-None-clause-judged : goal.branch-returns-in-None-clause-judged
+branch-returns-in-None-clause-judged g t c =
+    rw c.in-None.is (sym (marked_none (keys_of (view c.args.value.now)) c.args.marks.now.items))
+
+-- ---- schemas beside members
+
+pub dependents-returns-in_default-clause-judged : goal.dependents-returns-in_default-clause-judged
+dependents-returns-in_default-clause-judged g t c =
+    rw c.in_default.is (no_beside_marks (view c.args.value.now) (keys_of (view c.args.value.now)) c.args.marks.now.items)
+
+pub dependents-loop-name-preserved-then-is_some : goal.dependents-loop-name-preserved-then-is_some
+dependents-loop-name-preserved-then-is_some g t c =
+    let x = context c.args.d.now.dialect (view c.args.d.now.whole.now) (g.P.Patterns.reading c.args.d.now.patterns.now) c.args.left in
+    let v = view c.args.value.now in
+    let ks = keys_of v in
+    let ms = members_view c.in-Some-as_object.members.now.entries in
+    let s = judge x (view c.in-Some-2.schema.now) in
+    let S = meant c.loop-name.says in
+    let marks = c.loop-name.marks.items in
+    let steps = c.in-Some-2.ensures.steps in
+    let name = string_bytes c.in-Some-2.name.now in
+    let there : is_some (get_member name ms) ≡ true =
+    sym (c.is_some.ensures ∙ (mapped_some (λ w. view w.now) c.member.result
+    ∙ ap is_some (c.member.ensures ∙ ap (λ (k : Text). get_member k ms) c.as_str.ensures.value))) ∙ c.if-is_some.true in
+    let rest = named_judges x (members_view c.next.new.self) in
+    let one = sym (beside_one (name, s) rest ms there) in
+    let deep = entry_deep (c.in-Some-2.name.now, c.in-Some-2.schema.now) c.loop-name.name-iterator c.next.new.self steps in
+    record {
+      deep = omega (arith, deep.1, c.loop-name.invariant.deep);
+      rest = one_more_said S _ (meant c.both-says.result) _ _ (c.both-says.ensures ∙ ap (both S) c.in_ok-fits.ensures.verdict)
+          (ap (λ (ss : List Judge). both S (all_of (map (λ j. j.fits v) ss))) one
+          ∙ (sym (ap (λ (es : List Entry). both S (all_of (map (λ j. j.fits v) (beside_members (named_judges x (members_view es)) ms)))) steps)
+          ∙ c.loop-name.invariant.rest));
+      judged = next_marks s (beside_members rest ms) v ks marks c.fits.new.marks.items c.in_ok-fits.ensures.judged
+          ∙ (ap (λ (ss : List Judge). marked (judged_by_some ss v) ks marks) one
+          ∙ (sym (ap (λ (es : List Entry). marked (judged_by_some (beside_members (named_judges x (members_view es)) ms) v) ks marks) steps)
+          ∙ c.loop-name.invariant.judged));
+    }
+
+pub dependents-returns-clause-judged : goal.dependents-returns-clause-judged
+dependents-returns-clause-judged g t c =
+    let x = context c.args.d.now.dialect (view c.args.d.now.whole.now) (g.P.Patterns.reading c.args.d.now.patterns.now) c.args.left in
+    let v = view c.args.value.now in
+    let ms = members_view c.in-Some-as_object.members.now.entries in
+    let marks = c.loop-name.marks.items in
+    sym (marked_none (keys_of v) marks)
+    ∙ (sym (ap (λ (es : List Entry). marked (judged_by_some (beside_members (named_judges x (members_view es)) ms) v) (keys_of v) marks)
+    c.in-None.ensures.steps.0) ∙ c.loop-name.invariant.judged)
 
 -- ---- references
 

@@ -2,15 +2,16 @@
 use Rattle.std.proofs.Common.{◌≡◌, ◌≤◌, drop, map, max, option_map}
 use Rattle.std.specs.Prelude.{◌||◌}
 use Rattle.std.specs.Slice.Iter.{iter_rest}
-use Rattle.serde_json.specs.Data.{depth, items_depth, members_depth}
+use Rattle.serde_json.specs.Data.{string, depth, items_depth, members_depth}
 use Rattle.serde_json.specs.View.{view, items_view, members_view}
-use Rattle.schemars_schema.specs.Verdict.{both}
-use Rattle.schemars_schema.specs.Acceptance.{context, judge, by_patterns, matches_some, each_member, judged_by_some, where_some}
+use Rattle.schemars_schema.specs.Verdict.{both, all_of}
+use Rattle.schemars_schema.specs.Acceptance.{context, judge, by_patterns, matches_some, each_member, judged_by_some, where_some, count_of_fitting, beside_members}
 use Rattle.schemars_validate.specs.Meant.{meant}
 use Rattle.schemars_validate.specs.Joined.{so_far, with_each, taken_by, joined_by}
-use Rattle.schemars_validate.specs.Judged.{keys_of, marked, each_unmarked, unmarked_by}
+use Rattle.schemars_validate.specs.Judged.{keys_of, marked, each_unmarked, unmarked_by, judged_beside_members}
 use Rattle.schemars_validate.specs.Schemas.{judge_at, judges_of, judges_in, named_judges, named_judges_in}
-use Rattle.schemars_validate.specs.Parts.{each_item, items_by, member_by, members_by}
+use Rattle.schemars_validate.specs.Parts.{each_item, items_by, member_by, members_by, names_by, dependents_by}
+use Rattle.schemars_validate.proofs.Counts.{added}
 use Rattle.schemars_validate.proofs.Measures.{work, depth_at, items_depth_at, members_depth_at}
 use Rattle.schemars_validate.proofs.judge.+judge.Given as goal
 
@@ -22,6 +23,28 @@ decreases-object g l = work l.left (view l.d.now.whole.now) (members_depth (memb
 
 abbrev pub decreases-beside : goal.decreases-beside
 decreases-beside g l = work l.left (view l.d.now.whole.now) (members_depth (members_view l.keywords.now.entries)) 14
+
+abbrev pub decreases-inside : goal.decreases-inside
+decreases-inside g l = work l.left (view l.d.now.whole.now) (members_depth (members_view l.keywords.now.entries)) 13
+
+abbrev pub decreases-contains : goal.decreases-contains
+decreases-contains g l = work l.left (view l.d.now.whole.now) (members_depth (members_view l.keywords.now.entries)) 12
+
+abbrev pub decreases-count_of_fitting : goal.decreases-count_of_fitting
+decreases-count_of_fitting g l = work l.left (view l.d.now.whole.now) (depth (view l.schema.now)) 2
+
+abbrev pub decreases-names : goal.decreases-names
+decreases-names g l = work l.left (view l.d.now.whole.now) (depth_at (option_map (λ s. view s.now) l.of_names)) 2
+
+abbrev pub decreases-condition : goal.decreases-condition
+decreases-condition g l = work l.left (view l.d.now.whole.now) (members_depth (members_view l.keywords.now.entries)) 12
+
+abbrev pub decreases-branch : goal.decreases-branch
+decreases-branch g l = work l.left (view l.d.now.whole.now) (depth_at (option_map (λ s. view s.now) l.schema)) 3
+
+abbrev pub decreases-dependents : goal.decreases-dependents
+decreases-dependents g l =
+    work l.left (view l.d.now.whole.now) (members_depth_at (option_map (λ s. members_view s.now.entries) l.by_name)) 3
 
 abbrev pub decreases-reference : goal.decreases-reference
 decreases-reference g l = work l.left (view l.d.now.whole.now) (members_depth (members_view l.keywords.now.entries)) 13
@@ -69,6 +92,32 @@ invariant-items-loop-item g l =
       deep : items_depth (items_view (iter_rest l.first)) ≤ items_depth (items_view l.schemas.first.now);
       rest : both (meant l.says) (each_item (judges_of c (items_view (iter_rest l.first))) others (items_view (drop l.item-index l.item-items)))
           ≡ items_by (judges_of c (items_view l.schemas.first.now)) others (view l.value);
+    }
+
+abbrev pub invariant-count_of_fitting-loop-item : goal.invariant-count_of_fitting-loop-item
+invariant-count_of_fitting-loop-item g l =
+    let c = context l.d.dialect (view l.d.whole.now) (g.P.Patterns.reading l.d.patterns.now) l.left in
+    let s = judge c (view l.schema) in record {
+      counted : added l.count (count_of_fitting s (items_view (drop l.item-index l.items))) ≡ count_of_fitting s (items_view l.items);
+      few : l.count ≤ l.item-index;
+    }
+
+abbrev pub invariant-names-loop-key : goal.invariant-names-loop-key
+invariant-names-loop-key g l =
+    let c = context l.d.dialect (view l.d.whole.now) (g.P.Patterns.reading l.d.patterns.now) l.left in
+    let names = judge_at c (option_map (λ s. view s.now) l.of_names) in
+    both (meant l.says) (each_member (λ k w. where_some names (λ s. s.fits (string k))) (members_view l.key-iterator))
+    ≡ names_by names (view l.value)
+
+abbrev pub invariant-dependents-loop-name : goal.invariant-dependents-loop-name
+invariant-dependents-loop-name g l =
+    let c = context l.d.dialect (view l.d.whole.now) (g.P.Patterns.reading l.d.patterns.now) l.left in
+    let v = view l.value in
+    let left = beside_members (named_judges c (members_view l.name-iterator)) (members_view l.members.entries) in
+    let all = named_judges_in c (option_map (λ s. members_view s.now.entries) l.by_name) in record {
+      deep : members_depth (members_view l.name-iterator) ≤ members_depth_at (option_map (λ s. members_view s.now.entries) l.by_name);
+      rest : both (meant l.says) (all_of (map (λ s. s.fits v) left)) ≡ dependents_by all v;
+      judged : marked (judged_by_some left v) (keys_of v) l.marks.items ≡ marked (judged_beside_members all v) (keys_of v) l.fn.marks.items;
     }
 
 abbrev pub invariant-members-loop-key : goal.invariant-members-loop-key

@@ -1,0 +1,15 @@
+-- What is said so far, with what the lists that are left say.
+use Rattle.std.proofs.Common.{◌≡◌, Some}
+use Rattle.serde_json.specs.View.{view, members_view}
+use Rattle.serde_json.specs.Find.{get_member}
+use Rattle.schemars_schema.specs.Verdict.{both}
+use Rattle.schemars_schema.specs.Acceptance.{where_some, each_member, required_says}
+use Rattle.schemars_validate.specs.Meant.{meant}
+use Rattle.schemars_validate.proofs.scalars.each_required.Given as goal
+
+abbrev pub invariant-loop-key : goal.invariant-loop-key
+invariant-loop-key l =
+    both (meant l.says) (each_member (λ k names. where_some (get_member k (members_view l.members.entries))
+    (λ w. required_says (Some names) (view l.value))) (members_view l.key-iterator))
+    ≡ each_member (λ k names. where_some (get_member k (members_view l.members.entries)) (λ w. required_says (Some names) (view l.value)))
+    (members_view l.lists.entries)
