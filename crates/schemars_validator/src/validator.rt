@@ -8,9 +8,10 @@ ghost use Rattle.schemars_validator.specs.Texts.{IsReadBy};
 ghost use Rattle.schemars_validator.specs.Expressions.{AreExpressionsOf};
 ghost use Rattle.schemars_validator.specs.Refused.{IsRead, IsRefusal};
 
+use crate::asking::Failure;
 use crate::draft::Draft;
 use crate::expressions::{Expression, compiled, patterns_in};
-use crate::failures::{Failure, failures_of};
+use crate::failures::failures_of;
 use crate::places::{Place, schemas_in};
 use crate::reading::{Reading, read};
 use crate::refusal::Refusal;

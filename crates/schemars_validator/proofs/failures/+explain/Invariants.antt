@@ -14,6 +14,12 @@ decreases-explain_each l = l.left * 8 + 4
 abbrev pub decreases-explain_parts : goal.decreases-explain_parts
 decreases-explain_parts l = l.left * 8 + 5
 
+abbrev pub decreases-explain_keys : goal.decreases-explain_keys
+decreases-explain_keys l = l.left * 8 + 5
+
+abbrev pub decreases-explain_same : goal.decreases-explain_same
+decreases-explain_same l = l.left * 8 + 5
+
 abbrev pub decreases-explain_choices : goal.decreases-explain_choices
 decreases-explain_choices l = l.left * 8 + 5
 
