@@ -42,10 +42,11 @@ places : map (λ s. s.0) (schemas_at [] document)
 unfolding schemas_at schemas_inside schemas_under schemas_listed schemas_named chars encode digits
 places = refl
 
--- {"if": {"contains": {}}, "dependentSchemas": {"a": {"propertyNames": {}}, "b": {"then": {}, "else": {}}}, "dependentRequired": {"c": {}}}
 abbrev nothing : Data
 nothing = object no_members
 
+-- {"if": {"contains": {}}, "dependentSchemas": {"a": {"propertyNames": {}}, "b": {"then": {}, "else": {}}},
+-- "dependentRequired": {"c": {}}}
 abbrev conditions : Data
 conditions = object (member (codes "if") (object (member (codes "contains") nothing no_members))
     (member (codes "dependentSchemas") (object (member (codes "a") (object (member (codes "propertyNames") nothing no_members))
@@ -66,7 +67,8 @@ dependent = member (codes "$id") (string (codes "a")) (member (codes "if") nothi
     (member (codes "multipleOf") (boolean true) no_members)))
 
 unread : unread_among Draft2020_12 document (codes "/not") dependent
-    ≡ (codes "/not/$id", codes "$id") ∷ (codes "/not/dependencies", codes "dependencies") ∷ (codes "/not/multipleOf", codes "multipleOf") ∷ []
+    ≡ (codes "/not/$id", codes "$id") ∷ (codes "/not/dependencies", codes "dependencies")
+    ∷ (codes "/not/multipleOf", codes "multipleOf") ∷ []
 unfolding chars encode
 unread = refl
 

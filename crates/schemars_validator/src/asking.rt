@@ -2,10 +2,11 @@
 ghost use Rattle.std.specs.Prelude.{◌≡◌, IsTrue, OnOk};
 ghost use Rattle.schemars_validator.specs.Asked.{has_some};
 
+use crate::draft::Draft;
 use crate::places::member_place;
 use crate::probes::with_keywords;
 use crate::reading::Reading;
-use schemars_validate::{Dialect, Verdict, validate};
+use schemars_validate::{Verdict, validate};
 use serde_json::{Map, Value};
 use std::alloc::{AllocError, Global};
 
@@ -24,7 +25,7 @@ pub struct Failure {
 #[derive(Clone, Copy)]
 pub struct Asked<'a> {
     pub alloc: Global,
-    pub dialect: Dialect,
+    pub draft: Draft,
     pub document: &'a Value,
     pub reading: &'a Reading,
     pub references: u64,
@@ -66,7 +67,7 @@ pub fn add(
 pub fn is_denied(asked: &Asked<'_>, schema: &Value, value: &Value) -> Result<bool, AllocError> {
     let says = validate(
         asked.alloc,
-        asked.dialect,
+        asked.draft.dialect(),
         asked.document,
         asked.reading,
         asked.references,

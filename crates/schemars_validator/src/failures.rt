@@ -3,6 +3,7 @@ ghost use Rattle.std.specs.Prelude.{IfOk, IsTrue};
 ghost use Rattle.schemars_validator.specs.Asked.{has_some};
 
 use crate::asking::{Asked, At, Failure, add, is_denied, is_denied_by};
+use crate::draft::Draft;
 use crate::itself::explain_itself;
 use crate::places::member_place;
 use crate::probes::{UNEVALUATED, with_others_judged, without};
@@ -10,14 +11,14 @@ use crate::reading::Reading;
 use crate::sentences::{Choice, sentence_of_choice, sentence_of_key};
 use crate::ways::{Way, parts_of, way_of, ways_beside_keys, ways_listed, ways_to};
 use schemars_schema::Schema;
-use schemars_validate::{Dialect, resolved};
+use schemars_validate::resolved;
 use serde_json::{Map, Value};
 use std::alloc::{AllocError, Global};
 
 /// The failures of a value that the document does not accept: at least one.
 pub fn failures_of(
     alloc: Global,
-    dialect: Dialect,
+    draft: Draft,
     document: &Value,
     reading: &Reading,
     references: u64,
@@ -27,7 +28,7 @@ pub fn failures_of(
 {
     let asked = Asked {
         alloc,
-        dialect,
+        draft,
         document,
         reading,
         references,
@@ -75,7 +76,10 @@ fn explain_object(
     failures: &mut Vec<Failure>,
 ) -> Result<(), AllocError> {
     let before = failures.len();
-    explain_itself(asked, keywords, at, failures)?;
+    let alone = refers_alone(asked.draft, keywords);
+    if !alone {
+        explain_itself(asked, keywords, at, failures)?;
+    }
     explain_ways(
         asked,
         left,
@@ -83,17 +87,37 @@ fn explain_object(
         at,
         failures,
     )?;
-    explain_parts(asked, left, keywords, at, failures)?;
-    explain_keys(asked, left, keywords, at, failures)?;
-    explain_same(asked, left, keywords, at, failures)?;
-    explain_choices(asked, left, keywords, at, failures)?;
-    if failures.len() == before {
-        explain_unjudged(asked, left, keywords, at, failures)?;
+    if !alone {
+        explain_inside(asked, left, keywords, at, failures)?;
     }
     if failures.len() == before {
         add(asked, at, "", "is not accepted", failures)?;
     }
     Ok(())
+}
+
+// Whether the reference alone judges values.
+fn refers_alone(draft: Draft, keywords: &Map<String, Value>) -> bool {
+    match keywords.get("$ref") {
+        Some(Value::String(_)) => !draft.judges_siblings(),
+        _ => false,
+    }
+}
+
+// The keywords with schemas.
+#[cycle(explain)]
+fn explain_inside(
+    asked: &Asked<'_>,
+    left: u32,
+    keywords: &Map<String, Value>,
+    at: &At<'_>,
+    failures: &mut Vec<Failure>,
+) -> Result<(), AllocError> {
+    explain_parts(asked, left, keywords, at, failures)?;
+    explain_keys(asked, left, keywords, at, failures)?;
+    explain_same(asked, left, keywords, at, failures)?;
+    explain_choices(asked, left, keywords, at, failures)?;
+    explain_unjudged(asked, left, keywords, at, failures)
 }
 
 // ---- schemas of the same value, and of its parts

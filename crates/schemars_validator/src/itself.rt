@@ -27,7 +27,7 @@ pub fn explain_itself(
 fn explain_keyword(
     asked: &Asked<'_>,
     keywords: &Map<String, Value>,
-    keyword: &str,
+    keyword: &'static str,
     wanted: &Value,
     at: &At<'_>,
     failures: &mut Vec<Failure>,
@@ -69,8 +69,7 @@ fn explain_dependent(
     failures: &mut Vec<Failure>,
 ) -> Result<(), AllocError> {
     let keyword = "dependentRequired";
-    let (Some(Value::Object(dependent)), Value::Object(members)) =
-        (keywords.get(keyword), at.value)
+    let (Some(Value::Object(dependent)), Value::Object(members)) = (keywords.get(keyword), at.value)
     else {
         return Ok(());
     };

@@ -97,8 +97,14 @@ impl<'d> Validator<'d> {
         let references = self.references_for(value)?;
         let verdict = self.judge(alloc, &reading, references, value)?;
         let failures = if verdict == Verdict::No {
-            let dialect = self.draft.dialect();
-            failures_of(alloc, dialect, self.document, &reading, references, value)?
+            failures_of(
+                alloc,
+                self.draft,
+                self.document,
+                &reading,
+                references,
+                value,
+            )?
         } else {
             Vec::new(alloc)
         };

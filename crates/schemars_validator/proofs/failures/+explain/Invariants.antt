@@ -26,5 +26,8 @@ decreases-explain_choices l = l.left * 8 + 5
 abbrev pub decreases-explain_unjudged : goal.decreases-explain_unjudged
 decreases-explain_unjudged l = l.left * 8 + 5
 
+abbrev pub decreases-explain_inside : goal.decreases-explain_inside
+decreases-explain_inside l = l.left * 8 + 6
+
 abbrev pub decreases-explain_object : goal.decreases-explain_object
 decreases-explain_object l = l.left * 8 + 7
