@@ -42,19 +42,37 @@ places : map (λ s. s.0) (schemas_at [] document)
 unfolding schemas_at schemas_inside schemas_under schemas_listed schemas_named chars encode digits
 places = refl
 
+abbrev nothing : Data
+nothing = object no_members
+
+-- {"if": {"contains": {}}, "dependentSchemas": {"a": {"propertyNames": {}}, "b": {"then": {}, "else": {}}},
+-- "dependentRequired": {"c": {}}}
+abbrev conditions : Data
+conditions = object (member (codes "if") (object (member (codes "contains") nothing no_members))
+    (member (codes "dependentSchemas") (object (member (codes "a") (object (member (codes "propertyNames") nothing no_members))
+    (member (codes "b") (object (member (codes "then") nothing (member (codes "else") nothing no_members))) no_members)))
+    (member (codes "dependentRequired") (object (member (codes "c") nothing no_members)) no_members)))
+
+places_of_conditions : map (λ s. s.0) (schemas_at [] conditions)
+    ≡ [] ∷ codes "/if" ∷ codes "/if/contains" ∷ codes "/dependentSchemas/a" ∷ codes "/dependentSchemas/a/propertyNames"
+    ∷ codes "/dependentSchemas/b" ∷ codes "/dependentSchemas/b/then" ∷ codes "/dependentSchemas/b/else" ∷ []
+unfolding schemas_at schemas_inside schemas_under schemas_listed schemas_named chars encode digits
+places_of_conditions = refl
+
 -- ---- keywords that are not read
 
--- {"$id": "a", "if": {}, "multipleOf": true}
-abbrev conditional : Members
-conditional = member (codes "$id") (string (codes "a")) (member (codes "if") (object no_members)
-    (member (codes "multipleOf") (boolean true) no_members))
+-- {"$id": "a", "if": {}, "dependencies": {}, "multipleOf": true}
+abbrev dependent : Members
+dependent = member (codes "$id") (string (codes "a")) (member (codes "if") nothing (member (codes "dependencies") nothing
+    (member (codes "multipleOf") (boolean true) no_members)))
 
-unread : unread_among Draft2020_12 document (codes "/not") conditional
-    ≡ (codes "/not/$id", codes "$id") ∷ (codes "/not/if", codes "if") ∷ (codes "/not/multipleOf", codes "multipleOf") ∷ []
+unread : unread_among Draft2020_12 document (codes "/not") dependent
+    ≡ (codes "/not/$id", codes "$id") ∷ (codes "/not/dependencies", codes "dependencies")
+    ∷ (codes "/not/multipleOf", codes "multipleOf") ∷ []
 unfolding chars encode
 unread = refl
 
-unread_whole : unread_among OpenApi3 document [] conditional ≡ (codes "/multipleOf", codes "multipleOf") ∷ []
+unread_whole : unread_among OpenApi3 document [] dependent ≡ (codes "/multipleOf", codes "multipleOf") ∷ []
 unfolding chars encode
 unread_whole = refl
 

@@ -12,14 +12,13 @@ use Rattle.schemars_validator.specs.Standing.{StandsAt, member_place}
 -- ---- keywords that judge values
 
 abbrev pub in_every_dialect : List Text
-in_every_dialect = codes "multipleOf" ∷ codes "minProperties" ∷ codes "maxProperties" ∷ codes "exclusiveMinimum"
-    ∷ codes "exclusiveMaximum" ∷ []
+in_every_dialect = codes "multipleOf" ∷ []
 
 abbrev pub in_drafts : List Text
-in_drafts = codes "if" ∷ codes "contains" ∷ codes "propertyNames" ∷ codes "dependencies" ∷ []
+in_drafts = codes "dependencies" ∷ []
 
 abbrev pub from_2019_09 : List Text
-from_2019_09 = codes "dependentSchemas" ∷ codes "dependentRequired" ∷ codes "unevaluatedItems" ∷ []
+from_2019_09 = codes "unevaluatedItems" ∷ []
 
 abbrev pub is_unread_from_2019_09 : Text → Bool
 is_unread_from_2019_09 k = is_listed k in_drafts || is_listed k from_2019_09

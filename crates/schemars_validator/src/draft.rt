@@ -54,6 +54,16 @@ impl Draft {
         }
     }
 
+    /// Whether keywords beside `$ref` judge values.
+    pub fn judges_siblings(self) -> bool
+        ensures { result ≡ (dialect_of self).judges_siblings }
+    {
+        match self {
+            Draft::Draft07 | Draft::OpenApi3 => false,
+            Draft::Draft2019_09 | Draft::Draft2020_12 => true,
+        }
+    }
+
     /// Whether `$schema` may say this: the draft's own meta-schema, with `#` behind it or without it. In
     /// OpenAPI it is no keyword.
     pub fn is_named_by(self, meta_schema: &str) -> bool

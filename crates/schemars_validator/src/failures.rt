@@ -1,51 +1,24 @@
 //! Why a value is not accepted, keyword by keyword.
-ghost use Rattle.std.specs.Prelude.{◌≡◌, IfOk, IsTrue, OnOk};
+ghost use Rattle.std.specs.Prelude.{IfOk, IsTrue};
 ghost use Rattle.schemars_validator.specs.Asked.{has_some};
 
-use crate::keywords::BY_ITSELF;
+use crate::asking::{Asked, At, Failure, add, is_denied, is_denied_by};
+use crate::draft::Draft;
+use crate::itself::explain_itself;
 use crate::places::member_place;
-use crate::probes::{UNEVALUATED, with_keywords, with_others_judged, without};
+use crate::probes::{UNEVALUATED, with_others_judged, without};
 use crate::reading::Reading;
-use crate::sentences::{Choice, sentence_about, sentence_of_choice};
-use crate::ways::{Way, parts_of, ways_listed, ways_to};
+use crate::sentences::{Choice, sentence_of_choice, sentence_of_key};
+use crate::ways::{Way, parts_of, way_of, ways_beside_keys, ways_listed, ways_to};
 use schemars_schema::Schema;
-use schemars_validate::{Dialect, Verdict, resolved, validate};
+use schemars_validate::resolved;
 use serde_json::{Map, Value};
 use std::alloc::{AllocError, Global};
-
-/// A keyword that a value does not meet (JSON Schema core 2020-12, 12.4.2: the basic output).
-#[derive(Debug, Drop)]
-pub struct Failure {
-    /// The way to the keyword through the document and its references, as a JSON Pointer.
-    pub keyword_location: String,
-    /// The place in the value, as a JSON Pointer.
-    pub instance_location: String,
-    /// What is wrong, for a reader.
-    pub error: String,
-}
-
-// What stays the same at each place.
-#[derive(Clone, Copy)]
-struct Asked<'a> {
-    alloc: Global,
-    dialect: Dialect,
-    document: &'a Value,
-    reading: &'a Reading,
-    references: u64,
-}
-
-// A part of the value, and the way to the schema that judges it.
-#[derive(Clone, Copy)]
-struct At<'a> {
-    instance: &'a str,
-    keywords: &'a str,
-    value: &'a Value,
-}
 
 /// The failures of a value that the document does not accept: at least one.
 pub fn failures_of(
     alloc: Global,
-    dialect: Dialect,
+    draft: Draft,
     document: &Value,
     reading: &Reading,
     references: u64,
@@ -55,7 +28,7 @@ pub fn failures_of(
 {
     let asked = Asked {
         alloc,
-        dialect,
+        draft,
         document,
         reading,
         references,
@@ -75,42 +48,6 @@ pub fn failures_of(
 
 // How deep schemas within one another are explained.
 const DEEPEST: u32 = 1000;
-
-fn add(
-    asked: &Asked<'_>,
-    at: &At<'_>,
-    keyword: &str,
-    error: &str,
-    failures: &mut Vec<Failure>,
-) -> Result<(), AllocError>
-    ensures { OnOk result (IsTrue (has_some failures.new.items)) }
-{
-    let alloc = asked.alloc;
-    let keyword_location = if keyword.is_empty() {
-        String::from_str(alloc, at.keywords)?
-    } else {
-        member_place(alloc, at.keywords, keyword)?
-    };
-    failures.push(Failure {
-        keyword_location,
-        instance_location: String::from_str(alloc, at.instance)?,
-        error: String::from_str(alloc, error)?,
-    })?;
-    Ok(())
-}
-
-fn is_denied(asked: &Asked<'_>, schema: &Value, value: &Value) -> Result<bool, AllocError> {
-    let says = validate(
-        asked.alloc,
-        asked.dialect,
-        asked.document,
-        asked.reading,
-        asked.references,
-        schema,
-        value,
-    )?;
-    Ok(says == Verdict::No)
-}
 
 // Adds why a schema denies a value.
 #[cycle(explain)]
@@ -138,10 +75,11 @@ fn explain_object(
     at: &At<'_>,
     failures: &mut Vec<Failure>,
 ) -> Result<(), AllocError> {
-    let alloc = asked.alloc;
     let before = failures.len();
-    explain_itself(asked, keywords, at, failures)?;
-    explain_required(asked, keywords, at, failures)?;
+    let alone = refers_alone(asked.draft, keywords);
+    if !alone {
+        explain_itself(asked, keywords, at, failures)?;
+    }
     explain_ways(
         asked,
         left,
@@ -149,12 +87,8 @@ fn explain_object(
         at,
         failures,
     )?;
-    explain_parts(asked, left, keywords, at, failures)?;
-    let all = ways_listed(alloc, keywords, "allOf")?;
-    explain_ways(asked, left, &all, at, failures)?;
-    explain_choices(asked, left, keywords, at, failures)?;
-    if failures.len() == before {
-        explain_unjudged(asked, left, keywords, at, failures)?;
+    if !alone {
+        explain_inside(asked, left, keywords, at, failures)?;
     }
     if failures.len() == before {
         add(asked, at, "", "is not accepted", failures)?;
@@ -162,47 +96,28 @@ fn explain_object(
     Ok(())
 }
 
-// ---- keywords that judge a value by itself
-
-fn explain_itself(
-    asked: &Asked<'_>,
-    keywords: &Map<String, Value>,
-    at: &At<'_>,
-    failures: &mut Vec<Failure>,
-) -> Result<(), AllocError> {
-    for keyword in BY_ITSELF {
-        let Some(wanted) = keywords.get(keyword) else {
-            continue;
-        };
-        let alone = with_keywords(asked.alloc, keywords, &[keyword, "nullable"])?;
-        if is_denied(asked, &alone, at.value)? {
-            let error = sentence_about(asked.alloc, keyword, wanted)?;
-            add(asked, at, keyword, error.as_str(), failures)?;
-        }
+// Whether the reference alone judges values.
+fn refers_alone(draft: Draft, keywords: &Map<String, Value>) -> bool {
+    match keywords.get("$ref") {
+        Some(Value::String(_)) => !draft.judges_siblings(),
+        _ => false,
     }
-    Ok(())
 }
 
-fn explain_required(
+// The keywords with schemas.
+#[cycle(explain)]
+fn explain_inside(
     asked: &Asked<'_>,
+    left: u32,
     keywords: &Map<String, Value>,
     at: &At<'_>,
     failures: &mut Vec<Failure>,
 ) -> Result<(), AllocError> {
-    let (Some(Value::Array(names)), Value::Object(members)) = (keywords.get("required"), at.value)
-    else {
-        return Ok(());
-    };
-    for name in names {
-        if let Value::String(name) = name {
-            let name = name.as_str();
-            if members.get(name).is_none() {
-                let error = format!(in asked.alloc; "has no member {name:?}")?;
-                add(asked, at, "required", error.as_str(), failures)?;
-            }
-        }
-    }
-    Ok(())
+    explain_parts(asked, left, keywords, at, failures)?;
+    explain_keys(asked, left, keywords, at, failures)?;
+    explain_same(asked, left, keywords, at, failures)?;
+    explain_choices(asked, left, keywords, at, failures)?;
+    explain_unjudged(asked, left, keywords, at, failures)
 }
 
 // ---- schemas of the same value, and of its parts
@@ -223,6 +138,56 @@ fn way_of_reference<'a>(
         }
     }
     Ok(ways)
+}
+
+// Adds why the schemas of `allOf`, of the branch of a condition and beside keys deny the value.
+#[cycle(explain)]
+fn explain_same(
+    asked: &Asked<'_>,
+    left: u32,
+    keywords: &Map<String, Value>,
+    at: &At<'_>,
+    failures: &mut Vec<Failure>,
+) -> Result<(), AllocError> {
+    let all = ways_listed(asked.alloc, keywords, "allOf")?;
+    explain_ways(asked, left, &all, at, failures)?;
+    let branch = way_of_branch(asked, keywords, at.value)?;
+    explain_ways(asked, left, &branch, at, failures)?;
+    let beside = ways_of_dependents(asked, keywords, at.value)?;
+    explain_ways(asked, left, &beside, at, failures)
+}
+
+// The schema under `then` or `else`, where the condition denies the value.
+fn way_of_branch<'a>(
+    asked: &Asked<'_>,
+    keywords: &'a Map<String, Value>,
+    value: &Value,
+) -> Result<Vec<Way<'a>>, AllocError> {
+    let Some(condition) = keywords.get("if") else {
+        return Ok(Vec::new(asked.alloc));
+    };
+    if !is_denied_by(asked, keywords, &["if", "then", "else"], value)? {
+        return Ok(Vec::new(asked.alloc));
+    }
+    let branch = if is_denied(asked, condition, value)? {
+        "else"
+    } else {
+        "then"
+    };
+    way_of(asked.alloc, keywords, branch)
+}
+
+// The schemas under `dependentSchemas` beside keys of the value, where these deny it.
+fn ways_of_dependents<'a>(
+    asked: &Asked<'_>,
+    keywords: &'a Map<String, Value>,
+    value: &Value,
+) -> Result<Vec<Way<'a>>, AllocError> {
+    let keyword = "dependentSchemas";
+    if !is_denied_by(asked, keywords, &[keyword], value)? {
+        return Ok(Vec::new(asked.alloc));
+    }
+    ways_beside_keys(asked.alloc, keywords, keyword, value)
 }
 
 // Adds why schemas under keywords of the object at the place deny the value.
@@ -265,6 +230,50 @@ fn explain_parts(
         explain_ways(asked, left, &ways, &inner, failures)?;
     }
     Ok(())
+}
+
+// Adds why the schema for keys denies them: what fails for the key as a text, at the place of its member.
+#[cycle(explain)]
+fn explain_keys(
+    asked: &Asked<'_>,
+    left: u32,
+    keywords: &Map<String, Value>,
+    at: &At<'_>,
+    failures: &mut Vec<Failure>,
+) -> Result<(), AllocError> {
+    let keyword = "propertyNames";
+    let (Some(schema), Value::Object(members)) = (keywords.get(keyword), at.value) else {
+        return Ok(());
+    };
+    if !is_denied_by(asked, keywords, &[keyword], at.value)? {
+        return Ok(());
+    }
+    let place = member_place(asked.alloc, at.keywords, keyword)?;
+    for (name, _) in members.iter() {
+        let instance = member_place(asked.alloc, at.instance, name.as_str())?;
+        let key = Value::String(String::from_str(asked.alloc, name.as_str())?);
+        let inner = At {
+            instance: instance.as_str(),
+            keywords: place.as_str(),
+            value: &key,
+        };
+        let mut own = Vec::new(asked.alloc);
+        explain(asked, left, schema, &inner, &mut own)?;
+        for failure in own {
+            failures.push(of_key(asked.alloc, failure)?)?;
+        }
+    }
+    Ok(())
+}
+
+// The failure of a key, told of the value that has it.
+fn of_key(alloc: Global, failure: Failure) -> Result<Failure, AllocError> {
+    let error = sentence_of_key(alloc, failure.error.as_str())?;
+    Ok(Failure {
+        keyword_location: failure.keyword_location,
+        instance_location: failure.instance_location,
+        error,
+    })
 }
 
 // The members that no keyword but `unevaluatedProperties` judges, and that it denies.

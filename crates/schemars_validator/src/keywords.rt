@@ -4,13 +4,19 @@ ghost use Rattle.schemars_validator.specs.Unread.{is_unread, is_unread_in, is_un
 
 use crate::draft::Draft;
 use schemars_schema::edits::is_listed;
+use serde_json::Value;
 
 /// Keywords whose value is a schema.
-pub const WITH_SCHEMA: [&str; 5] = [
+pub const WITH_SCHEMA: [&str; 10] = [
     "not",
+    "if",
+    "then",
+    "else",
     "items",
     "additionalItems",
+    "contains",
     "additionalProperties",
+    "propertyNames",
     "unevaluatedProperties",
 ];
 
@@ -18,39 +24,48 @@ pub const WITH_SCHEMA: [&str; 5] = [
 pub const WITH_SCHEMAS: [&str; 5] = ["allOf", "anyOf", "oneOf", "prefixItems", "items"];
 
 /// Keywords whose value has schemas by name.
-pub const WITH_NAMES: [&str; 4] = ["properties", "patternProperties", "$defs", "definitions"];
+pub const WITH_NAMES: [&str; 5] = [
+    "properties",
+    "patternProperties",
+    "dependentSchemas",
+    "$defs",
+    "definitions",
+];
 
 /// The keywords that judge a value by itself.
-pub const BY_ITSELF: [&str; 11] = [
+pub const BY_ITSELF: [&str; 15] = [
     "type",
     "const",
     "enum",
     "minimum",
     "maximum",
+    "exclusiveMinimum",
+    "exclusiveMaximum",
     "minLength",
     "maxLength",
     "pattern",
     "minItems",
     "maxItems",
     "uniqueItems",
-];
-
-// Keywords that judge values and are not read: in every dialect, in the drafts, and from 2019-09 on.
-const UNREAD: [&str; 5] = [
-    "multipleOf",
     "minProperties",
     "maxProperties",
-    "exclusiveMinimum",
-    "exclusiveMaximum",
 ];
 
-const UNREAD_IN_DRAFTS: [&str; 4] = ["if", "contains", "propertyNames", "dependencies"];
+/// The keyword whose bound a truth value under this one excludes.
+pub fn excluded_bound(keyword: &str, wanted: &Value) -> Option<&'static str> {
+    match wanted {
+        Value::Bool(_) if keyword == "exclusiveMinimum" => Some("minimum"),
+        Value::Bool(_) if keyword == "exclusiveMaximum" => Some("maximum"),
+        _ => None,
+    }
+}
 
-const UNREAD_FROM_2019_09: [&str; 3] = [
-    "dependentSchemas",
-    "dependentRequired",
-    "unevaluatedItems",
-];
+// Keywords that judge values and are not read: in every dialect, in the drafts, and from 2019-09 on.
+const UNREAD: [&str; 1] = ["multipleOf"];
+
+const UNREAD_IN_DRAFTS: [&str; 1] = ["dependencies"];
+
+const UNREAD_FROM_2019_09: [&str; 1] = ["unevaluatedItems"];
 
 /// Whether a keyword of the dialect judges values and is not read.
 pub fn is_unread(draft: Draft, keyword: &str) -> bool

@@ -1,10 +1,12 @@
 //! A document that is read once and asked about many values.
 #![tactic(auto)]
 
+mod asking;
 mod draft;
 mod ecma;
 mod expressions;
 mod failures;
+mod itself;
 mod keywords;
 mod members;
 mod places;
@@ -16,8 +18,8 @@ mod unread;
 mod validator;
 mod ways;
 
+pub use asking::Failure;
 pub use draft::Draft;
-pub use failures::Failure;
 pub use reading::Reading;
 pub use refusal::{Refusal, Unread};
 pub use schemars_validate::Verdict;

@@ -17,6 +17,13 @@ pub fn with_keywords(
     Ok(Value::Object(some))
 }
 
+/// The schema of one keyword.
+pub fn with_keyword(alloc: Global, name: &str, value: &Value) -> Result<Value, AllocError> {
+    let mut one = Map::new(alloc);
+    put(alloc, &mut one, name, value.clone()?)?;
+    Ok(Value::Object(one))
+}
+
 /// The schema of all keywords but one.
 pub fn without(
     alloc: Global,

@@ -39,14 +39,41 @@ pub fn sentence_about(alloc: Global, keyword: &str, wanted: &Value) -> Result<St
         "enum" => format!(in alloc; "is none of {wanted}"),
         "minimum" => format!(in alloc; "is less than {wanted}"),
         "maximum" => format!(in alloc; "is greater than {wanted}"),
+        "exclusiveMinimum" => format!(in alloc; "is not greater than {wanted}"),
+        "exclusiveMaximum" => format!(in alloc; "is not less than {wanted}"),
         "minLength" => format!(in alloc; "has fewer than {wanted} characters"),
         "maxLength" => format!(in alloc; "has more than {wanted} characters"),
         "pattern" => format!(in alloc; "does not match {wanted}"),
         "minItems" => format!(in alloc; "has fewer than {wanted} items"),
         "maxItems" => format!(in alloc; "has more than {wanted} items"),
         "uniqueItems" => format!(in alloc; "has an item twice"),
+        "minProperties" => format!(in alloc; "has fewer than {wanted} members"),
+        "maxProperties" => format!(in alloc; "has more than {wanted} members"),
         _ => format!(in alloc; "is not accepted by {keyword}"),
     }
+}
+
+/// What is wrong where a value lacks a member, which another one may ask for.
+pub fn sentence_of_missing(
+    alloc: Global,
+    name: &str,
+    beside: Option<&str>,
+) -> Result<String, AllocError> {
+    match beside {
+        None => format!(in alloc; "has no member {name:?}"),
+        Some(other) => format!(in alloc; "has the member {other:?} and no member {name:?}"),
+    }
+}
+
+/// What is wrong where so many items fit the schema under `contains`.
+pub fn sentence_of_items(alloc: Global, fitting: usize, few: bool) -> Result<String, AllocError> {
+    let much = if few { "few" } else { "many" };
+    format!(in alloc; "has too {much} items that fit the schema: {fitting}")
+}
+
+/// What is wrong with a value that has a key with which this is wrong.
+pub fn sentence_of_key(alloc: Global, error: &str) -> Result<String, AllocError> {
+    format!(in alloc; "has a key that {error}")
 }
 
 /// What is wrong where a value fits so many schemas of a choice.

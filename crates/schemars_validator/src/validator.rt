@@ -8,9 +8,10 @@ ghost use Rattle.schemars_validator.specs.Texts.{IsReadBy};
 ghost use Rattle.schemars_validator.specs.Expressions.{AreExpressionsOf};
 ghost use Rattle.schemars_validator.specs.Refused.{IsRead, IsRefusal};
 
+use crate::asking::Failure;
 use crate::draft::Draft;
 use crate::expressions::{Expression, compiled, patterns_in};
-use crate::failures::{Failure, failures_of};
+use crate::failures::failures_of;
 use crate::places::{Place, schemas_in};
 use crate::reading::{Reading, read};
 use crate::refusal::Refusal;
@@ -96,8 +97,14 @@ impl<'d> Validator<'d> {
         let references = self.references_for(value)?;
         let verdict = self.judge(alloc, &reading, references, value)?;
         let failures = if verdict == Verdict::No {
-            let dialect = self.draft.dialect();
-            failures_of(alloc, dialect, self.document, &reading, references, value)?
+            failures_of(
+                alloc,
+                self.draft,
+                self.document,
+                &reading,
+                references,
+                value,
+            )?
         } else {
             Vec::new(alloc)
         };

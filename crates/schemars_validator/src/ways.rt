@@ -145,6 +145,36 @@ fn add<'a>(
     Ok(())
 }
 
+/// The schema that is a keyword's value.
+pub fn way_of<'a>(
+    alloc: Global,
+    keywords: &'a Map<String, Value>,
+    keyword: &'a str,
+) -> Result<Vec<Way<'a>>, AllocError> {
+    let mut ways = Vec::new(alloc);
+    add_whole(keywords, keyword, &mut ways)?;
+    Ok(ways)
+}
+
+/// Of the schemas by name under a keyword, those whose names are keys of the value.
+pub fn ways_beside_keys<'a>(
+    alloc: Global,
+    keywords: &'a Map<String, Value>,
+    keyword: &'a str,
+    value: &Value,
+) -> Result<Vec<Way<'a>>, AllocError> {
+    let mut ways = Vec::new(alloc);
+    if let (Some(Value::Object(schemas)), Value::Object(members)) = (keywords.get(keyword), value) {
+        for (name, schema) in schemas.iter() {
+            let name = name.as_str();
+            if members.get(name).is_some() {
+                add(&mut ways, keyword, Some(Key::Name(name)), schema)?;
+            }
+        }
+    }
+    Ok(ways)
+}
+
 /// The schemas of the list under a keyword.
 pub fn ways_listed<'a>(
     alloc: Global,

@@ -14,11 +14,20 @@ decreases-explain_each l = l.left * 8 + 4
 abbrev pub decreases-explain_parts : goal.decreases-explain_parts
 decreases-explain_parts l = l.left * 8 + 5
 
+abbrev pub decreases-explain_keys : goal.decreases-explain_keys
+decreases-explain_keys l = l.left * 8 + 5
+
+abbrev pub decreases-explain_same : goal.decreases-explain_same
+decreases-explain_same l = l.left * 8 + 5
+
 abbrev pub decreases-explain_choices : goal.decreases-explain_choices
 decreases-explain_choices l = l.left * 8 + 5
 
 abbrev pub decreases-explain_unjudged : goal.decreases-explain_unjudged
 decreases-explain_unjudged l = l.left * 8 + 5
+
+abbrev pub decreases-explain_inside : goal.decreases-explain_inside
+decreases-explain_inside l = l.left * 8 + 6
 
 abbrev pub decreases-explain_object : goal.decreases-explain_object
 decreases-explain_object l = l.left * 8 + 7

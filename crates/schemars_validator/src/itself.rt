@@ -1,0 +1,141 @@
+//! The failures of keywords that judge a value by itself, or by its keys, or by how many of its items fit.
+use crate::asking::{Asked, At, Failure, add, is_denied, is_denied_by};
+use crate::keywords::{BY_ITSELF, excluded_bound};
+use crate::probes::with_keyword;
+use crate::sentences::{sentence_about, sentence_of_items, sentence_of_missing};
+use serde_json::{Map, Value};
+use std::alloc::AllocError;
+
+/// Adds why the keywords for the value itself, for its keys and for the count of its items deny it.
+pub fn explain_itself(
+    asked: &Asked<'_>,
+    keywords: &Map<String, Value>,
+    at: &At<'_>,
+    failures: &mut Vec<Failure>,
+) -> Result<(), AllocError> {
+    for keyword in BY_ITSELF {
+        if let Some(wanted) = keywords.get(keyword) {
+            explain_keyword(asked, keywords, keyword, wanted, at, failures)?;
+        }
+    }
+    explain_required(asked, keywords, at, failures)?;
+    explain_dependent(asked, keywords, at, failures)?;
+    explain_contained(asked, keywords, at, failures)
+}
+
+// Adds that a keyword denies the value, unless the one that is read beside it does so alone.
+fn explain_keyword(
+    asked: &Asked<'_>,
+    keywords: &Map<String, Value>,
+    keyword: &'static str,
+    wanted: &Value,
+    at: &At<'_>,
+    failures: &mut Vec<Failure>,
+) -> Result<(), AllocError> {
+    let bound = excluded_bound(keyword, wanted);
+    let beside = bound.unwrap_or("nullable");
+    if !is_denied_by(asked, keywords, &[keyword, beside], at.value)?
+        || is_denied_by(asked, keywords, &[beside], at.value)?
+    {
+        return Ok(());
+    }
+    let told = match bound {
+        Some(bound) => keywords.get(bound).unwrap_or(wanted),
+        None => wanted,
+    };
+    let error = sentence_about(asked.alloc, keyword, told)?;
+    add(asked, at, keyword, error.as_str(), failures)
+}
+
+// ---- keys
+
+fn explain_required(
+    asked: &Asked<'_>,
+    keywords: &Map<String, Value>,
+    at: &At<'_>,
+    failures: &mut Vec<Failure>,
+) -> Result<(), AllocError> {
+    match keywords.get("required") {
+        Some(names) => explain_missing(asked, "required", None, names, at, failures),
+        None => Ok(()),
+    }
+}
+
+// What is required beside each key, where that is read.
+fn explain_dependent(
+    asked: &Asked<'_>,
+    keywords: &Map<String, Value>,
+    at: &At<'_>,
+    failures: &mut Vec<Failure>,
+) -> Result<(), AllocError> {
+    let keyword = "dependentRequired";
+    let (Some(Value::Object(dependent)), Value::Object(members)) = (keywords.get(keyword), at.value)
+    else {
+        return Ok(());
+    };
+    if !is_denied_by(asked, keywords, &[keyword], at.value)? {
+        return Ok(());
+    }
+    for (name, names) in dependent.iter() {
+        let name = name.as_str();
+        if members.get(name).is_some() {
+            explain_missing(asked, keyword, Some(name), names, at, failures)?;
+        }
+    }
+    Ok(())
+}
+
+// Adds each required name that the value lacks. A list of other things requires nothing.
+fn explain_missing(
+    asked: &Asked<'_>,
+    keyword: &str,
+    beside: Option<&str>,
+    names: &Value,
+    at: &At<'_>,
+    failures: &mut Vec<Failure>,
+) -> Result<(), AllocError> {
+    let (Value::Array(list), Value::Object(members)) = (names, at.value) else {
+        return Ok(());
+    };
+    let required = with_keyword(asked.alloc, "required", names)?;
+    if !is_denied(asked, &required, at.value)? {
+        return Ok(());
+    }
+    for name in list {
+        if let Value::String(name) = name {
+            let name = name.as_str();
+            if members.get(name).is_none() {
+                let error = sentence_of_missing(asked.alloc, name, beside)?;
+                add(asked, at, keyword, error.as_str(), failures)?;
+            }
+        }
+    }
+    Ok(())
+}
+
+// ---- items
+
+// How many items fit, where too few or too many do.
+fn explain_contained(
+    asked: &Asked<'_>,
+    keywords: &Map<String, Value>,
+    at: &At<'_>,
+    failures: &mut Vec<Failure>,
+) -> Result<(), AllocError> {
+    let (Some(schema), Value::Array(items)) = (keywords.get("contains"), at.value) else {
+        return Ok(());
+    };
+    let all = ["contains", "minContains", "maxContains"];
+    if !is_denied_by(asked, keywords, &all, at.value)? {
+        return Ok(());
+    }
+    let mut count: usize = 0;
+    for item in items {
+        if !is_denied(asked, schema, item)? {
+            count = count.saturating_add(1);
+        }
+    }
+    let few = is_denied_by(asked, keywords, &["contains", "minContains"], at.value)?;
+    let error = sentence_of_items(asked.alloc, count, few)?;
+    add(asked, at, "contains", error.as_str(), failures)
+}
