@@ -28,4 +28,4 @@ keyword_names =
     ∷ codes "maxContains"
     ∷ codes "minProperties" ∷ codes "maxProperties" ∷ codes "dependentRequired" ∷ codes "dependentSchemas"
     ∷ codes "propertyNames" ∷ codes "if" ∷ codes "then"
-    ∷ codes "else" ∷ []
+    ∷ codes "else" ∷ codes "multipleOf" ∷ codes "dependencies" ∷ codes "unevaluatedItems" ∷ []
