@@ -2,7 +2,7 @@
 use Rattle.std.proofs.Common.{◌≡◌, ℕ, ◌<◌, List, [], ◌∷◌, ◌++◌, map, Option, Some, None, Bool, true, false, refl, sym, ap, ◌∙◌, subst, true≢false}
 use Rattle.schemars_meaning.proofs.Words.{bytes_eq, if◌then◌else◌, ◌||◌, list_any, option_map_or, and_parts, bytes_eq-Decides, Data, string, object, Members, no_members, member, depth, Text, IsJson, IsSchema, AreNotes, verdict, Context, judge, unit_variant, Field, Flattened, Payload, Variant, no_payload, newtype_payload, tuple_payload, struct_payload, is_bare_unit, none, exactly_one, VariantMatch, has_payload, AreDistinctVariants, Ask, Template, noted, asks_of, asks_in, filled, filled_in, templates_of, member_template, payload_template, named_template, bare_units, other_items, choice_of, external_template, expanded_payload, expanded_variant}
 use Rattle.std.proofs.lemmas.Option.{same_Some}
-use Rattle.schemars_schema.specs.Acceptance.{read_data}
+use Rattle.schemars_schema.specs.Acceptance.{key, read_data}
 use Rattle.schemars_types.specs.declared.contract.Contract.{Contract}
 use Rattle.schemars_types.specs.Meaning.{is_text, has_external, has_member, must_have}
 use Rattle.schemars_documents.specs.PlainTable.{IsNoVariant}
@@ -135,7 +135,7 @@ module _ (c : Context) (on : c.dialect.reads_unevaluated ≡ true) (v : Data) wh
   abbrev offered : List Data → List Bool → List VariantMatch
   offered [] bs = []
   offered (t ∷ ts) [] = []
-  offered (t ∷ ts) (b ∷ bs) = record { fits = b; has_key = (judge c t).judges v } ∷ offered ts bs
+  offered (t ∷ ts) (b ∷ bs) = record { fits = b; has_key = λ k. (judge c t).judges v (key k) } ∷ offered ts bs
 
   all_say : (ts : List Data) (bs : List Bool) → AllFit ts bs → AllSay c ts (offered ts bs) v
   all_say [] [] h = tt

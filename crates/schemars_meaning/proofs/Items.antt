@@ -12,6 +12,7 @@ use Rattle.schemars_meaning.proofs.StructMeans.{value_means, open_judges, names_
 use Rattle.schemars_meaning.proofs.SmallMaps.{found_one}
 use Rattle.schemars_meaning.proofs.Uniting.{IsForm, form-keywords, pair, rest, join}
 use Rattle.schemars_meaning.proofs.Opened.{no_parts, map_form, opened_form, opened_part, opened_one, opened_parts, Part_form}
+use Rattle.schemars_schema.specs.Acceptance.{key}
 
 module _ (c : Context) (on : c.dialect.reads_unevaluated ≡ true) where
   -- a map whose properties and required names say what is offered of v
@@ -80,12 +81,12 @@ module _ (c : Context) (on : c.dialect.reads_unevaluated ≡ true) where
   any_append (t ∷ ts) us (o ∷ os) qs v h g = (h.0, any_append ts us os qs v h.1 g)
 
   item_says : (t : Data) (o : VariantMatch) (v : Data) → IsItem false t o v → IsSchema t × ((judge c t).fits v ≡ verdict o.fits)
-      × ((k : Text) → o.fits ≡ true → (judge c t).judges v k ≡ o.has_key k)
+      × ((k : Text) → o.fits ≡ true → (judge c t).judges v (key k) ≡ o.has_key k)
   item_says t o v i =
       let has = form-keywords (struct_keywords i.es i.ns no_parts false) i.members i.form in (
         subst IsSchema (sym i.is) tt,
         ap (λ s. (judge c s).fits v) i.is ∙ i.says i.members has,
-        λ k fits. ap (λ s. (judge c s).judges v k) i.is ∙ (open_judges c on i.es i.ns i.members has i.are v k ∙
+        λ k fits. ap (λ s. (judge c s).judges v (key k)) i.is ∙ (open_judges c on i.es i.ns i.members has i.are v k ∙
             (names_judged c on i.es k ∙ i.keys k)),
       )
 

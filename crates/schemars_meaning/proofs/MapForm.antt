@@ -1,7 +1,7 @@
 -- What an object with the keywords of a map says, with choices beside them, in each dialect that reads `unevaluatedProperties`.
 use Rattle.std.proofs.Common.{◌≡◌, Option, Some, None, Bool, true, false, option_map, refl, sym, ap, ◌∙◌, true≢false}
 use Rattle.schemars_meaning.proofs.Words.{or-false, codes, bytes_eq, if◌then◌else◌, ◌&&◌, ◌||◌, not, Data, string, object, Members, get_member, Text, Verdict, both, verdict, all_of, one_of, Context, Judge, Reading, judge, read_data, is_covered, type_says, required_says, properties_say, additional_properties_say, each_says, judged_by_list, both-yes}
-use Rattle.schemars_schema.specs.Acceptance.{Raw, all_keywords, unevaluated_properties_say, has_schema, judged_beside}
+use Rattle.schemars_schema.specs.Acceptance.{key, Raw, all_keywords, unevaluated_properties_say, has_schema, judged_beside}
 use Rattle.schemars_schema.proofs.Objects.{says, judge-object, says-agree, IsKeyword}
 use Rattle.schemars_schema.proofs.Silent.{items_none, const_none}
 
@@ -34,8 +34,8 @@ module _ (c : Context) (x : Keywords) where
   covered k = is_covered c.patterns (read x.properties) None k
 
   abbrev pub beside : Data → Text → Bool
-  beside v k = covered k || (has_schema (read x.additional)
-      || (judged_by_list (read x.all) v k || (judged_by_list (read x.one) v k || false)))
+  beside v k = (covered k || has_schema (read x.additional))
+      || (judged_by_list (read x.all) v (key k) || (judged_by_list (read x.one) v (key k) || false))
 
   abbrev pub form_fits : Data → Verdict
   form_fits v =
@@ -78,7 +78,7 @@ unfolding says all_keywords
 says-fits c x on typed v =
     ap (λ (j : Judge). j.fits v) (alone c.dialect.judges_siblings _ _)
     ∙ rw (
-      on_says c.dialect.reads_unevaluated on (judged_beside c (look_up x) (λ k. option_map (read_data c) (look_up x k)) v)
+      on_says c.dialect.reads_unevaluated on (λ k. judged_beside c (look_up x) (λ l. option_map (read_data c) (look_up x l)) v (key k))
           (option_map (read_data c) x.unevaluated) v,
       typed c.dialect.reads_nullable v,
       const_none c.dialect.reads_const v,
@@ -87,10 +87,10 @@ says-fits c x on typed v =
     ) refl
 
 pub says-judges : (c : Context) (x : Keywords) → c.dialect.reads_unevaluated ≡ true → (v : Data) (k : Text)
-    → (says c (look_up x)).judges v k ≡ beside c x v k || has_schema (read c x x.unevaluated)
+    → (says c (look_up x)).judges v (key k) ≡ beside c x v k || has_schema (read c x x.unevaluated)
 unfolding says all_keywords
 says-judges c x on v k =
-    ap (λ (j : Judge). j.judges v k) (alone c.dialect.judges_siblings _ _)
+    ap (λ (j : Judge). j.judges v (key k)) (alone c.dialect.judges_siblings _ _)
     ∙ ap (λ s. beside c x v k || s) (on_stands c.dialect.reads_unevaluated on (has_schema (read c x x.unevaluated)))
 
 -- an object with these look-ups at keywords

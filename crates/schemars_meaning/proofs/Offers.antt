@@ -2,7 +2,7 @@
 use Rattle.std.proofs.Common.{◌≡◌, List, [], ◌∷◌, map, Option, Some, None, Bool, true, false, refl, sym, ap, ◌∙◌, subst}
 use Rattle.schemars_meaning.proofs.Words.{or-false, bytes_eq-Decides, codes, bytes_eq, if◌then◌else◌, ◌&&◌, ◌||◌, Data, array, no_members, member, get_member, items_of, Text, IsSchema, verdict, one_of, Context, Judge, judge, read_items, judged_by_list, each_says, both-yes, schema-judge, get_member-later, exactly_one, VariantMatch, claimed_by}
 use Rattle.schemars_schema.specs.Verdict.{is_yes}
-use Rattle.schemars_schema.specs.Acceptance.{read_data, judged_by, judged_by_some}
+use Rattle.schemars_schema.specs.Acceptance.{key, read_data, judged_by, judged_by_some}
 use Rattle.schemars_flatten.specs.Flatten.{alone}
 use Rattle.schemars_meaning.proofs.Verdicts.{one_verdict}
 use Rattle.schemars_meaning.proofs.MapForm.{Keywords, look_up, HasKeywords, object-says, says-fits, says-judges, no_type}
@@ -16,7 +16,7 @@ abbrev lone : Data → Keywords
 lone d = record { type = None; properties = None; required = None; additional = None; all = None; one = Some d; unevaluated = None }
 
 lone-has : (d : Data) → HasKeywords (lone d) (member (codes "oneOf") d no_members)
-lone-has d k key = go (bytes_eq k (codes "oneOf")) refl
+lone-has d k is = go (bytes_eq k (codes "oneOf")) refl
   where
     at_one : get_member (codes "oneOf") (member (codes "oneOf") d no_members) ≡ look_up (lone d) (codes "oneOf")
     at_one = refl
@@ -44,7 +44,7 @@ module _ (c : Context) where
   AllSay [] (o ∷ os) v = ⊥
   AllSay (t ∷ ts) [] v = ⊥
   AllSay (t ∷ ts) (o ∷ os) v = IsSchema t × ((judge c t).fits v ≡ verdict o.fits)
-      × ((k : Text) → o.fits ≡ true → (judge c t).judges v k ≡ o.has_key k) × AllSay ts os v
+      × ((k : Text) → o.fits ≡ true → (judge c t).judges v (key k) ≡ o.has_key k) × AllSay ts os v
 
   read_all : (ts : List Data) (os : List VariantMatch) (v : Data) → AllSay ts os v → read_items c (items_of ts) ≡ Some (map (judge c) ts)
   unfolding read_data
@@ -66,22 +66,22 @@ module _ (c : Context) where
   one_fits ts os v h = rw (read_all ts os v h) (ap one_of (each_fits ts os v h) ∙ one_verdict (map (λ (o : VariantMatch). o.fits) os))
 
   judged_here : (t : Data) (o : VariantMatch) (v : Data) (k : Text) → (judge c t).fits v ≡ verdict o.fits
-      → (o.fits ≡ true → (judge c t).judges v k ≡ o.has_key k) → judged_by (judge c t) v k ≡ o.fits && o.has_key k
-  judged_here t o v k fit judges = ap (λ x. is_yes x && (judge c t).judges v k) fit ∙ go o.fits judges
+      → (o.fits ≡ true → (judge c t).judges v (key k) ≡ o.has_key k) → judged_by (judge c t) v (key k) ≡ o.fits && o.has_key k
+  judged_here t o v k fit judges = ap (λ x. is_yes x && (judge c t).judges v (key k)) fit ∙ go o.fits judges
     where
-      go : (b : Bool) → (b ≡ true → (judge c t).judges v k ≡ o.has_key k) → is_yes (verdict b) && (judge c t).judges v k ≡ b && o.has_key k
+      go : (b : Bool) → (b ≡ true → (judge c t).judges v (key k) ≡ o.has_key k) → is_yes (verdict b) && (judge c t).judges v (key k) ≡ b && o.has_key k
       go true h = h refl
       go false h = refl
 
   judged_some : (ts : List Data) (os : List VariantMatch) (v : Data) (k : Text) → AllSay ts os v
-      → judged_by_some (map (judge c) ts) v k ≡ claimed_by os k
+      → judged_by_some (map (judge c) ts) v (key k) ≡ claimed_by os k
   judged_some [] [] v k h = refl
   judged_some [] (o ∷ os) v k h = absurd h
   judged_some (t ∷ ts) [] v k h = absurd h
   judged_some (t ∷ ts) (o ∷ os) v k h = λ i. judged_here t o v k h.1 (h.2 k) i || judged_some ts os v k h.3 i
 
   pub judged_one : (ts : List Data) (os : List VariantMatch) (v : Data) (k : Text) → AllSay ts os v
-      → judged_by_list (Some (read_data c (array (items_of ts)))) v k ≡ claimed_by os k
+      → judged_by_list (Some (read_data c (array (items_of ts)))) v (key k) ≡ claimed_by os k
   unfolding read_data
   judged_one ts os v k h = rw (read_all ts os v h) (judged_some ts os v k h)
 
@@ -96,8 +96,8 @@ module _ (c : Context) where
         ∙ (says-fits c (lone d) on no_type v ∙ (both-yes _ ∙ one_fits ts os v h))
 
     pub object_judges : (ts : List Data) (os : List VariantMatch) (v : Data) (k : Text) → AllSay ts os v
-        → (judge c (one_object ts)).judges v k ≡ claimed_by os k
+        → (judge c (one_object ts)).judges v (key k) ≡ claimed_by os k
     object_judges ts os v k h =
         let d = array (items_of ts) in
-        ap (λ (j : Judge). j.judges v k) (object-says c (lone d) (member (codes "oneOf") d no_members) (lone-has d))
+        ap (λ (j : Judge). j.judges v (key k)) (object-says c (lone d) (member (codes "oneOf") d no_members) (lone-has d))
         ∙ (says-judges c (lone d) on v k ∙ (or-false _ ∙ (or-false _ ∙ judged_one ts os v k h)))

@@ -4,7 +4,7 @@ use Rattle.std.proofs.Common.{◌≡◌, List, [], ◌∷◌, ◌++◌, map, Opt
 use Rattle.schemars_meaning.proofs.Words.{and-true, or-false, codes, if◌then◌else◌, is_some, ◌&&◌, ◌||◌, not, Data, boolean, string, array, object, Members, no_members, member, items_of, Text, put_all, Verdict, Yes, No, both, verdict, all_of, one_of, Context, Judge, judge, read_items, judged_by_list, each_says, each_member, where_some, have_all, schema_named, is_covered, required_says, properties_say, additional_properties_say, both-yes, both-verdict, each_agree, exactly_one, VariantMatch, every_part, claimed_by, is_key_of_match, excludes_key, Keyword}
 use Rattle.std.proofs.Math.Bool.{and-false, or-true, and_assoc, or_assoc, not-not}
 use Rattle.schemars_schema.specs.Verdict.{Open, is_yes}
-use Rattle.schemars_schema.specs.Acceptance.{read_data, judged_by_some, unevaluated_properties_say}
+use Rattle.schemars_schema.specs.Acceptance.{key, read_data, judged_by_some, unevaluated_properties_say}
 use Rattle.schemars_schema.proofs.Objects.{says}
 use Rattle.schemars_builders.proofs.NullKeywords.{texts_in-text_items}
 use Rattle.schemars_meaning.proofs.MapKeywords.{properties_there, required_there, closed_there}
@@ -132,23 +132,23 @@ module _ (c : Context) (on : c.dialect.reads_unevaluated ≡ true) where
 
   -- where each of them fits, their members are judged
   objects_judge : (ps : List Part) (v : Data) (k : Text) → PartsSay ps v → every_part (all_in ps) ≡ true
-      → judged_by_some (map (judge c) (objects ps)) v k ≡ is_key_of_match (all_in ps) k
+      → judged_by_some (map (judge c) (objects ps)) v (key k) ≡ is_key_of_match (all_in ps) k
   objects_judge [] v k h fit = refl
   objects_judge (p ∷ ps) v k h fit =
       go (exactly_one (map (λ (o : VariantMatch). o.fits) p.choices)) (object_fits c on p.items p.choices v h.0) fit
       (objects_judge ps v k h.1)
     where
       go : (b : Bool) → (judge c (one_object p.items)).fits v ≡ verdict b → b && every_part (all_in ps) ≡ true
-          → (every_part (all_in ps) ≡ true → judged_by_some (map (judge c) (objects ps)) v k ≡ is_key_of_match (all_in ps) k)
-          → (is_yes ((judge c (one_object p.items)).fits v) && (judge c (one_object p.items)).judges v k)
-          || judged_by_some (map (judge c) (objects ps)) v k ≡ claimed_by p.choices k || is_key_of_match (all_in ps) k
+          → (every_part (all_in ps) ≡ true → judged_by_some (map (judge c) (objects ps)) v (key k) ≡ is_key_of_match (all_in ps) k)
+          → (is_yes ((judge c (one_object p.items)).fits v) && (judge c (one_object p.items)).judges v (key k))
+          || judged_by_some (map (judge c) (objects ps)) v (key k) ≡ claimed_by p.choices k || is_key_of_match (all_in ps) k
       go false is all later = absurd (true≢false (sym all))
       go true is all later =
-          ap (λ x. (is_yes x && (judge c (one_object p.items)).judges v k) || judged_by_some (map (judge c) (objects ps)) v k) is
+          ap (λ x. (is_yes x && (judge c (one_object p.items)).judges v (key k)) || judged_by_some (map (judge c) (objects ps)) v (key k)) is
           ∙ (λ i. object_judges c on p.items p.choices v k h.0 i || later all i)
 
   all_judge : (ps : List Part) (v : Data) (k : Text) → PartsSay ps v → every_part (all_in ps) ≡ true
-      → judged_by_list (option_map (read_data c) (all_there ps)) v k ≡ is_key_of_match (all_in ps) k
+      → judged_by_list (option_map (read_data c) (all_there ps)) v (key k) ≡ is_key_of_match (all_in ps) k
   unfolding all_there read_data
   all_judge [] v k h fit = refl
   all_judge (p ∷ ps) v k h fit = rw (objects_read ps) (objects_judge (p ∷ ps) v k h fit)
@@ -161,7 +161,7 @@ module _ (c : Context) (on : c.dialect.reads_unevaluated ≡ true) where
   one_fit (Some p) v h = one_fits c p.items p.choices v h ∙ ap verdict (sym (and-true _))
 
   one_judge : (o : Option Part) (v : Data) (k : Text) → OneSays o v
-      → judged_by_list (option_map (read_data c) (one_there o)) v k ≡ is_key_of_match (one_in o) k
+      → judged_by_list (option_map (read_data c) (one_there o)) v (key k) ≡ is_key_of_match (one_in o) k
   unfolding one_there
   one_judge None v k h = refl
   one_judge (Some p) v k h = judged_one c p.items p.choices v k h ∙ sym (or-false _)
@@ -231,14 +231,14 @@ module _ (c : Context) (on : c.dialect.reads_unevaluated ≡ true) where
 
     -- beside choices that fit
     unevaluated_rest : (x : Keywords) → x.properties ≡ properties_there es → x.additional ≡ None
-        → (f : Text → Bool) → ((k : Text) → judged_by_list (option_map (read_data c) x.all) (object ms) k
-        || (judged_by_list (option_map (read_data c) x.one) (object ms) k || false) ≡ not (f k))
+        → (f : Text → Bool) → ((k : Text) → judged_by_list (option_map (read_data c) x.all) (object ms) (key k)
+        || (judged_by_list (option_map (read_data c) x.one) (object ms) (key k) || false) ≡ not (f k))
         → unevaluated_properties_say true (beside c x (object ms)) (option_map (read_data c) (Some (boolean false))) (object ms) ≡ rest f
     unfolding read_data
     unevaluated_rest x properties additional f h = each_agree _ (rest_says f ss) (λ k w. ap (λ b. if b then Yes else No) (at k)) ms
       where
         at : (k : Text) → beside c x (object ms) k ≡ is_some (schema_named k ss) || not (f k)
-        at k = rw (properties, additional) (λ i. covered_by es are k i || h k i)
+        at k = rw (properties, additional) (λ i. (or-false _ ∙ covered_by es are k) i || h k i)
 
   module _ (es : List Keyword) (ns : List Text) (closed : Bool) (are : AreEntries es) where
     abbrev x : Parts → Keywords
@@ -282,8 +282,8 @@ module _ (c : Context) (on : c.dialect.reads_unevaluated ≡ true) where
       test_by b = each_test (λ k w. is_some (schema_named k (judges_of es)) || not (excludes_key b (choices_in ps) k)) ms
 
       claimed : every_part (all_in ps.all) && every_part (one_in ps.one) ≡ true → (k : Text)
-          → judged_by_list (option_map (read_data c) (all_there ps.all)) (object ms) k
-          || (judged_by_list (option_map (read_data c) (one_there ps.one)) (object ms) k || false)
+          → judged_by_list (option_map (read_data c) (all_there ps.all)) (object ms) (key k)
+          || (judged_by_list (option_map (read_data c) (one_there ps.one)) (object ms) (key k) || false)
           ≡ not (not (is_key_of_match (choices_in ps) k) && true)
       claimed fit k =
           (λ i. all_judge ps.all (object ms) k h.0 (first (every_part (all_in ps.all)) (every_part (one_in ps.one)) fit) i

@@ -2,6 +2,7 @@
 use Rattle.std.proofs.Common.{◌∷◌, ◌≡◌, ℕ, ◌<◌, ◌≤◌, List, [], Option, Some, None, Bool, true, false, option_map, refl, sym, ap, ◌∙◌, arith, subst, map}
 use Rattle.schemars_meaning.proofs.Words.{or-false, if◌then◌else◌, is_some, ◌&&◌, ◌||◌, not, option_map_or, Data, null, boolean, number, string, array, object, Members, no_members, member, depth, get_member, Text, IsJson, IsSchema, put_all, Verdict, Yes, No, both, verdict, all_of, one_of, Context, Judge, judge, read_data, each_member, each_says, where_some, have_all, schema_named, both-yes, both-verdict, silent, Field, field_named, every_member, every_part, excludes_key, has_fields, Keyword, annotated, bytes_eq}
 use Rattle.serde_json.specs.Data.{members_depth}
+use Rattle.schemars_schema.specs.Acceptance.{key}
 use Rattle.schemars_schema.specs.Json.{AreJsonMembers}
 use Rattle.schemars_schema.proofs.Verdicts.{both-swap, both-assoc, both-middle}
 use Rattle.schemars_types.specs.declared.contract.Contract.{Contract}
@@ -134,11 +135,11 @@ module _ (c : Context) (on : c.dialect.reads_unevaluated ≡ true) where
 
   pub open_judges : (es : List Keyword) (ns : List Text) (s : Members) → HasKeywords (struct_keywords es ns no_parts false) s
       → AreEntries es
-      → (v : Data) (k : Text) → (judge c (object s)).judges v k ≡ is_some (schema_named k (judges_of c on es))
+      → (v : Data) (k : Text) → (judge c (object s)).judges v (key k) ≡ is_some (schema_named k (judges_of c on es))
   unfolding all_there one_there closed_there
   open_judges es ns s has are v k =
-      ap (λ (j : Judge). j.judges v k) (object-says c (struct_keywords es ns no_parts false) s has)
-      ∙ (says-judges c (struct_keywords es ns no_parts false) on v k ∙ (or-false _ ∙ (or-false _ ∙ covered_by c on es are k)))
+      ap (λ (j : Judge). j.judges v (key k)) (object-says c (struct_keywords es ns no_parts false) s has)
+      ∙ (says-judges c (struct_keywords es ns no_parts false) on v k ∙ (or-false _ ∙ (or-false _ ∙ (or-false _ ∙ covered_by c on es are k))))
 
   pub names_judged : (es : List Keyword) (k : Text)
       → is_some (schema_named k (judges_of c on es)) ≡ is_some (get_member k (put_all es no_members))
