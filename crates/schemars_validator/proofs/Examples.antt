@@ -59,22 +59,32 @@ places_of_conditions : map (λ s. s.0) (schemas_at [] conditions)
 unfolding schemas_at schemas_inside schemas_under schemas_listed schemas_named chars encode digits
 places_of_conditions = refl
 
+-- {"dependencies": {"a": [], "b": {}}, "unevaluatedItems": {}}
+abbrev later_keywords : Data
+later_keywords = object (member (codes "dependencies") (object (member (codes "a") (array no_items) (member (codes "b") nothing no_members)))
+    (member (codes "unevaluatedItems") nothing no_members))
+
+places_of_later_keywords : map (λ s. s.0) (schemas_at [] later_keywords)
+    ≡ [] ∷ codes "/dependencies/b" ∷ codes "/unevaluatedItems" ∷ []
+unfolding schemas_at schemas_inside schemas_under schemas_listed schemas_named chars encode digits
+places_of_later_keywords = refl
+
 -- ---- keywords that are not read
 
--- {"$id": "a", "if": {}, "dependencies": {}, "multipleOf": true}
+-- {"$id": "a", "if": {}, "dependencies": {}, "$dynamicRef": true}
 abbrev dependent : Members
 dependent = member (codes "$id") (string (codes "a")) (member (codes "if") nothing (member (codes "dependencies") nothing
-    (member (codes "multipleOf") (boolean true) no_members)))
+    (member (codes "$dynamicRef") (boolean true) no_members)))
 
 unread : unread_among Draft2020_12 document (codes "/not") dependent
     ≡ (codes "/not/$id", codes "$id") ∷ (codes "/not/dependencies", codes "dependencies")
-    ∷ (codes "/not/multipleOf", codes "multipleOf") ∷ []
+    ∷ (codes "/not/$dynamicRef", codes "$dynamicRef") ∷ []
 unfolding chars encode
 unread = refl
 
-unread_whole : unread_among OpenApi3 document [] dependent ≡ (codes "/multipleOf", codes "multipleOf") ∷ []
+unread_whole : (unread_among OpenApi3 document [] dependent ≡ []) × (unread_among Draft07 document [] dependent ≡ [])
 unfolding chars encode
-unread_whole = refl
+unread_whole = (refl, refl)
 
 -- {"$schema": "a"}
 other_dialect : unread_among Draft07 document [] (member (codes "$schema") (string (codes "a")) no_members)

@@ -36,13 +36,14 @@ item_place place n = place ++ 47 ∷ decimal n
 -- the keywords with a schema, with a list of schemas, and with schemas by name
 abbrev pub with_schema : List Text
 with_schema = codes "not" ∷ codes "if" ∷ codes "then" ∷ codes "else" ∷ codes "items" ∷ codes "additionalItems" ∷ codes "contains"
-    ∷ codes "additionalProperties" ∷ codes "propertyNames" ∷ codes "unevaluatedProperties" ∷ []
+    ∷ codes "additionalProperties" ∷ codes "propertyNames" ∷ codes "unevaluatedProperties" ∷ codes "unevaluatedItems" ∷ []
 
 abbrev pub with_schemas : List Text
 with_schemas = codes "allOf" ∷ codes "anyOf" ∷ codes "oneOf" ∷ codes "prefixItems" ∷ codes "items" ∷ []
 
 abbrev pub with_names : List Text
-with_names = codes "properties" ∷ codes "patternProperties" ∷ codes "dependentSchemas" ∷ codes "$defs" ∷ codes "definitions" ∷ []
+with_names = codes "properties" ∷ codes "patternProperties" ∷ codes "dependentSchemas" ∷ codes "dependencies" ∷ codes "$defs"
+    ∷ codes "definitions" ∷ []
 
 -- a schema that is at a place, and those inside it: the place and the members of each
 unfoldable mutual

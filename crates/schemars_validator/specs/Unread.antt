@@ -11,27 +11,12 @@ use Rattle.schemars_validator.specs.Standing.{StandsAt, member_place}
 
 -- ---- keywords that judge values
 
-abbrev pub in_every_dialect : List Text
-in_every_dialect = codes "multipleOf" ∷ []
-
-abbrev pub in_drafts : List Text
-in_drafts = codes "dependencies" ∷ []
-
-abbrev pub from_2019_09 : List Text
-from_2019_09 = codes "unevaluatedItems" ∷ []
-
-abbrev pub is_unread_from_2019_09 : Text → Bool
-is_unread_from_2019_09 k = is_listed k in_drafts || is_listed k from_2019_09
-
-abbrev pub is_unread_in : named.Draft → Text → Bool
-is_unread_in named.TheVariants.Draft07 k = is_listed k in_drafts
-is_unread_in named.TheVariants.Draft2019_09 k = is_unread_from_2019_09 k || bytes_eq k (codes "$recursiveRef")
-is_unread_in named.TheVariants.Draft2020_12 k = is_unread_from_2019_09 k || bytes_eq k (codes "$dynamicRef")
-is_unread_in named.TheVariants.OpenApi3 k = false
-
 -- a keyword of the dialect judges values and is not read
 abbrev pub is_unread : named.Draft → Text → Bool
-is_unread draft k = is_listed k in_every_dialect || is_unread_in draft k
+is_unread named.TheVariants.Draft07 k = false
+is_unread named.TheVariants.Draft2019_09 k = is_listed k (codes "dependencies" ∷ codes "$recursiveRef" ∷ [])
+is_unread named.TheVariants.Draft2020_12 k = is_listed k (codes "dependencies" ∷ codes "$dynamicRef" ∷ [])
+is_unread named.TheVariants.OpenApi3 k = false
 
 -- ---- keywords that change how others are read
 

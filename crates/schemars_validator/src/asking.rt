@@ -6,7 +6,7 @@ use crate::draft::Draft;
 use crate::places::member_place;
 use crate::probes::with_keywords;
 use crate::reading::Reading;
-use schemars_validate::{Verdict, validate};
+use schemars_validate::{Verdict, judged, validate};
 use serde_json::{Map, Value};
 use std::alloc::{AllocError, Global};
 
@@ -75,6 +75,23 @@ pub fn is_denied(asked: &Asked<'_>, schema: &Value, value: &Value) -> Result<boo
         value,
     )?;
     Ok(says == Verdict::No)
+}
+
+/// A mark for each member or item of a value: whether the schema judges it.
+pub fn judged_by(
+    asked: &Asked<'_>,
+    schema: &Value,
+    value: &Value,
+) -> Result<Vec<bool>, AllocError> {
+    judged(
+        asked.alloc,
+        asked.draft.dialect(),
+        asked.document,
+        asked.reading,
+        asked.references,
+        schema,
+        value,
+    )
 }
 
 /// Whether some of the keywords deny a value without the others.

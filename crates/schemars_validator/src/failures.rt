@@ -2,11 +2,11 @@
 ghost use Rattle.std.specs.Prelude.{IfOk, IsTrue};
 ghost use Rattle.schemars_validator.specs.Asked.{has_some};
 
-use crate::asking::{Asked, At, Failure, add, is_denied, is_denied_by};
+use crate::asking::{Asked, At, Failure, add, is_denied, is_denied_by, judged_by};
 use crate::draft::Draft;
 use crate::itself::explain_itself;
 use crate::places::member_place;
-use crate::probes::{UNEVALUATED, with_others_judged, without};
+use crate::probes::without;
 use crate::reading::Reading;
 use crate::sentences::{Choice, sentence_of_choice, sentence_of_key};
 use crate::ways::{Way, parts_of, way_of, ways_beside_keys, ways_listed, ways_to};
@@ -153,8 +153,11 @@ fn explain_same(
     explain_ways(asked, left, &all, at, failures)?;
     let branch = way_of_branch(asked, keywords, at.value)?;
     explain_ways(asked, left, &branch, at, failures)?;
-    let beside = ways_of_dependents(asked, keywords, at.value)?;
-    explain_ways(asked, left, &beside, at, failures)
+    for keyword in ["dependentSchemas", "dependencies"] {
+        let beside = ways_of_dependents(asked, keywords, keyword, at.value)?;
+        explain_ways(asked, left, &beside, at, failures)?;
+    }
+    Ok(())
 }
 
 // The schema under `then` or `else`, where the condition denies the value.
@@ -177,13 +180,13 @@ fn way_of_branch<'a>(
     way_of(asked.alloc, keywords, branch)
 }
 
-// The schemas under `dependentSchemas` beside keys of the value, where these deny it.
+// The schemas under a keyword beside keys of the value, where the keyword denies it.
 fn ways_of_dependents<'a>(
     asked: &Asked<'_>,
     keywords: &'a Map<String, Value>,
+    keyword: &'a str,
     value: &Value,
 ) -> Result<Vec<Way<'a>>, AllocError> {
-    let keyword = "dependentSchemas";
     if !is_denied_by(asked, keywords, &[keyword], value)? {
         return Ok(Vec::new(asked.alloc));
     }
@@ -276,7 +279,15 @@ fn of_key(alloc: Global, failure: Failure) -> Result<Failure, AllocError> {
     })
 }
 
-// The members that no keyword but `unevaluatedProperties` judges, and that it denies.
+// The keyword for members or items that no other one judges.
+fn unevaluated_keyword(value: &Value) -> &'static str {
+    match value {
+        Value::Array(_) => "unevaluatedItems",
+        _ => "unevaluatedProperties",
+    }
+}
+
+// The members or items that no other keyword judges, and that the one for these denies.
 #[cycle(explain)]
 fn explain_unjudged(
     asked: &Asked<'_>,
@@ -285,25 +296,28 @@ fn explain_unjudged(
     at: &At<'_>,
     failures: &mut Vec<Failure>,
 ) -> Result<(), AllocError> {
-    let (Some(schema), Value::Object(members)) = (keywords.get(UNEVALUATED), at.value) else {
+    let keyword = unevaluated_keyword(at.value);
+    let Some(schema) = keywords.get(keyword) else {
         return Ok(());
     };
-    let rest = without(asked.alloc, keywords, UNEVALUATED)?;
+    let rest = without(asked.alloc, keywords, keyword)?;
     if is_denied(asked, &rest, at.value)? {
         return Ok(());
     }
-    for (name, member) in members.iter() {
-        let probe = with_others_judged(asked.alloc, &rest, schema, members, name.as_str())?;
-        if is_denied(asked, &probe, at.value)? {
-            let instance = member_place(asked.alloc, at.instance, name.as_str())?;
-            let place = member_place(asked.alloc, at.keywords, UNEVALUATED)?;
-            let inner = At {
-                instance: instance.as_str(),
-                keywords: place.as_str(),
-                value: member,
-            };
-            explain(asked, left, schema, &inner, failures)?;
+    let judged = judged_by(asked, &rest, at.value)?;
+    let mut marks = judged.iter();
+    let place = member_place(asked.alloc, at.keywords, keyword)?;
+    for (key, part) in parts_of(asked.alloc, at.value)? {
+        if let Some(true) = marks.next() {
+            continue;
         }
+        let instance = key.place_in(asked.alloc, at.instance)?;
+        let inner = At {
+            instance: instance.as_str(),
+            keywords: place.as_str(),
+            value: part,
+        };
+        explain(asked, left, schema, &inner, failures)?;
     }
     Ok(())
 }

@@ -19,7 +19,8 @@ pub fn explain_itself(
         }
     }
     explain_required(asked, keywords, at, failures)?;
-    explain_dependent(asked, keywords, at, failures)?;
+    explain_dependent(asked, keywords, "dependentRequired", at, failures)?;
+    explain_dependent(asked, keywords, "dependencies", at, failures)?;
     explain_contained(asked, keywords, at, failures)
 }
 
@@ -61,14 +62,14 @@ fn explain_required(
     }
 }
 
-// What is required beside each key, where that is read.
+// What a keyword requires beside each key, where it is read.
 fn explain_dependent(
     asked: &Asked<'_>,
     keywords: &Map<String, Value>,
+    keyword: &str,
     at: &At<'_>,
     failures: &mut Vec<Failure>,
 ) -> Result<(), AllocError> {
-    let keyword = "dependentRequired";
     let (Some(Value::Object(dependent)), Value::Object(members)) = (keywords.get(keyword), at.value)
     else {
         return Ok(());

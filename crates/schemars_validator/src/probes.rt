@@ -1,4 +1,4 @@
-//! Schemas by which a document is asked about one keyword, or one member.
+//! Schemas by which a document is asked about some keywords.
 use serde_json::{Map, Value};
 use std::alloc::{AllocError, Global};
 
@@ -38,33 +38,6 @@ pub fn without(
     }
     Ok(Value::Object(others))
 }
-
-/// A schema that denies a value of these members, which `rest` accepts, if and only if `rest` leaves the
-/// member of the name to `unevaluatedProperties` and `unevaluated` denies it: no other one is left.
-pub fn with_others_judged(
-    alloc: Global,
-    rest: &Value,
-    unevaluated: &Value,
-    members: &Map<String, Value>,
-    name: &str,
-) -> Result<Value, AllocError> {
-    let mut others = Map::new(alloc);
-    for (other, _) in members.iter() {
-        if other.as_str() != name {
-            put(alloc, &mut others, other.as_str(), Value::Bool(true))?;
-        }
-    }
-    let mut all = Vec::new(alloc);
-    all.push(rest.clone()?)?;
-    let mut probe = Map::new(alloc);
-    put(alloc, &mut probe, "allOf", Value::Array(all))?;
-    put(alloc, &mut probe, "properties", Value::Object(others))?;
-    put(alloc, &mut probe, UNEVALUATED, unevaluated.clone()?)?;
-    Ok(Value::Object(probe))
-}
-
-/// The keyword for members that no other one judges.
-pub const UNEVALUATED: &str = "unevaluatedProperties";
 
 fn put(
     alloc: Global,

@@ -41,6 +41,7 @@ pub fn sentence_about(alloc: Global, keyword: &str, wanted: &Value) -> Result<St
         "maximum" => format!(in alloc; "is greater than {wanted}"),
         "exclusiveMinimum" => format!(in alloc; "is not greater than {wanted}"),
         "exclusiveMaximum" => format!(in alloc; "is not less than {wanted}"),
+        "multipleOf" => format!(in alloc; "is no multiple of {wanted}"),
         "minLength" => format!(in alloc; "has fewer than {wanted} characters"),
         "maxLength" => format!(in alloc; "has more than {wanted} characters"),
         "pattern" => format!(in alloc; "does not match {wanted}"),

@@ -1,6 +1,7 @@
 //! The parts of a value, and the schemas under keywords that judge them.
 use crate::places::{item_place, member_place};
 use crate::reading::Reading;
+use schemars_schema::Schema;
 use schemars_validate::Patterns;
 use serde_json::{Map, Value};
 use std::alloc::{AllocError, Global};
@@ -156,7 +157,7 @@ pub fn way_of<'a>(
     Ok(ways)
 }
 
-/// Of the schemas by name under a keyword, those whose names are keys of the value.
+/// Of the members under a keyword, the schemas whose names are keys of the value.
 pub fn ways_beside_keys<'a>(
     alloc: Global,
     keywords: &'a Map<String, Value>,
@@ -167,7 +168,7 @@ pub fn ways_beside_keys<'a>(
     if let (Some(Value::Object(schemas)), Value::Object(members)) = (keywords.get(keyword), value) {
         for (name, schema) in schemas.iter() {
             let name = name.as_str();
-            if members.get(name).is_some() {
+            if members.get(name).is_some() && Schema::is_schema(schema) {
                 add(&mut ways, keyword, Some(Key::Name(name)), schema)?;
             }
         }
