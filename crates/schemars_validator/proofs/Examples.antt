@@ -1,10 +1,11 @@
 -- The definitions at examples, computed.
-use Rattle.std.proofs.Common.{◌≡◌, [], ◌∷◌, true, refl, map}
+use Rattle.std.proofs.Common.{◌≡◌, negsuc, [], ◌∷◌, true, false, refl, map}
 use Rattle.std.specs.Prelude.{codes}
 use Rattle.std.specs.Str.{chars}
+use Rattle.std.specs.Float.Ieee.{fin, le, lt, eq}
 use Rattle.std.specs.Fmt.{digits}
 use lib.Utf8.{encode}
-use Rattle.serde_json.specs.Data.{Data, boolean, string, array, object, Items, no_items, item, Members, no_members, member}
+use Rattle.serde_json.specs.Data.{Data, unsigned, float, boolean, number, string, array, object, Items, no_items, item, Members, no_members, member}
 use Rattle.schemars_schema.specs.Json.{Text}
 use Rattle.schemars_validator.specs.declared.draft.Draft.TheVariants.{Draft07, Draft2020_12, OpenApi3}
 use Rattle.schemars_validator.specs.Translation.{expression_of}
@@ -85,6 +86,13 @@ unread = refl
 unread_whole : (unread_among OpenApi3 document [] dependent ≡ []) × (unread_among Draft07 document [] dependent ≡ [])
 unfolding chars encode
 unread_whole = (refl, refl)
+
+-- {"multipleOf": 0.5}, and 2
+divided : (unread_among Draft07 document [] (member (codes "multipleOf") (number (float (fin false 1 (negsuc 0)))) no_members)
+    ≡ (codes "/multipleOf", codes "multipleOf") ∷ [])
+    × (unread_among Draft07 document [] (member (codes "multipleOf") (number (unsigned 2)) no_members) ≡ [])
+unfolding chars encode le lt eq
+divided = (refl, refl)
 
 -- {"$schema": "a"}
 other_dialect : unread_among Draft07 document [] (member (codes "$schema") (string (codes "a")) no_members)

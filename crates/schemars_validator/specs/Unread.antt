@@ -1,10 +1,11 @@
 -- What stands in a document and is not read.
 use Rattle.std.specs.Prelude.{◌≡◌, ◌&&◌, ◌||◌, ◌==◌, ℕ, Bool, true, false, not, is_some, length, List, [], ◌∷◌, ◌++◌, Option, Some, None, if◌then◌else◌, codes, map, bytes_eq, string_bytes, Contains}
-use Rattle.serde_json.specs.Data.{Data, Members, no_members, member}
-use Rattle.serde_json.specs.Find.{as_str}
+use Rattle.serde_json.specs.Data.{Data, Num, unsigned, Members, no_members, member}
+use Rattle.serde_json.specs.Find.{as_str, as_number}
 use Rattle.schemars_text.specs.OrderedText.{is_listed}
 use Rattle.schemars_schema.specs.Json.{Text}
 use Rattle.schemars_schema.specs.Lookup.{resolved}
+use Rattle.schemars_schema.specs.Numbers.{number_le, size_in_64_bits}
 use Rattle.schemars_validator.specs.declared.draft.Draft as named
 use Rattle.schemars_validator.specs.declared.refusal.Unread.{Unread}
 use Rattle.schemars_validator.specs.Standing.{StandsAt, member_place}
@@ -17,6 +18,13 @@ is_unread named.TheVariants.Draft07 k = false
 is_unread named.TheVariants.Draft2019_09 k = is_listed k (codes "dependencies" ∷ codes "$recursiveRef" ∷ [])
 is_unread named.TheVariants.Draft2020_12 k = is_listed k (codes "dependencies" ∷ codes "$dynamicRef" ∷ [])
 is_unread named.TheVariants.OpenApi3 k = false
+
+-- a divisor above 0 that is no whole number of 64 bits, which leaves other numbers open
+abbrev pub is_open_divisor : Num → Bool
+is_open_divisor m = not (number_le m (unsigned 0) || is_some (size_in_64_bits m))
+
+abbrev pub leaves_open : Text → Data → Bool
+leaves_open k d = bytes_eq k (codes "multipleOf") && elim (as_number d) [ None ↦ false | Some m ↦ is_open_divisor m ]
 
 -- ---- keywords that change how others are read
 
@@ -52,7 +60,7 @@ leads_nowhere document k d = bytes_eq k (codes "$ref") && is_lost document (as_s
 -- a keyword of a schema at a place is not read
 abbrev pub is_unread_at : named.Draft → Data → Text → Text → Data → Bool
 is_unread_at draft document place k d =
-    (is_unread draft k || is_inner_id place k) || (is_other_dialect draft k d || leads_nowhere document k d)
+    ((is_unread draft k || leaves_open k d) || is_inner_id place k) || (is_other_dialect draft k d || leads_nowhere document k d)
 
 abbrev pub unread_keyword : named.Draft → Data → Text → Text → Data → List (Text × Text)
 unread_keyword draft document place k d =

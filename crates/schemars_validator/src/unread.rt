@@ -1,19 +1,19 @@
 //! What a document asks for and is not read.
 ghost use Rattle.std.specs.Prelude.{◌≡◌, [], ◌∷◌, IfOk, OnOk, option_map, string_bytes};
-ghost use Rattle.serde_json.specs.View.{view, members_view};
+ghost use Rattle.serde_json.specs.View.{view, members_view, number_view};
 ghost use Rattle.schemars_validator.specs.Standing.{standing};
-ghost use Rattle.schemars_validator.specs.Unread.{is_inner_id, is_other_dialect, is_own, is_told, is_unread_at, leads_nowhere, told, unread_among, unread_keyword, unread_of, with_new};
+ghost use Rattle.schemars_validator.specs.Unread.{is_inner_id, is_open_divisor, is_other_dialect, is_own, is_told, is_unread_at, leads_nowhere, leaves_open, told, unread_among, unread_keyword, unread_of, with_new};
 
 use crate::draft::Draft;
 use crate::keywords::is_unread;
 use crate::places::{Place, member_place};
 use crate::refusal::Unread;
-use schemars_validate::resolved;
-use serde_json::Value;
+use schemars_validate::{numbers_le, resolved, size_in_64_bits};
+use serde_json::{Number, Value};
 use std::alloc::{AllocError, Global};
 
-/// The keywords of a document that judge values and are not read, the references that lead to no
-/// schema of it, each `$id` inside, which would change what references lead to, and a `$schema` that
+/// The keywords of a document that judge values and are not read, a `multipleOf` that is a fraction,
+/// the references that lead to no schema of it, each `$id` inside, which would change what references lead to, and a `$schema` that
 /// is not that of the dialect. Each is told once.
 pub fn unread_in(
     alloc: Global,
@@ -120,7 +120,27 @@ fn is_unread_at(
 {
     let is_lost = leads_nowhere(alloc, document, keyword, value)?;
     let is_changed = is_other_dialect(draft, keyword, value) || is_lost;
-    Ok(is_unread(draft, keyword) || is_inner_id(place, keyword) || is_changed)
+    let is_passed_over = is_unread(draft, keyword) || leaves_open(keyword, value);
+    Ok(is_passed_over || is_inner_id(place, keyword) || is_changed)
+}
+
+// Whether the keyword is a divisor that leaves numbers open.
+fn leaves_open(keyword: &str, value: &Value) -> bool
+    ensures { result ≡ leaves_open keyword.now (view value.now) }
+{
+    if keyword != "multipleOf" {
+        return false;
+    }
+    match value.as_number() {
+        Some(divisor) => is_open_divisor(*divisor),
+        None => false,
+    }
+}
+
+fn is_open_divisor(divisor: Number) -> bool
+    ensures { result ≡ is_open_divisor (number_view divisor) }
+{
+    !(numbers_le(divisor, Number::from(0u64)) || size_in_64_bits(divisor).is_some())
 }
 
 // Whether the keyword is an identifier that is not that of the whole.

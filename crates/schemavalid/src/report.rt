@@ -110,6 +110,9 @@ impl Report {
     }
 }
 
+const UNDECIDED: &str =
+    "is not decided: references lead in a circle, or a number is too large for `multipleOf`";
+
 // Whether the value is valid, and why not.
 fn judged(
     alloc: Global,
@@ -120,7 +123,7 @@ fn judged(
     match examined.verdict {
         Verdict::Yes | Verdict::No => Ok((examined.verdict == Verdict::Yes, examined.failures)),
         Verdict::Open => {
-            let error = String::from_str(alloc, "is not decided: references lead in a circle")?;
+            let error = String::from_str(alloc, UNDECIDED)?;
             Ok((false, lone(alloc, error)?))
         }
     }
