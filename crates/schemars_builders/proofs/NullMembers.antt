@@ -386,7 +386,7 @@ module _ (siblings prefix unevaluated : Bool) (patterns : Patterns) (f : Text �
 
   -- `anyOf` alone
   choice_alone : (ds : Items) (v : Data) → (judge c (object (member (codes "anyOf") (array ds) no_members))).fits v
-      ≡ each_says any_of (Some (record { schema = None; listed = read_items c ds; named = None })) v
+      ≡ each_says any_of (Some (record { schema = None; listed = read_items c ds; named = None; among = [] })) v
   unfolding read_data all_keywords
   choice_alone ds v =
       rw (
@@ -435,7 +435,7 @@ module _ (siblings prefix unevaluated : Bool) (patterns : Patterns) (f : Text �
   unfolding read_data all_keywords
   choice_accepts ds some b e = go (read_items c ds) refl (sym (choice_alone ds null) ∙ e)
     where
-      go : (o : Option (List Judge)) → read_items c ds ≡ o → each_says any_of (Some (record { schema = None; listed = o; named = None }))
+      go : (o : Option (List Judge)) → read_items c ds ≡ o → each_says any_of (Some (record { schema = None; listed = o; named = None; among = [] }))
           null ≡ verdict b → b ≡ true
       go None is h = always b h
       go (Some ss) is h = accepted (none_of (map (λ s. s.fits null) ss)) b (some_listed ds some ss is) h
