@@ -63,36 +63,41 @@ root_in_table Q ts us s n R d all made = record {
   headline = λ draft is. promised Q ts us R (λ x. RootHeadline (dialect_of x) s n) (λ e told x. all e told x) d made draft is;
 }
 
-pub subschema_joined : (t : TypeRow) (old new : State) (n : ℕ) (d : Data) → IsChecked old.rows → IsJoined t old.rows new.rows n
+pub subschema_joined : (t : TypeRow) (old new : State) (n : ℕ) (d : Data) → IsJoined t old.rows new.rows n
     → IsSubschemaFor (with_rows new.rows old) new n d → IsSubschemaOfType t old new d
-unfolding MeansTypeIn
-subschema_joined t old new n d checked joined is = record {
+subschema_joined t old new n d joined is = record {
   n = n;
   joined = joined;
   is = is;
-  means = λ own. record {
-    n = n;
-    number = joined.registered.added.number;
-    means = is.means (more_types_own old new.rows checked joined.registered.begins own);
-  };
+}
+
+-- it means the type, if the definitions before were the generator's own
+pub subschema_means : (t : TypeRow) (old new : State) (d : Data) → IsChecked old.rows → IsSubschemaOfType t old new d
+    → HasOwnDefinitions old → MeansTypeIn t new d
+unfolding MeansTypeIn
+subschema_means t old new d checked s own = record {
+  n = s.n;
+  number = s.joined.registered.added.number;
+  means = s.is.means (more_types_own old new.rows checked s.joined.registered.begins own);
 }
 
 pub root_joined : {O : Type 0} (Q : TransformStep O) (ts us : Transforms O) (t : TypeRow) (old new : State) (n : ℕ) (d : Data)
-    → IsChecked old.rows → IsJoined t old.rows new.rows n
+    → IsJoined t old.rows new.rows n
     → IsRootInTable Q ts us (with_rows new.rows old) n (IsUntransformedCall (with_rows new.rows old) n new) d
     → IsRootOfType Q ts us t old new d
+root_joined Q ts us t old new n d joined is = record { n = n; joined = joined; is = is }
+
+-- with the transforms of a draft it means the type, if the definitions before were the generator's own
+pub root_means : {O : Type 0} (Q : TransformStep O) (ts us : Transforms O) (t : TypeRow) (old new : State) (d : Data) → IsChecked old.rows
+    → IsRootOfType Q ts us t old new d → (draft : Draft) (s : Settings) → old.settings ≡ s → ts.items ≡ transforms_for draft
+    → HasOwnDefinitions old → IsDraftPath (stripped s.definitions_path) → MeansType draft t s new.rows d
 unfolding MeansType
-root_joined Q ts us t old new n d checked joined is = record {
-  n = n;
-  joined = joined;
-  is = is;
-  means = λ draft settings same transforms own path. record {
-    n = n;
-    number = joined.registered.added.number;
-    headline = subst (λ (s : Settings). IsDraftPath (stripped s.definitions_path)
-        → Headline (dialect_of draft) new.rows s.contract (stripped s.definitions_path) n d) same
-        (λ p. is.headline draft transforms (more_types_own old new.rows checked joined.registered.begins own) p) path;
-  };
+root_means Q ts us t old new d checked r draft settings same transforms own path = record {
+  n = r.n;
+  number = r.joined.registered.added.number;
+  headline = subst (λ (s : Settings). IsDraftPath (stripped s.definitions_path)
+      → Headline (dialect_of draft) new.rows s.contract (stripped s.definitions_path) r.n d) same
+      (λ p. r.is.headline draft transforms (more_types_own old new.rows checked r.joined.registered.begins own) p) path;
 }
 
 -- ---- refusals

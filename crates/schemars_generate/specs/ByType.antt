@@ -62,22 +62,17 @@ MeansTypeIn t s d = HasMeaningIn t s d
 unfoldable pub MeansType : Draft → TypeRow → Settings → List Row → Data → Type 0
 MeansType draft t s rows d = HasMeaning draft t s rows d
 
--- The type has joined the table, and this is the schema of its row in it. It means the type if the definitions before were the
--- generator's own.
+-- The type has joined the table, and this is the schema of its row in it.
 pub record IsSubschemaOfType (t : TypeRow) (old new : State) (d : Data) : Type 0 where
   pub n : ℕ
   pub joined : IsJoined t old.rows new.rows n
   pub is : IsSubschemaFor (with_rows new.rows old) new n d
-  pub means : HasOwnDefinitions old → MeansTypeIn t new d
 
--- The type has joined the table, and this is the root document of its row in it. With the transforms of a draft it means the type, if
--- the definitions before were the generator's own. (The settings may be those of an earlier state that has the same.)
+-- The type has joined the table, and this is the root document of its row in it.
 pub record IsRootOfType {O : Type 0} (Q : TransformStep O) (ts us : Transforms O) (t : TypeRow) (old new : State) (d : Data) : Type 0 where
   pub n : ℕ
   pub joined : IsJoined t old.rows new.rows n
   pub is : IsRootInTable Q ts us (with_rows new.rows old) n (IsUntransformedCall (with_rows new.rows old) n new) d
-  pub means : (draft : Draft) (s : Settings) → old.settings ≡ s → ts.items ≡ transforms_for draft → HasOwnDefinitions old
-      → IsDraftPath (stripped s.definitions_path) → MeansType draft t s new.rows d
 
 -- ---- refusals
 
