@@ -5,9 +5,10 @@ use Rattle.std.proofs.lemmas.Bool.Decides.{nat_tests}
 use borrow.Author.Tests.{ltb-true}
 use Rattle.serde_json.specs.Data.{Data}
 use Rattle.serde_json.specs.View.{view}
-use Rattle.schemars_schema.specs.Acceptance.{draft2020_12}
+use Rattle.schemars_schema.specs.Acceptance.{Patterns, accepts, bound, draft2020_12}
 use Rattle.schemars_schema.specs.Json.{Text, IsJson}
 use Rattle.schemars_schema.specs.Verdict.{verdict, is_yes}
+use Rattle.schemars_types.specs.Meaning.{belongs}
 use Rattle.schemars_types.specs.Rows.{Row}
 use Rattle.schemars_types.specs.declared.contract.Contract.{Contract}
 use Rattle.schemars_headline.specs.Headline.{Headline, IsDraftPath, MeansItsType, RootHeadline}
@@ -32,6 +33,15 @@ pub decided : (validator : Validator) (rows : List Row) (contract : Contract) (n
     → Belongs validator.expressions.items rows contract n v answer
 decided validator rows contract n v answer means json (says, (patterns, read, followed, enough, is), answers) =
     (patterns, read, answers ∙ ap is_yes is ∙ ap is_yes (means.accepts_its_values patterns v json followed enough) ∙ settled _)
+
+-- what is decided from the table and by a document that means the row is the same
+pub agreed : (rows : List Row) (contract : Contract) (n : ℕ) (patterns : Patterns) (document v : Data) (by_table by_document : Bool)
+    → MeansItsType draft2020_12 rows contract (codes "/$defs") n document → IsJson v
+    → by_table ≡ belongs rows contract patterns n v
+    → by_document ≡ is_yes (accepts draft2020_12 document patterns (bound (codes "/$defs") document v) document v)
+    → by_table ≡ by_document
+agreed rows contract n patterns document v by_table by_document means json table answer =
+    table ∙ sym (answer ∙ ap is_yes (means.accepts_its_values patterns v json (bound (codes "/$defs") document v) (omega arith)) ∙ settled _)
 
 -- a row of an accepted table that a generator refuses
 pub row_refused : (s : State) (rows : List Row) (n : ℕ) (e : GenerateError) → s.rows ≡ rows → IsAccepted rows

@@ -5,4 +5,4 @@ mod error;
 mod membership;
 
 pub use error::MembershipError;
-pub use membership::{belongs, is_member, type_document};
+pub use membership::{belongs, by_table_and_document, is_member, type_document};

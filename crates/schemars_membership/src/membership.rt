@@ -1,10 +1,12 @@
 //! The document of a type, and the values that belong to the type by it.
-ghost use Rattle.std.specs.Prelude.{ℕ, List, IfOk, IfErr, codes};
+ghost use Rattle.std.specs.Prelude.{◌≡◌, ℕ, List, IfOk, IfErr, codes};
 ghost use Rattle.serde_json.specs.View.{view};
-ghost use Rattle.schemars_schema.specs.Acceptance.{draft2020_12};
+ghost use Rattle.schemars_schema.specs.Acceptance.{accepts, bound, draft2020_12};
+ghost use Rattle.schemars_schema.specs.Verdict.{is_yes};
+ghost use Rattle.schemars_types.specs.Meaning.{belongs as is_member};
 ghost use Rattle.schemars_types.specs.Rows.{Row};
 ghost use Rattle.schemars_types.specs.declared.contract.Contract.{Contract as Which};
-ghost use Rattle.schemars_headline.specs.Headline.{Headline, IsPlainFor};
+ghost use Rattle.schemars_headline.specs.Headline.{Headline, IsPlainFor, MeansItsType};
 ghost use Rattle.schemars_membership.specs.Membership.{Belongs, IsDocumentRefusal, IsMember, IsOfType, IsUndecided};
 
 use crate::error::MembershipError;
@@ -12,7 +14,7 @@ use schemars_generate::{GenerateError, SchemaGenerator, SchemaSettings};
 use schemars_schema::Schema;
 use schemars_transform::NoTransform;
 use schemars_types::{Contract, TypeNo, Types};
-use schemars_validate::look;
+use schemars_validate::{Dialect, Patterns, is_valid, look};
 use schemars_validator::{Draft, Validator};
 use serde_json::Value;
 use std::alloc::{AllocError, Global};
@@ -55,6 +57,37 @@ pub fn is_member(
 {
     look(value);
     validator.is_valid(alloc, value)
+}
+
+/// Whether a value belongs to row `n` of a table, decided from the table, and whether a document accepts
+/// it. The two agree, under each reading of patterns, where the document means the row.
+///
+/// # Errors
+///
+/// Only where memory runs out.
+#[tactic(auto, using(crate::proofs::Deciding::agreed))]
+pub fn by_table_and_document<P: Patterns>(
+    alloc: Global,
+    types: &Types,
+    n: TypeNo,
+    contract: Contract,
+    document: &Value,
+    patterns: &P,
+    value: &Value,
+) -> Result<(bool, bool), AllocError>
+    ensures agree { MeansItsType draft2020_12 types.now contract (codes "/$defs") n (view document.now)
+        → IfOk result (λ answers. answers.0 ≡ answers.1) }
+    ensures by_table { IfOk result (λ answers. answers.0
+        ≡ is_member types.now contract (P.reading patterns.now) n (view value.now)) }
+    ensures by_document { let d = view document.now in
+        IfOk result (λ answers. answers.1 ≡ is_yes (accepts draft2020_12 d (P.reading patterns.now)
+        (bound (codes "/$defs") d (view value.now)) d (view value.now))) }
+{
+    look(value);
+    let by_table = schemars_belonging::belongs(alloc, types, n, contract, value, patterns)?;
+    let dialect = Dialect::draft2020_12();
+    let by_document = is_valid(alloc, dialect, document, "/$defs", patterns, value)?;
+    Ok((by_table, by_document))
 }
 
 /// Whether a value belongs to row `n` of a table under a contract.
