@@ -3,7 +3,7 @@ ghost use Rattle.std.specs.Prelude.{◌≡◌, ℕ, List, IfOk, IfErr, codes};
 ghost use Rattle.serde_json.specs.View.{view};
 ghost use Rattle.schemars_schema.specs.Acceptance.{accepts, bound, draft2020_12};
 ghost use Rattle.schemars_schema.specs.Verdict.{is_yes};
-ghost use Rattle.schemars_types.specs.Meaning.{belongs as is_member};
+ghost use Rattle.schemars_types.specs.Meaning as meaning;
 ghost use Rattle.schemars_types.specs.Rows.{Row};
 ghost use Rattle.schemars_types.specs.declared.contract.Contract.{Contract as Which};
 ghost use Rattle.schemars_headline.specs.Headline.{Headline, IsPlainFor, MeansItsType};
@@ -78,7 +78,7 @@ pub fn by_table_and_document<P: Patterns>(
     ensures agree { MeansItsType draft2020_12 types.now contract (codes "/$defs") n (view document.now)
         → IfOk result (λ answers. answers.0 ≡ answers.1) }
     ensures by_table { IfOk result (λ answers. answers.0
-        ≡ is_member types.now contract (P.reading patterns.now) n (view value.now)) }
+        ≡ meaning.belongs types.now contract (P.reading patterns.now) n (view value.now)) }
     ensures by_document { let d = view document.now in
         IfOk result (λ answers. answers.1 ≡ is_yes (accepts draft2020_12 d (P.reading patterns.now)
         (bound (codes "/$defs") d (view value.now)) d (view value.now))) }
