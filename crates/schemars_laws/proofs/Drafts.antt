@@ -89,7 +89,7 @@ after-siblings key = change-preserves without_siblings (Second key) (Third key) 
     Q : Members → Type 0
     Q = Third key
 
-    abbrev Dependencies : Members → Type 0
+    Dependencies : Members → Type 0
     Dependencies ns = HasNoObjects (get_member (codes "dependencies") ns)
 
     -- nothing is asked of `unevaluatedProperties`
