@@ -68,7 +68,8 @@ after-unevaluated key =
             items-alike (without (codes "unevaluatedProperties") ns) ns
                 (alike-without (codes "prefixItems") (codes "unevaluatedProperties") ns refl)
                 (alike-without (codes "items") (codes "unevaluatedProperties") ns refl)
-                (alike-without (codes "additionalItems") (codes "unevaluatedProperties") ns refl) (alike-without (codes "contains") (codes "unevaluatedProperties") ns refl)
+                (alike-without (codes "additionalItems") (codes "unevaluatedProperties") ns refl)
+                (alike-without (codes "contains") (codes "unevaluatedProperties") ns refl)
                 (items-walked unevaluated_as_additional schema-unevaluated ms is.2.2),
           ),
         )
@@ -107,7 +108,8 @@ after-siblings key = change-preserves without_siblings (Second key) (Third key) 
         third (without (codes "$ref") ns) (subst (λ o. IsNamedBy (IsName key) (option_and_then as_str o)) (sym once) tt)
         (subst HasNoObjects (sym (alike-without (codes "dependencies") (codes "$ref") ns refl).first) plain)
         (items-alike (without (codes "$ref") ns) ns (alike-without (codes "prefixItems") (codes "$ref") ns refl)
-        (alike-without (codes "items") (codes "$ref") ns refl) (alike-without (codes "additionalItems") (codes "$ref") ns refl) (alike-without (codes "contains") (codes "$ref") ns refl) items)
+        (alike-without (codes "items") (codes "$ref") ns refl) (alike-without (codes "additionalItems") (codes "$ref") ns refl)
+        (alike-without (codes "contains") (codes "$ref") ns refl) items)
 
     moved : (r : Data) (ns : Members) → IsOnce (codes "$ref") ns → Dependencies ns → HasPlainItems ns → Q (moved_members r ns)
     moved r ns once plain items =

@@ -224,7 +224,8 @@ module _ (N : Text → Type 0) where
               (unlisted k (codes "nullable") of_draft06 there refl)).first)
               is.own.const.2)
               is.own.const)
-              (t d (codes "prefixItems") refl refl) (t d (codes "items") refl refl) (t d (codes "additionalItems") refl refl) (t d (codes "contains") refl refl) is
+              (t d (codes "prefixItems") refl refl) (t d (codes "items") refl refl) (t d (codes "additionalItems") refl refl)
+              (t d (codes "contains") refl refl) is
 
           inside-among : (d : Data) → asked_of_keywords Q (replaced (codes "type") d (nulled ns))
           inside-among d = asked-replaced Q (codes "type") d (nulled ns) tt inside-nulls
@@ -259,7 +260,8 @@ module _ (N : Text → Type 0) where
                     (λ k there. (c k (unlisted k (codes "type") of_draft06 there refl) (unlisted k (codes "const") of_draft06 there refl)
                     (unlisted k (codes "nullable") of_draft06 there refl)).first) is.own.const.2,
               )
-              (c (codes "prefixItems") refl refl refl) (c (codes "items") refl refl refl) (c (codes "additionalItems") refl refl refl) (c (codes "contains") refl refl refl) is
+              (c (codes "prefixItems") refl refl refl) (c (codes "items") refl refl refl) (c (codes "additionalItems") refl refl refl)
+              (c (codes "contains") refl refl refl) is
 
           inside-alone : asked_of_keywords Q (alone_members ns)
           inside-alone = asked-without Q (codes "type") (put (codes "const") null (nulled ns))

@@ -78,12 +78,13 @@ abbrev pub HasNone : List Text → Members → Type 0
 HasNone [] ms = Unit {0}
 HasNone (k ∷ ks) ms = (get_member k ms ≡ None) × HasNone ks ms
 
--- the keywords beside `const` that are read from Draft 6 or 7 on (`then` and `else` say nothing without `if`)
+-- the keywords beside `const` that came with Drafts 6 and 7 (`then` and `else` say nothing without `if`), and `dependencies`, which
+-- is read where they are
 abbrev pub of_draft06 : List Text
 of_draft06 = codes "exclusiveMinimum" ∷ codes "exclusiveMaximum" ∷ codes "contains" ∷ codes "propertyNames" ∷ codes "if"
     ∷ codes "dependencies" ∷ []
 
--- the keywords beside `unevaluatedProperties` that came with Draft 2019-09, and `dependencies`, which went with it
+-- the keywords beside `unevaluatedProperties` that came with Draft 2019-09, and `dependencies`, which went with them
 abbrev pub of_draft2019_09 : List Text
 of_draft2019_09 = codes "minContains" ∷ codes "maxContains" ∷ codes "dependentRequired" ∷ codes "dependentSchemas"
     ∷ codes "unevaluatedItems" ∷ codes "dependencies" ∷ []
