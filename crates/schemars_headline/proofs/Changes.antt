@@ -1,22 +1,23 @@
 -- Which changes leave a schema object one that the laws of the drafts speak of.
 use Rattle.std.proofs.Common.{◌≡◌, ◌≢◌, ◌⊎◌, inl, inr, List, [], ◌∷◌, Option, Some, None, Bool, true, false, codes, refl, sym, ap, ◌∙◌, subst, true≢false}
-use Rattle.std.specs.Prelude.{◌++◌, not}
+use Rattle.std.specs.Prelude.{◌++◌, not, is_some}
 use Rattle.std.proofs.lemmas.Slice.Eq.{bytes_eq-Decides}
-use Rattle.std.proofs.lemmas.Bool.{and_parts, not-true}
+use Rattle.std.proofs.lemmas.Bool.{and_parts}
 use Rattle.schemars_headline.proofs.Words.{bytes_eq, if◌then◌else◌, ◌||◌, ◌&&◌, Data, null, boolean, number, string, array, object, Items, no_items, item, Members, no_members, member, put, get_member, get_member-put, get_member-put_other, Text, is_listed, IsSchema, members_in, put_members, AreNotes, without, replaced, holds_text, NoSchemas, place_under, draft2020_12, is_null, differ, is_null_choice, is_combined, or_null, allow_null, type_with_null, null_in_type, enum_with_null, null_in_enum, const_or_null, null_in_const, null_in_values, annotated, Everywhere, demanded, IsOnce, IsSchemaList, HasPlainItems, IsTextWith, Stands, IsForOpenApi, AreSomeTypes, absent-once, weaker}
 use Rattle.schemars_schema.specs.Annotations.{is_annotation}
 use Rattle.schemars_schema.specs.Edits.{with_item}
 use Rattle.schemars_schema.specs.References.{with_schema, with_list, keywords_with_names}
+use Rattle.schemars_schema.proofs.Literals.{not_among}
 use Rattle.schemars_schema.proofs.Objects.{annotation-not_listed}
 use Rattle.schemars_text.proofs.Members.{unequal}
 use Rattle.schemars_meaning.proofs.MapDocument.{noted_by, AllNotes}
 use Rattle.schemars_laws.specs.Everywhere.{asked, asked_of_keywords}
-use Rattle.schemars_laws.specs.Names.{IsNoObject, HasPlainUnevaluated}
+use Rattle.schemars_laws.specs.Names.{IsNoObject, HasNoObjects, HasPlainUnevaluated}
 use Rattle.schemars_laws.specs.Classes.{AreTexts, is_null_alone, HasNone, of_draft06, of_draft2019_09, IsConstAlone, HasNoUnevaluated}
 use Rattle.schemars_laws.specs.Stages.{HasSomeTypes}
 use Rattle.schemars_laws.proofs.Editing.{without-put, alike-put, alike-replaced, once-put, type-alike, values-alike, const-alike, stands-alike}
 use Rattle.schemars_laws.proofs.Looked.{without-other}
-use Rattle.schemars_laws.proofs.Plain.{Alike, items-alike, without-swap, none-alike}
+use Rattle.schemars_laws.proofs.Plain.{Alike, items-alike, without-swap, all-none, none-at, none-alike, none-plain}
 use Rattle.schemars_laws.proofs.Preserved.{asked-without, asked-put, asked-replaced}
 
 -- ---- keywords
@@ -59,16 +60,12 @@ asked-nothing P k d is = subst (λ p. demanded p (asked P d)) (sym is) tt
 
 -- ---- keywords that are not there
 
--- each of the texts is among the others, and none of them
-abbrev all_among : List Text → List Text → Bool
+-- each of the texts is among the others
+abbrev pub all_among : List Text → List Text → Bool
 all_among [] ls = true
 all_among (k ∷ ks) ls = is_listed k ls && all_among ks ls
 
-abbrev none_among : List Text → List Text → Bool
-none_among [] ls = true
-none_among (k ∷ ks) ls = not (is_listed k ls) && none_among ks ls
-
-among : (k : Text) (ks ls : List Text) → all_among ks ls ≡ true → is_listed k ks ≡ true → is_listed k ls ≡ true
+pub among : (k : Text) (ks ls : List Text) → all_among ks ls ≡ true → is_listed k ks ≡ true → is_listed k ls ≡ true
 among k [] ls all at = absurd (true≢false (sym at))
 among k (l ∷ ks) ls all at = go (bytes_eq k l) refl at (among k ks ls parts.1)
   where
@@ -80,17 +77,21 @@ among k (l ∷ ks) ls all at = go (bytes_eq k l) refl at (among k ks ls parts.1)
     go true same is later = ap (λ x. is_listed x ls) ((bytes_eq-Decides k l).0 same) ∙ parts.0
     go false same is later = later is
 
-not_among : (k : Text) (ks ls : List Text) → none_among ks ls ≡ true → is_listed k ks ≡ true → is_listed k ls ≡ false
-not_among k [] ls all at = absurd (true≢false (sym at))
-not_among k (l ∷ ks) ls all at = go (bytes_eq k l) refl at (not_among k ks ls parts.1)
-  where
-    parts : (not (is_listed l ls) ≡ true) × (none_among ks ls ≡ true)
-    parts = and_parts (not (is_listed l ls)) (none_among ks ls) all
+-- none of the texts is a key
+abbrev pub are_missing : List Text → Members → Bool
+are_missing [] ms = true
+are_missing (k ∷ ks) ms = not (is_some (get_member k ms)) && are_missing ks ms
 
-    go : (b : Bool) → bytes_eq k l ≡ b → b || is_listed k ks ≡ true → (is_listed k ks ≡ true → is_listed k ls ≡ false)
-        → is_listed k ls ≡ false
-    go true same is later = ap (λ x. is_listed x ls) ((bytes_eq-Decides k l).0 same) ∙ not-true (is_listed l ls) parts.0
-    go false same is later = later is
+pub missing-none : (ks : List Text) (ms : Members) → are_missing ks ms ≡ true → HasNone ks ms
+missing-none [] ms missing = tt
+missing-none (k ∷ ks) ms missing = (none (get_member k ms) parts.0, missing-none ks ms parts.1)
+  where
+    parts : (not (is_some (get_member k ms)) ≡ true) × (are_missing ks ms ≡ true)
+    parts = and_parts (not (is_some (get_member k ms))) (are_missing ks ms) missing
+
+    none : (o : Option Data) → not (is_some o) ≡ true → o ≡ None
+    none None is = refl
+    none (Some d) is = absurd (true≢false (sym is))
 
 watched-draft06 : (k : Text) → is_listed k of_draft06 ≡ true → IsWatched k
 watched-draft06 k at = among k of_draft06 watched refl at
@@ -110,8 +111,7 @@ pub record Demand : Type 1 where
   pub rest : Members → Type 0
   pub stays : (ns ms : Members) → Alike (codes "unevaluatedProperties") ns ms → AgreeAt of_draft2019_09 ns ms → rest ms → rest ns
   pub lacking : (ms : Members) → HasNoUnevaluated ms → rest ms
-  pub plain : (ms : Members) → rest ms
-      → IsNoObject (get_member (codes "unevaluatedProperties") ms) × IsNoObject (get_member (codes "dependentSchemas") ms)
+  pub plain : (ms : Members) → rest ms → HasPlainUnevaluated draft2020_12 ms
 
 -- there are no `unevaluatedProperties`: so OpenAPI and Draft 7 ask
 abbrev pub without_rest : (Text → Type 0) → Demand
@@ -120,17 +120,34 @@ without_rest N = record {
   rest = HasNoUnevaluated;
   stays = λ ns ms a b is. (a.others ∙ is.0, a.first ∙ is.1, none-alike of_draft2019_09 ns ms b is.2);
   lacking = λ ms is. is;
-  plain = λ ms is. (subst IsNoObject (sym is.1) tt, subst IsNoObject (sym is.2.1.1.1.0) tt);
+  plain = λ ms is. none-plain draft2020_12 ms is;
 }
 
--- they are no schema object, and there are no dependent schemas: so 2019-09 asks, which reads them
+-- the others that 2019-09 reads and a walk does not lead to
+abbrev unwalked : List Text
+unwalked = codes "dependentSchemas" ∷ codes "unevaluatedItems" ∷ []
+
+-- they are no schema object, and there is none of the others: so 2019-09 asks, which reads them
 abbrev pub with_rest : (Text → Type 0) → Demand
 with_rest N = record {
   refers = N;
-  rest = λ ms. IsNoObject (get_member (codes "unevaluatedProperties") ms) × (get_member (codes "dependentSchemas") ms ≡ None);
-  stays = λ ns ms a b is. (subst IsNoObject (sym a.first) is.0, b (codes "dependentSchemas") refl ∙ is.1);
-  lacking = λ ms is. (subst IsNoObject (sym is.1) tt, is.2.1.1.1.0);
-  plain = λ ms is. (is.0, subst IsNoObject (sym is.1) tt);
+  rest = λ ms. IsNoObject (get_member (codes "unevaluatedProperties") ms) × HasNone unwalked ms;
+  stays = λ ns ms a b is. (
+    subst IsNoObject (sym a.first) is.0,
+    none-alike unwalked ns ms (λ k at. b k (among k unwalked of_draft2019_09 refl at)) is.1,
+  );
+  lacking = λ ms is. (
+    subst IsNoObject (sym is.1) tt,
+    all-none unwalked ms (λ k at. none-at of_draft2019_09 k ms (among k unwalked of_draft2019_09 refl at) is.2),
+  );
+  plain = λ ms is. (
+    λ reads. (
+      is.0,
+      subst IsNoObject (sym (none-at unwalked (codes "unevaluatedItems") ms refl is.1)) tt,
+      subst HasNoObjects (sym (none-at unwalked (codes "dependentSchemas") ms refl is.1)) tt,
+    ),
+    λ reads. absurd (true≢false (sym reads)),
+  );
 }
 
 -- what the laws of the drafts and of OpenAPI ask for beside the reference
@@ -169,7 +186,7 @@ pub for_items : (R : Demand) (s : Data) → Everywhere (Class R) s → Everywher
 for_items R s is = weaker (Class R) (Stands R.refers IsDraft2019_09) (λ ms h. record {
   reference = h.reference;
   once = h.once;
-  own = (λ reads. R.plain ms h.own.rest, h.own.items);
+  own = (R.plain ms h.own.rest, h.own.items);
 }) s is
 
 -- ---- members put in, and taken out
@@ -188,7 +205,8 @@ module _ (R : Demand) where
         all_of = subst IsSchemaList (sym (a (codes "allOf") refl).first) is.own.all_of;
         const = const-alike ns ms (a (codes "const") refl) (a (codes "enum") refl)
             (none-alike of_draft06 ns ms (λ k at. (a k (watched-draft06 k at)).first) is.own.const.2) is.own.const;
-        items = items-alike ns ms (a (codes "prefixItems") refl) (a (codes "items") refl) (a (codes "additionalItems") refl) is.own.items;
+        items = items-alike ns ms (a (codes "prefixItems") refl) (a (codes "items") refl) (a (codes "additionalItems") refl)
+            (a (codes "contains") refl) is.own.items;
       }) is
 
   class-put : (l : Text) (d : Data) (ms : Members) → IsUnwatched l → Class R ms → Class R (put l d ms)
@@ -245,7 +263,7 @@ module _ (R : Demand) where
             (none-alike of_draft06 (put (codes "type") t ms) ms (agree-put (codes "type") t ms of_draft06 refl) is.own.const.2) is.own.const;
         items = items-alike (put (codes "type") t ms) ms (other (codes "type") (codes "prefixItems") t ms refl)
             (other (codes "type") (codes "items") t ms refl)
-            (other (codes "type") (codes "additionalItems") t ms refl) is.own.items;
+            (other (codes "type") (codes "additionalItems") t ms refl) (other (codes "type") (codes "contains") t ms refl) is.own.items;
       }) is
     where
       no_const : get_member (codes "type") (put (codes "type") t ms) ≡ Some t
@@ -284,7 +302,7 @@ module _ (R : Demand) where
         all_of = subst IsSchemaList (sym (a (codes "allOf") refl refl).first) is.own.all_of;
         const = const;
         items = items-alike ns ms (a (codes "prefixItems") refl refl) (a (codes "items") refl refl)
-            (a (codes "additionalItems") refl refl) is.own.items;
+            (a (codes "additionalItems") refl refl) (a (codes "contains") refl refl) is.own.items;
       }) is
 
   -- k is watched, and none of these two
@@ -362,8 +380,8 @@ module _ (R : Demand) where
   pub nothing : AreGood no_members
   unfolding asked_of_keywords
   nothing = record {
-    own = class-of no_members tt refl (R.lacking no_members (refl, refl, (refl, (refl, (refl, (refl, tt)))))) tt refl refl refl tt (refl, tt, tt, refl)
-        (refl, (refl, (refl, (refl, (refl, tt)))));
+    own = class-of no_members tt refl (R.lacking no_members (refl, refl, missing-none of_draft2019_09 no_members refl)) tt refl refl refl tt
+        (refl, tt, tt, refl, refl) (missing-none of_draft06 no_members refl);
     inside = tt;
   }
 

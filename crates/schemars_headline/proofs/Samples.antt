@@ -19,7 +19,7 @@ use Rattle.schemars_laws.specs.Names.{HasPlainUnevaluated, NamedBy}
 use Rattle.schemars_laws.specs.Classes.{HasPlainReference, HasNoUnevaluated, alone_by, without_unevaluated}
 use Rattle.schemars_laws.specs.Stages.{AfterNullable, AfterSiblings}
 use Rattle.schemars_laws.proofs.Moved.{Rewrites, schema-moved}
-use Rattle.schemars_laws.proofs.Plain.{none-plain, unread-plain}
+use Rattle.schemars_laws.proofs.Plain.{none-plain, const-plain}
 use Rattle.schemars_laws.proofs.Preserved.{after}
 use Rattle.schemars_laws.proofs.Seven.{keep-unevaluated, keep-siblings}
 use Rattle.schemars_laws.proofs.Steps.{text-named}
@@ -41,8 +41,7 @@ module _ (R : Demand) where
       → AreGood R (put (codes "prefixItems") (json_array ts) (put (codes "type") (string (codes "array")) no_members))
   unfolding asked
   are-positions ts is = record {
-    own = own-items R _ tt refl refl refl refl refl refl (refl, schemas-of ts is, tt, refl)
-        ((refl, (refl, (refl, (refl, (refl, tt))))), (refl, (refl, (refl, (refl, tt)))));
+    own = own-items R _ tt refl refl refl refl refl refl (refl, schemas-of ts is, tt, refl, refl) refl;
     inside = (asked-items R ts is, (tt, tt));
   }
 
@@ -236,11 +235,11 @@ module _ (ns : Members) (is : Everywhere (Stands Never IsForOpenApi) (object ns)
   draft07-alone document patterns followed v =
       alone-moved (change_rules prefix_as_items) tt (alone_by gone) draft07 HasPlainItems
       (prefix-moves (codes "$defs") refl (alone_by gone)).rewrites document patterns followed second v
-      (named (alone_by gone) AfterSiblings HasPlainItems (λ ms h. (unread-plain (alone_by gone) ms refl, h.own.1)) second is-second)
+      (named (alone_by gone) AfterSiblings HasPlainItems (λ ms h. (const-plain (alone_by gone) ms refl h.own.0, h.own.1)) second is-second)
       ∙ (alone-moved (change_rules without_siblings) tt gone (alone_by gone) HasPlainReference
       (siblings-moves (codes "$defs") refl gone).rewrites document patterns followed first v
       (named gone IsForOpenApi HasPlainReference
-      (λ ms h. (unread-plain gone ms refl, plain_reference ms h.own h.once h.reference)) first is-first)
+      (λ ms h. (const-plain gone ms refl h.own.const, plain_reference ms h.own h.once h.reference)) first is-first)
       ∙ alone-moved (change_rules unevaluated_as_additional) tt draft2020_12 gone HasNoUnevaluated
       (unevaluated-moves (codes "$defs") refl draft2020_12 (differ (codes "$defs") (codes "properties") refl)).rewrites document patterns
       followed (object ns) v

@@ -94,7 +94,7 @@ module _ (N : Text → Type 0) where
         class-of R ms (subst (IsTextWith N) (sym (form.at (codes "$ref") refl)) tt)
         (absent-once (codes "$ref") ms (form.at (codes "$ref") refl)) (
           subst IsNoObject (sym (form.at (codes "unevaluatedProperties") refl)) (no_object ps closed),
-          form.at (codes "dependentSchemas") refl,
+          (form.at (codes "dependentSchemas") refl, (form.at (codes "unevaluatedItems") refl, tt)),
         )
         (subst AreSomeTypes (sym (form.at (codes "type") refl)) tt) (form.at (codes "nullable") refl) (form.at (codes "const") refl)
         (form.at (codes "enum") refl) (subst IsSchemaList (sym (form.at (codes "allOf") refl)) (all_list ps.all)) (
@@ -102,11 +102,15 @@ module _ (N : Text → Type 0) where
           subst IsSchemaList (sym (form.at (codes "prefixItems") refl)) tt,
           subst IsNoList (sym (form.at (codes "items") refl)) tt,
           form.at (codes "additionalItems") refl,
+          form.at (codes "contains") refl,
         ) (
           form.at (codes "exclusiveMinimum") refl,
           (
             form.at (codes "exclusiveMaximum") refl,
-            (form.at (codes "contains") refl, (form.at (codes "propertyNames") refl, (form.at (codes "if") refl, tt))),
+            (
+              form.at (codes "contains") refl,
+              (form.at (codes "propertyNames") refl, (form.at (codes "if") refl, (form.at (codes "dependencies") refl, tt))),
+            ),
           ),
         )
 

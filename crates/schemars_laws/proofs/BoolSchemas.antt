@@ -1,5 +1,5 @@
 -- Objects in place of truth values say the same.
-use Rattle.std.proofs.Common.{◌≡◌, ◌⊎◌, inl, inr, Some, None, Bool, true, false, [], ◌∷◌, codes, refl, ap, ◌∙◌}
+use Rattle.std.proofs.Common.{◌≡◌, ◌⊎◌, ℕ, inl, inr, Some, None, Bool, true, false, [], ◌∷◌, codes, refl, ap, ◌∙◌}
 use Rattle.std.proofs.Math.Bool.{and-false}
 use Rattle.std.specs.Prelude.{bytes_eq, if◌then◌else◌, ◌&&◌, not, is_some}
 use Rattle.serde_json.specs.Data.{Data, boolean, object, Members, no_members, member}
@@ -8,7 +8,7 @@ use Rattle.schemars_schema.specs.Json.{Text}
 use Rattle.schemars_schema.specs.SchemaData.{members_in}
 use Rattle.schemars_schema.specs.References.{NoSchemas, place_under}
 use Rattle.schemars_schema.specs.Verdict.{Yes, opposite}
-use Rattle.schemars_schema.specs.Acceptance.{Dialect, Context, Readings, Raw, Judge, judge, read_data, reading_at, keywords, all_keywords, reference_alone, truth_value}
+use Rattle.schemars_schema.specs.Acceptance.{Dialect, Context, Readings, Raw, Judge, Part, key as member_key, position, judged_by_items, judge, read_data, reading_at, keywords, all_keywords, reference_alone, truth_value}
 use Rattle.schemars_transform.specs.Built.{bool_rules}
 use Rattle.schemars_transform.specs.declared.built_in.bool_schemas.ReplaceBoolSchemas.{ReplaceBoolSchemas}
 use Rattle.schemars_walk.specs.Rewritten.{in_keywords}
@@ -21,13 +21,18 @@ use Rattle.schemars_schema.proofs.Silent.{items_none, const_none, unevaluated_no
 
 -- an object with a schema under `not` alone
 abbrev not_read : Judge → Readings
-not_read j = reading_at ((codes "not", record { schema = Some j; listed = None; named = None }) ∷ [])
+not_read j = reading_at ((codes "not", record { schema = Some j; listed = None; named = None; among = [] }) ∷ [])
 
 abbrev nothing_raw : Raw
 nothing_raw k = None
 
 abbrev nothing_read : Readings
 nothing_read k = None
+
+-- without keywords for items none is judged
+pub places_none : (reads : Bool) (n : ℕ) → judged_by_items reads None None None n ≡ false
+places_none true n = refl
+places_none false n = refl
 
 module _ (c : Context) where
   empty-fits : (v : Data) → (all_keywords c nothing_raw nothing_read).fits v ≡ Yes
@@ -39,9 +44,11 @@ module _ (c : Context) where
         unevaluated_none c.dialect.reads_unevaluated _ v,
       ) refl
 
-  empty-judges : (v : Data) (k : Text) → (all_keywords c nothing_raw nothing_read).judges v k ≡ false
+  empty-judges : (v : Data) (p : Part) → (all_keywords c nothing_raw nothing_read).judges v p ≡ false
   unfolding all_keywords
-  empty-judges v k = rw (and-false c.dialect.reads_unevaluated) refl
+  empty-judges v (member_key k) = rw (and-false c.dialect.reads_unevaluated) refl
+  empty-judges v (position n) =
+      rw (places_none c.dialect.reads_prefix_items n, and-false c.dialect.reads_unevaluated) refl
 
   not-fits : (j : Judge) (v : Data) → (all_keywords c nothing_raw (not_read j)).fits v ≡ opposite (j.fits v)
   unfolding all_keywords
@@ -49,9 +56,11 @@ module _ (c : Context) where
       rw (items_none c.dialect.reads_prefix_items v, const_none c.dialect.reads_const v, unevaluated_none c.dialect.reads_unevaluated _ v)
       (both-yes (opposite (j.fits v)))
 
-  not-judges : (j : Judge) (v : Data) (k : Text) → (all_keywords c nothing_raw (not_read j)).judges v k ≡ false
+  not-judges : (j : Judge) (v : Data) (p : Part) → (all_keywords c nothing_raw (not_read j)).judges v p ≡ false
   unfolding all_keywords
-  not-judges j v k = rw (and-false c.dialect.reads_unevaluated) refl
+  not-judges j v (member_key k) = rw (and-false c.dialect.reads_unevaluated) refl
+  not-judges j v (position n) =
+      rw (places_none c.dialect.reads_prefix_items n, and-false c.dialect.reads_unevaluated) refl
 
   no_reference : (read : Readings) → keywords c nothing_raw read ≡ all_keywords c nothing_raw read
   no_reference read =

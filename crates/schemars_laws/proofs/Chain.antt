@@ -24,7 +24,7 @@ use Rattle.schemars_laws.proofs.Preserved.{Preserves, after, weaker}
 use Rattle.schemars_laws.proofs.Nullable.{nullable_change}
 use Rattle.schemars_laws.proofs.BoolSchemas.{bool_schemas}
 use Rattle.schemars_laws.proofs.Paths.{names_get, definition-leads}
-use Rattle.schemars_laws.proofs.Plain.{none-plain, unread-plain}
+use Rattle.schemars_laws.proofs.Plain.{none-plain, const-plain, neither-plain}
 use Rattle.schemars_laws.proofs.Laws.{unevaluated-moves, nullable-moves, siblings-moves, example-moves, const-moves, prefix-moves}
 use Rattle.schemars_laws.proofs.Steps.{text-alone, text-named}
 use Rattle.schemars_laws.proofs.Seven.{keep-unevaluated, keep-bool, keep-nullable, keep-siblings, keep-example, keep-const, keep-positions}
@@ -140,7 +140,7 @@ module _ (N : Text → Type 0) (are : (t : Text) → N t → IsDefinitionAt comp
   second : Moving N bool_rules unevaluated_gone unevaluated_gone IsForOpenApi IsForOpenApi
   second = record {
     asks = IsForOpenApi;
-    unevaluated = λ ms is. unread-plain unevaluated_gone ms refl;
+    unevaluated = λ ms is. const-plain unevaluated_gone ms refl is.own.const;
     own = λ ms is. is.own;
     rewrites = (bool_schemas (codes "$defs") unevaluated_gone IsForOpenApi).rewrites;
     keeps = keep-bool N;
@@ -149,7 +149,7 @@ module _ (N : Text → Type 0) (are : (t : Text) → N t → IsDefinitionAt comp
   third : Moving N (change_rules nullable_change) unevaluated_gone nullable_read IsForOpenApi AfterNullable
   third = record {
     asks = HasPlainType;
-    unevaluated = λ ms is. unread-plain unevaluated_gone ms refl;
+    unevaluated = λ ms is. const-plain unevaluated_gone ms refl is.own.const;
     own = λ ms is. (are_types (get_member (codes "type") ms) is.own.type.0, is.own.type.1, is.own.type.2);
     rewrites = (nullable-moves (codes "$defs") refl unevaluated_gone).rewrites;
     keeps = keep-nullable N;
@@ -158,7 +158,7 @@ module _ (N : Text → Type 0) (are : (t : Text) → N t → IsDefinitionAt comp
   fourth : Moving N (change_rules without_siblings) nullable_read siblings_passed AfterNullable AfterSiblings
   fourth = record {
     asks = HasPlainReference;
-    unevaluated = λ ms is. unread-plain nullable_read ms refl;
+    unevaluated = λ ms is. const-plain nullable_read ms refl is.own.1;
     own = λ ms is. (is.once, text-alone N (get_member (codes "$ref") ms) is.reference, is.own.0);
     rewrites = (siblings-moves (codes "$defs") refl nullable_read).rewrites;
     keeps = keep-siblings N;
@@ -169,7 +169,7 @@ module _ (N : Text → Type 0) (are : (t : Text) → N t → IsDefinitionAt comp
       let moved = (example-moves (codes "$defs") refl siblings_passed AfterSiblings).rewrites in
       record {
         asks = AfterSiblings;
-        unevaluated = λ ms is. unread-plain siblings_passed ms refl;
+        unevaluated = λ ms is. const-plain siblings_passed ms refl is.own.0;
         own = λ ms is. is.own;
         rewrites = moved;
         keeps = keep-example N (λ s is. moved.schema tt s is);
@@ -180,7 +180,7 @@ module _ (N : Text → Type 0) (are : (t : Text) → N t → IsDefinitionAt comp
       let moved = (const-moves (codes "$defs") refl siblings_passed).rewrites in
       record {
         asks = IsConstAlone;
-        unevaluated = λ ms is. unread-plain siblings_passed ms refl;
+        unevaluated = λ ms is. const-plain siblings_passed ms refl is.own.0;
         own = λ ms is. is.own.0;
         rewrites = moved;
         keeps = keep-const N (λ s is. moved.schema tt s is);
@@ -191,7 +191,7 @@ module _ (N : Text → Type 0) (are : (t : Text) → N t → IsDefinitionAt comp
       let moved = (prefix-moves (codes "$defs") refl const_passed).rewrites in
       record {
         asks = HasPlainItems;
-        unevaluated = λ ms is. unread-plain const_passed ms refl;
+        unevaluated = λ ms is. neither-plain const_passed ms refl refl;
         own = λ ms is. is.own;
         rewrites = moved;
         keeps = keep-positions N (λ s is. moved.schema tt s is)

@@ -14,7 +14,7 @@ use Rattle.schemars_text.proofs.Members.{differ}
 use Rattle.schemars_transform.specs.Built.{const_as_enum, value_as_enum}
 use Rattle.schemars_laws.specs.Classes.{IsOnce, of_draft06, IsConstAlone, without_const, with_const}
 use Rattle.schemars_laws.proofs.Looked.{without-other, walked, raw-walked, once-walked, nones-walked, Change}
-use Rattle.schemars_laws.proofs.Apart.{four_of, four_by, look_up, says-moved, outside}
+use Rattle.schemars_laws.proofs.Apart.{four_of, four_by, look_up, says-moved, placed-agree, outside}
 
 abbrev const_members : Option Data → Members → Members
 const_members None ms = without (codes "const") ms
@@ -31,6 +31,10 @@ get-other (Some w) k ms const enum =
     get_member-put_other k (codes "enum") (array (item w no_items)) (without (codes "const") ms) enum
     ∙ without-other (codes "const") k ms const
 
+other : (o : Option Data) (k : Text) (ms : Members) → bytes_eq k (codes "const") ≡ false → bytes_eq k (codes "enum") ≡ false
+    → get_member k (const_members o ms) ≡ get_member k ms
+other o k ms const enum = get-other o k ms (differ k (codes "const") const) (differ k (codes "enum") enum)
+
 module _ (c : Context) (d : Dialect) (p i a t n : Option Data) (v : Data) (x : Verdict) where
   no_const : (e : Option Data) → four_of c (without_const d) p i a e None t n v x ≡ four_of c (with_const d) p i a e None t n v x
   unfolding four_of
@@ -42,21 +46,17 @@ module _ (c : Context) (d : Dialect) (p i a t n : Option Data) (v : Data) (x : V
   as_enum w = rw (or-false (json_eq w v)) refl
 
 module _ (c : Context) (d : Dialect) (ms : Members) (once : IsOnce (codes "const") ms) (v : Data) (x : Verdict) where
-  other : (o : Option Data) (k : Text) → bytes_eq k (codes "const") ≡ false → bytes_eq k (codes "enum") ≡ false
-      → get_member k (const_members o ms) ≡ get_member k ms
-  other o k const enum = get-other o k ms (differ k (codes "const") const) (differ k (codes "enum") enum)
-
   none-same : get_member (codes "const") ms ≡ None
       → four_by c (without_const d) (look_up (const_members None ms)) v x ≡ four_by c (with_const d) (look_up ms) v x
   none-same none =
       rw (
-        other None (codes "prefixItems") refl refl,
-        other None (codes "items") refl refl,
-        other None (codes "additionalItems") refl refl,
+        other None (codes "prefixItems") ms refl refl,
+        other None (codes "items") ms refl refl,
+        other None (codes "additionalItems") ms refl refl,
         without-other (codes "const") (codes "enum") ms (differ (codes "enum") (codes "const") refl),
         once,
-        other None (codes "type") refl refl,
-        other None (codes "nullable") refl refl,
+        other None (codes "type") ms refl refl,
+        other None (codes "nullable") ms refl refl,
         none,
       )
       (no_const c d (get_member (codes "prefixItems") ms) (get_member (codes "items") ms) (get_member (codes "additionalItems") ms)
@@ -66,15 +66,15 @@ module _ (c : Context) (d : Dialect) (ms : Members) (once : IsOnce (codes "const
       → four_by c (without_const d) (look_up (const_members (Some w) ms)) v x ≡ four_by c (with_const d) (look_up ms) v x
   some-same w const enum =
       rw (
-        other (Some w) (codes "prefixItems") refl refl,
-        other (Some w) (codes "items") refl refl,
-        other (Some w) (codes "additionalItems") refl refl,
+        other (Some w) (codes "prefixItems") ms refl refl,
+        other (Some w) (codes "items") ms refl refl,
+        other (Some w) (codes "additionalItems") ms refl refl,
         get_member-put (codes "enum") (array (item w no_items)) (without (codes "const") ms),
         get_member-put_other (codes "const") (codes "enum") (array (item w no_items)) (without (codes "const") ms)
             (differ (codes "const") (codes "enum") refl),
         once,
-        other (Some w) (codes "type") refl refl,
-        other (Some w) (codes "nullable") refl refl,
+        other (Some w) (codes "type") ms refl refl,
+        other (Some w) (codes "nullable") ms refl refl,
         const,
         enum,
       )
@@ -95,6 +95,9 @@ judge-const c d ms is alone = go (get_member (codes "const") ms) refl alone.1
         ap (judge c) (changed o ms)
         ∙ says-moved c (with_const d) (without_const d) ms (const_members o ms) is refl refl (inr alone.2)
         (λ k out. get-other o k ms (outside k (codes "const") out refl) (outside k (codes "enum") out refl)) same
+        (λ v n. placed-agree c (without_const d) (with_const d) (look_up (const_members o ms)) (look_up ms) v n refl
+        (other o (codes "prefixItems") ms refl refl) (other o (codes "items") ms refl refl) (other o (codes "additionalItems") ms refl refl)
+        (other o (codes "contains") ms refl refl))
 
     go : (o : Option Data) → get_member (codes "const") ms ≡ o
         → (get_member (codes "const") ms ≡ None) ⊎ (get_member (codes "enum") ms ≡ None)

@@ -12,16 +12,16 @@ use Rattle.schemars_text.proofs.Members.{differ}
 use Rattle.schemars_transform.specs.Built.{reference_moved, without_siblings, remove_ref_siblings, replace_prefix_items}
 use Rattle.schemars_transform.specs.Unevaluated.{unevaluated_as_additional, closed_by, replace_unevaluated_properties}
 use Rattle.schemars_laws.specs.Everywhere.{Everywhere, asked, asked_of_keywords}
-use Rattle.schemars_laws.specs.Names.{IsName, IsNamedBy, HasNameOf, Named, IsMap}
-use Rattle.schemars_laws.specs.Classes.{IsOnce, HasPlainItems, HasPlainReference, HasNoUnevaluated, IsDraft07, alone_by, without_unevaluated}
+use Rattle.schemars_laws.specs.Names.{IsName, IsNamedBy, HasNameOf, HasNoObjects, Named, IsMap}
+use Rattle.schemars_laws.specs.Classes.{IsOnce, of_draft2019_09, HasPlainItems, HasPlainReference, HasNoUnevaluated, IsDraft07, alone_by, without_unevaluated}
 use Rattle.schemars_laws.specs.Laws.{MovesAcceptance, for_draft07, for_draft2019_09}
 use Rattle.schemars_laws.proofs.Laws.{replace_unevaluated_properties-at, remove_ref_siblings-at, replace_prefix_items-at, other, none}
-use Rattle.schemars_laws.proofs.Looked.{change_rules, walked, items-walked, changed-document}
+use Rattle.schemars_laws.proofs.Looked.{change_rules, walked, raw-walked, items-walked, changed-document}
 use Rattle.schemars_laws.proofs.Siblings.{schema-siblings, definitions-stay as siblings-stay, moved_members, get-moved}
 use Rattle.schemars_laws.proofs.Editing.{alike-moved, asked-moved}
 use Rattle.schemars_laws.proofs.Unevaluated.{schema-unevaluated, none-kept, definitions-stay as unevaluated-stay}
 use Rattle.schemars_laws.proofs.Preserved.{Preserves, after, change-preserves, weaker, asked-without}
-use Rattle.schemars_laws.proofs.Plain.{named-walked, reference-walked, name-alike, reference-alike, items-alike, alike-without, unread-plain}
+use Rattle.schemars_laws.proofs.Plain.{named-walked, reference-walked, name-alike, reference-alike, items-alike, alike-without, none-at, unread-plain}
 
 -- ---- kinds of schema objects, at each step
 
@@ -57,7 +57,9 @@ after-unevaluated key =
           name-alike (IsName key) (without (codes "unevaluatedProperties") ns) ns
               (alike-without (codes "$ref") (codes "unevaluatedProperties") ns refl)
               (named-walked unevaluated_as_additional (IsName key) ms is.0),
-          unread-plain unevaluated_gone (without (codes "unevaluatedProperties") ns) refl,
+          unread-plain unevaluated_gone (without (codes "unevaluatedProperties") ns) refl
+              (subst HasNoObjects (sym ((alike-without (codes "dependencies") (codes "unevaluatedProperties") ns refl).first
+              ∙ none-at of_draft2019_09 (codes "dependencies") ns refl (none-kept ms is.2.0).2)) tt),
           (
             reference-alike (without (codes "unevaluatedProperties") ns) ns
                 (alike-without (codes "$ref") (codes "unevaluatedProperties") ns refl)
@@ -67,6 +69,7 @@ after-unevaluated key =
                 (alike-without (codes "prefixItems") (codes "unevaluatedProperties") ns refl)
                 (alike-without (codes "items") (codes "unevaluatedProperties") ns refl)
                 (alike-without (codes "additionalItems") (codes "unevaluatedProperties") ns refl)
+                (alike-without (codes "contains") (codes "unevaluatedProperties") ns refl)
                 (items-walked unevaluated_as_additional schema-unevaluated ms is.2.2),
           ),
         )
@@ -87,28 +90,34 @@ after-siblings key = change-preserves without_siblings (Second key) (Third key) 
     Q : Members → Type 0
     Q = Third key
 
+    Dependencies : Members → Type 0
+    Dependencies ns = HasNoObjects (get_member (codes "dependencies") ns)
+
     -- nothing is asked of `unevaluatedProperties`
-    third : (ns : Members) → HasNameOf (IsName key) ns → HasPlainItems ns → Q ns
-    third ns name items = (name, unread-plain siblings_passed ns refl, items)
+    third : (ns : Members) → HasNameOf (IsName key) ns → Dependencies ns → HasPlainItems ns → Q ns
+    third ns name plain items = (name, unread-plain siblings_passed ns refl plain, items)
 
     alone : (r : Data) (ns : Members) → get_member (codes "$ref") ns ≡ Some r → HasNameOf (IsName key) ns
         → Q (member (codes "$ref") r no_members)
     alone r ns here name =
-        third (member (codes "$ref") r no_members) (subst (λ o. IsNamedBy (IsName key) (option_and_then as_str o)) here name)
-        (refl, tt, tt, refl)
+        third (member (codes "$ref") r no_members) (subst (λ o. IsNamedBy (IsName key) (option_and_then as_str o)) here name) tt
+        (refl, tt, tt, refl, refl)
 
-    gone : (ns : Members) → IsOnce (codes "$ref") ns → HasPlainItems ns → Q (without (codes "$ref") ns)
-    gone ns once items =
+    gone : (ns : Members) → IsOnce (codes "$ref") ns → Dependencies ns → HasPlainItems ns → Q (without (codes "$ref") ns)
+    gone ns once plain items =
         third (without (codes "$ref") ns) (subst (λ o. IsNamedBy (IsName key) (option_and_then as_str o)) (sym once) tt)
+        (subst HasNoObjects (sym (alike-without (codes "dependencies") (codes "$ref") ns refl).first) plain)
         (items-alike (without (codes "$ref") ns) ns (alike-without (codes "prefixItems") (codes "$ref") ns refl)
-        (alike-without (codes "items") (codes "$ref") ns refl) (alike-without (codes "additionalItems") (codes "$ref") ns refl) items)
+        (alike-without (codes "items") (codes "$ref") ns refl) (alike-without (codes "additionalItems") (codes "$ref") ns refl)
+        (alike-without (codes "contains") (codes "$ref") ns refl) items)
 
-    moved : (r : Data) (ns : Members) → IsOnce (codes "$ref") ns → HasPlainItems ns → Q (moved_members r ns)
-    moved r ns once items =
+    moved : (r : Data) (ns : Members) → IsOnce (codes "$ref") ns → Dependencies ns → HasPlainItems ns → Q (moved_members r ns)
+    moved r ns once plain items =
         third (moved_members r ns) (subst (λ o. IsNamedBy (IsName key) (option_and_then as_str o))
         (sym (get-moved r ns (codes "$ref") (differ (codes "$ref") (codes "allOf") refl) ∙ once)) tt)
+        (subst HasNoObjects (sym (alike-moved r (codes "dependencies") ns refl refl).first) plain)
         (items-alike (moved_members r ns) ns (alike-moved r (codes "prefixItems") ns refl refl) (alike-moved r (codes "items") ns refl refl)
-        (alike-moved r (codes "additionalItems") ns refl refl) items)
+        (alike-moved r (codes "additionalItems") ns refl refl) (alike-moved r (codes "contains") ns refl refl) items)
 
     go : (ms : Members) → Second key ms → asked_of_keywords Q (walked without_siblings ms)
         → (asked Q (without_siblings (object (walked without_siblings ms)))).as_schema
@@ -123,14 +132,17 @@ after-siblings key = change-preserves without_siblings (Second key) (Third key) 
         plain : HasPlainReference ns
         plain = reference-walked without_siblings schema-siblings ms is.2.0
 
+        dependencies : Dependencies ns
+        dependencies = subst HasNoObjects (sym (raw-walked without_siblings (codes "dependencies") ms refl)) (is.1.1 refl)
+
         items : HasPlainItems ns
         items = items-walked without_siblings schema-siblings ms is.2.1
 
         each : (b : Bool) (o : Option Data) → get_member (codes "$ref") ns ≡ o
             → (asked Q (if b then object ns else reference_moved o (object (without (codes "$ref") ns)))).as_schema
-        each true o here = (third ns name items, a)
-        each false None here = (gone ns plain.0 items, asked-without Q (codes "$ref") ns a)
-        each false (Some r) here = (moved r ns plain.0 items, asked-moved Q r (alone r ns here name, (tt, tt)) ns a)
+        each true o here = (third ns name dependencies items, a)
+        each false None here = (gone ns plain.0 dependencies items, asked-without Q (codes "$ref") ns a)
+        each false (Some r) here = (moved r ns plain.0 dependencies items, asked-moved Q r (alone r ns here name, (tt, tt)) ns a)
 
 -- ---- whole documents
 

@@ -1,5 +1,5 @@
 -- A rewrite of every schema keeps what is said of values, where what it makes of one schema does.
-use Rattle.std.proofs.Common.{◌≡◌, ◌⊎◌, inl, inr, Option, Some, None, Bool, true, false, codes, option_map, refl, sym, ap, ◌∙◌, subst}
+use Rattle.std.proofs.Common.{◌≡◌, ◌⊎◌, inl, inr, Option, Some, None, Bool, true, false, codes, option_map, refl, sym, ap, ◌∙◌, subst, []}
 use Rattle.std.proofs.Math.Path.{fun_ext}
 use Rattle.std.proofs.lemmas.Slice.Eq.{bytes_eq-Decides}
 use Rattle.std.specs.Prelude.{bytes_eq, if◌then◌else◌, ◌&&◌}
@@ -8,12 +8,12 @@ use Rattle.serde_json.specs.Find.{get_member}
 use Rattle.schemars_schema.specs.Json.{Text}
 use Rattle.schemars_schema.specs.SchemaData.{IsSchema}
 use Rattle.schemars_schema.specs.References.{Place, NoSchemas, OneSchema, SchemaList, SchemaOrList, SchemasByName, place_under}
-use Rattle.schemars_schema.specs.Acceptance.{Context, Raw, Readings, Reading, judge, keywords, truth_value, all_named, read_data, read_items, read_members, reading_at}
+use Rattle.schemars_schema.specs.Acceptance.{Dialect, Context, Raw, Readings, Reading, reads_dependencies, judge, keywords, truth_value, all_named, some_named, read_data, read_items, read_members, reading_at}
 use Rattle.schemars_schema.proofs.Objects.{schema-judge, reading_at-members}
 use Rattle.schemars_walk.specs.Rewritten.{Rules, form_at, forms, in_items, in_names, in_keywords}
 use Rattle.schemars_walk.proofs.KeywordLaws.{keywords_get}
 use Rattle.schemars_laws.specs.Everywhere.{asked, demanded, asked_of_items, asked_of_members, asked_of_keywords}
-use Rattle.schemars_laws.specs.Names.{IsNoObject, HasPlainUnevaluated}
+use Rattle.schemars_laws.specs.Names.{IsNoObject, AreNoObjects, HasNoObjects, HasPlainUnevaluated}
 use Rattle.schemars_laws.proofs.Seen.{AgreeOn, seen, seen_under, place_read, at_no_schemas, unread_under, keywords-seen, keywords-unread, keywords-follow}
 
 abbrev pub IsTruth : Data → Type 0
@@ -46,7 +46,12 @@ module _ {R : Type 0} (ρ : Rules R) (before after : Context) (P : Members → T
   KeptList e d = (read_data after e).listed ≡ (read_data before d).listed
 
   abbrev KeptNames : Data → Data → Type 0
-  KeptNames e d = (read_data after e).named ≡ (read_data before d).named
+  KeptNames e d = ((read_data after e).named ≡ (read_data before d).named) × ((read_data after e).among ≡ (read_data before d).among)
+
+  by-name : (e d : Data) → KeptNames e d → seen SchemasByName (read_data after e) ≡ seen SchemasByName (read_data before d)
+  by-name e d kept =
+      ap (λ s. record { schema = None; listed = None; named = s; among = (read_data after e).among }) kept.0
+      ∙ ap (λ s. record { schema = None; listed = None; named = (read_data before d).named; among = s }) kept.1
 
   either-listed : (r : R) (d : Data) → KeptList (forms ρ r d).as_list d → KeptList (forms ρ r d).as_either d
   unfolding forms read_data
@@ -67,10 +72,19 @@ module _ {R : Type 0} (ρ : Rules R) (before after : Context) (P : Members → T
   unread (object ms) is = absurd is
   unread _ is = refl
 
-  unnamed : (d : Data) → IsNoObject (Some d) → KeptNames d d
+  unread-members : (ms : Members) → AreNoObjects ms
+      → (all_named (read_members after ms) ≡ all_named (read_members before ms))
+      × (some_named (read_members after ms) ≡ some_named (read_members before ms))
   unfolding read_data
-  unnamed (object ms) is = absurd is
-  unnamed _ is = refl
+  unread-members no_members are = (refl, refl)
+  unread-members (member k d ms) are =
+      let rest = unread-members ms are.1 in
+      (rw (unread d are.0, rest.0) refl, rw (unread d are.0, rest.1) refl)
+
+  unnamed : (d : Data) → HasNoObjects (Some d) → KeptNames d d
+  unfolding read_data
+  unnamed (object ms) are = unread-members ms are
+  unnamed _ is = (refl, refl)
 
   truth-read : (d : Data) → IsTruth d → read_data after d ≡ read_data before d
   unfolding read_data
@@ -82,13 +96,13 @@ module _ {R : Type 0} (ρ : Rules R) (before after : Context) (P : Members → T
       (names : (asked P d).by_name → KeptNames (forms ρ r d).by_name d) where
     at-place : (p : Place) → demanded p (asked P d) → seen p (read_data after (form_at p d (forms ρ r d))) ≡ seen p (read_data before d)
     at-place NoSchemas a = refl
-    at-place OneSchema a = ap (λ s. record { schema = s; listed = None; named = None }) (one a)
-    at-place SchemaList a = ap (λ s. record { schema = None; listed = s; named = None }) (list a)
+    at-place OneSchema a = ap (λ s. record { schema = s; listed = None; named = None; among = [] }) (one a)
+    at-place SchemaList a = ap (λ s. record { schema = None; listed = s; named = None; among = [] }) (list a)
     at-place SchemaOrList a =
-        ap (λ s. record { schema = s; listed = (read_data after (forms ρ r d).as_either).listed; named = None })
+        ap (λ s. record { schema = s; listed = (read_data after (forms ρ r d).as_either).listed; named = None; among = [] })
         (either-schema r d (one a.0))
-        ∙ ap (λ s. record { schema = (read_data before d).schema; listed = s; named = None }) (either-listed r d (list a.1))
-    at-place SchemasByName a = ap (λ s. record { schema = None; listed = None; named = s }) (names a)
+        ∙ ap (λ s. record { schema = (read_data before d).schema; listed = s; named = None; among = [] }) (either-listed r d (list a.1))
+    at-place SchemasByName a = by-name _ d (names a)
 
     at-key : (k : Text) → demanded (place_under k) (asked P d)
         → seen (place_under k) (read_data after (form_at (ρ.place r k d) d (forms ρ r d))) ≡ seen (place_under k) (read_data before d)
@@ -133,16 +147,16 @@ module _ {R : Type 0} (ρ : Rules R) (before after : Context) (P : Members → T
       go SchemaOrList is = refl
       go SchemasByName is = refl
 
-  -- what is no object, under a keyword that a walk does not lead to, is read alike
-  plain-read : (r : R) (ms : Members) (k : Text) (p : Place) → place_under k ≡ NoSchemas
-      → ((d : Data) → IsNoObject (Some d) → seen p (read_data after d) ≡ seen p (read_data before d)) → IsNoObject (get_member k ms)
+  -- what has no schema objects, under a keyword that a walk does not lead to, is read alike
+  plain-read : (Plain : Option Data → Type 0) (r : R) (ms : Members) (k : Text) (p : Place) → place_under k ≡ NoSchemas
+      → ((d : Data) → Plain (Some d) → seen p (read_data after d) ≡ seen p (read_data before d)) → Plain (get_member k ms)
       → option_map (seen p) (reading_at (read_members after (in_keywords ρ r ms)) k)
       ≡ option_map (seen p) (reading_at (read_members before ms) k)
-  plain-read r ms k p none same plain =
+  plain-read Plain r ms k p none same plain =
       ap (option_map (seen p)) (reading_at-members after (in_keywords ρ r ms) k ∙ ap (option_map (read_data after)) (raw-kept r ms k none))
       ∙ (go (get_member k ms) plain ∙ sym (ap (option_map (seen p)) (reading_at-members before ms k)))
     where
-      go : (o : Option Data) → IsNoObject o
+      go : (o : Option Data) → Plain o
           → option_map (seen p) (option_map (read_data after) o) ≡ option_map (seen p) (option_map (read_data before) o)
       go None is = refl
       go (Some d) is = ap Some (same d is)
@@ -151,30 +165,41 @@ module _ {R : Type 0} (ρ : Rules R) (before after : Context) (P : Members → T
       → ((k : Text) → option_map (seen (place_under k)) (reading_at (read_members after (in_keywords ρ r ms)) k)
       ≡ option_map (seen (place_under k)) (reading_at (read_members before ms) k))
       → (k : Text)
-      → option_map (seen (place_read before.dialect.reads_unevaluated k)) (reading_at (read_members after (in_keywords ρ r ms)) k)
-      ≡ option_map (seen (place_read before.dialect.reads_unevaluated k)) (reading_at (read_members before ms) k)
+      → option_map (seen (place_read before.dialect k)) (reading_at (read_members after (in_keywords ρ r ms)) k)
+      ≡ option_map (seen (place_read before.dialect k)) (reading_at (read_members before ms) k)
   read-kept r ms p same k =
-      go (bytes_eq k (codes "unevaluatedProperties")) (bytes_eq k (codes "dependentSchemas")) before.dialect.reads_unevaluated refl refl refl
+      one (codes "unevaluatedProperties") _ refl (λ reads. ((h.unevaluated ms p).0 reads).0)
+      (one (codes "unevaluatedItems") _ refl (λ reads. ((h.unevaluated ms p).0 reads).1)
+      (named (codes "dependentSchemas") _ before.dialect.reads_unevaluated refl (λ reads. ((h.unevaluated ms p).0 reads).2)
+      (named (codes "dependencies") _ (reads_dependencies before.dialect) refl (h.unevaluated ms p).1 (same k))))
     where
       Alike : Text → Place → Type 0
-      Alike l p = option_map (seen p) (reading_at (read_members after (in_keywords ρ r ms)) l)
-          ≡ option_map (seen p) (reading_at (read_members before ms) l)
+      Alike l q = option_map (seen q) (reading_at (read_members after (in_keywords ρ r ms)) l)
+          ≡ option_map (seen q) (reading_at (read_members before ms) l)
 
-      go : (b e reads : Bool) → bytes_eq k (codes "unevaluatedProperties") ≡ b → bytes_eq k (codes "dependentSchemas") ≡ e
-          → before.dialect.reads_unevaluated ≡ reads
-          → Alike k (if b && reads then OneSchema else if e && reads then SchemasByName else place_under k)
-      go true e true is at reads =
-          subst (λ l. Alike l OneSchema) (sym ((bytes_eq-Decides k (codes "unevaluatedProperties")).0 is))
-          (plain-read r ms (codes "unevaluatedProperties") OneSchema refl
-          (λ d plain. ap (λ s. record { schema = s; listed = None; named = None }) (unread d plain)) (h.unevaluated ms p reads).0)
-      go false true true is at reads =
-          subst (λ l. Alike l SchemasByName) (sym ((bytes_eq-Decides k (codes "dependentSchemas")).0 at))
-          (plain-read r ms (codes "dependentSchemas") SchemasByName refl
-          (λ d plain. ap (λ s. record { schema = None; listed = None; named = s }) (unnamed d plain)) (h.unevaluated ms p reads).1)
-      go false false reads is at unread = same k
-      go true true false is at reads = same k
-      go true false false is at reads = same k
-      go false true false is at reads = same k
+      -- at a keyword that is read so, and at others
+      chosen : (l : Text) (q others : Place) (reads : Bool) → (reads ≡ true → Alike l q) → Alike k others
+          → Alike k (if bytes_eq k l && reads then q else others)
+      chosen l q others reads here other = go (bytes_eq k l) reads refl here
+        where
+          go : (b reads : Bool) → bytes_eq k l ≡ b → (reads ≡ true → Alike l q) → Alike k (if b && reads then q else others)
+          go true true is here = subst (λ x. Alike x q) (sym ((bytes_eq-Decides k l).0 is)) (here refl)
+          go true false is here = other
+          go false reads is here = other
+
+      one : (l : Text) (others : Place) → place_under l ≡ NoSchemas
+          → (before.dialect.reads_unevaluated ≡ true → IsNoObject (get_member l ms))
+          → Alike k others → Alike k (if bytes_eq k l && before.dialect.reads_unevaluated then OneSchema else others)
+      one l others none plain other =
+          chosen l OneSchema others before.dialect.reads_unevaluated
+          (λ reads. plain-read IsNoObject r ms l OneSchema none
+          (λ d is. ap (λ s. record { schema = s; listed = None; named = None; among = [] }) (unread d is)) (plain reads)) other
+
+      named : (l : Text) (others : Place) (reads : Bool) → place_under l ≡ NoSchemas → (reads ≡ true → HasNoObjects (get_member l ms))
+          → Alike k others → Alike k (if bytes_eq k l && reads then SchemasByName else others)
+      named l others reads none plain other =
+          chosen l SchemasByName others reads
+          (λ is. plain-read HasNoObjects r ms l SchemasByName none (λ d are. by-name d d (unnamed d are)) (plain is)) other
 
   said : (r : R) (ms : Members) → P ms
       → ((k : Text) → option_map (seen (place_under k)) (reading_at (read_members after (in_keywords ρ r ms)) k)
@@ -184,16 +209,16 @@ module _ {R : Type 0} (ρ : Rules R) (before after : Context) (P : Members → T
       ≡ keywords before (λ k. get_member k ms) (reading_at (read_members before ms))
   said r ms a same =
       let c : Context = record before { follow = after.follow } in
-      let reads : Bool = before.dialect.reads_unevaluated in
+      let d : Dialect = before.dialect in
       let raw : Raw = λ k. get_member k ms in
       let new : Raw = λ k. get_member k (in_keywords ρ r ms) in
       let read : Readings = reading_at (read_members before ms) in
       let reread : Readings = reading_at (read_members after (in_keywords ρ r ms)) in
       sym (keywords-seen c new reread)
-      ∙ (sym (keywords-unread c new (seen_under reads reread))
-      ∙ (ap (λ g. keywords c g (seen_under reads reread)) (fun_ext (raw-same r ms))
+      ∙ (sym (keywords-unread c new (seen_under d reread))
+      ∙ (ap (λ g. keywords c g (seen_under d reread)) (fun_ext (raw-same r ms))
       ∙ (ap (keywords c (unread_under raw)) (fun_ext (read-kept r ms a same))
-      ∙ (keywords-unread c raw (seen_under reads read)
+      ∙ (keywords-unread c raw (seen_under d read)
       ∙ (keywords-seen c raw read
       ∙ keywords-follow before after.follow raw read (h.reference ms a))))))
 
@@ -215,16 +240,18 @@ module _ {R : Type 0} (ρ : Rules R) (before after : Context) (P : Members → T
 
     names : (r : R) (d : Data) → (asked P d).by_name → KeptNames (forms ρ r d).by_name d
     names r (object ms) a = members r ms a
-    names r _ a = refl
+    names r _ a = (refl, refl)
 
     items : (r : R) (ds : Items) → asked_of_items P ds → read_items after (in_items ρ r ds) ≡ read_items before ds
     items r no_items a = refl
     items r (item d ds) a = rw (one r d a.0, items r ds a.1) refl
 
     members : (r : R) (ms : Members) → asked_of_members P ms
-        → all_named (read_members after (in_names ρ r ms)) ≡ all_named (read_members before ms)
-    members r no_members a = refl
-    members r (member k d ms) a = rw (one r d a.0, members r ms a.1) refl
+        → (all_named (read_members after (in_names ρ r ms)) ≡ all_named (read_members before ms))
+        × (some_named (read_members after (in_names ρ r ms)) ≡ some_named (read_members before ms))
+    members r no_members a = (refl, refl)
+    members r (member k d ms) a =
+        (rw (one r d a.0, (members r ms a.1).0) refl, rw (one r d a.0, (members r ms a.1).1) refl)
 
     under : (r : R) (ms : Members) → asked_of_keywords P ms → (k : Text)
         → option_map (seen (place_under k)) (reading_at (read_members after (in_keywords ρ r ms)) k)

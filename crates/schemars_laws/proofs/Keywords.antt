@@ -6,7 +6,7 @@ use Rattle.serde_json.specs.Data.{Data}
 use Rattle.schemars_schema.specs.Json.{Text}
 use Rattle.schemars_text.specs.OrderedText.{is_listed}
 use Rattle.schemars_schema.specs.Verdict.{Verdict, all_of, any_of, one_of}
-use Rattle.schemars_schema.specs.Acceptance.{Context, Raw, Readings, all_keywords, items_say, judged_beside, is_covered, reference_says, type_says, const_says, enum_says, minimum_says, maximum_says, exclusive_minimum_says, exclusive_maximum_says, min_length_says, max_length_says, pattern_says, min_items_says, max_items_says, unique_items_says, contains_says, min_properties_says, max_properties_says, required_says, dependent_required_says, property_names_say, properties_say, pattern_properties_say, additional_properties_say, each_says, not_says, condition_says, dependent_schemas_say, unevaluated_properties_say}
+use Rattle.schemars_schema.specs.Acceptance.{Context, Raw, Readings, Part, key, position, reads_dependencies, all_keywords, multiple_of_says, dependencies_say, unevaluated_items_say, items_say, judged_beside, is_covered, reference_says, type_says, const_says, enum_says, minimum_says, maximum_says, exclusive_minimum_says, exclusive_maximum_says, min_length_says, max_length_says, pattern_says, min_items_says, max_items_says, unique_items_says, contains_says, min_properties_says, max_properties_says, required_says, dependent_required_says, property_names_say, properties_say, pattern_properties_say, additional_properties_say, each_says, not_says, condition_says, dependent_schemas_say, unevaluated_properties_say}
 
 -- about numbers and texts, and about lists as wholes
 abbrev pub counts_say : Context → Raw → Data → List Verdict
@@ -15,6 +15,7 @@ counts_say c raw v =
     ∷ maximum_says (raw (codes "maximum")) v
     ∷ exclusive_minimum_says c.dialect.reads_const (raw (codes "exclusiveMinimum")) (raw (codes "minimum")) v
     ∷ exclusive_maximum_says c.dialect.reads_const (raw (codes "exclusiveMaximum")) (raw (codes "maximum")) v
+    ∷ multiple_of_says (raw (codes "multipleOf")) v
     ∷ min_length_says (raw (codes "minLength")) v
     ∷ max_length_says (raw (codes "maxLength")) v
     ∷ pattern_says c.patterns (raw (codes "pattern")) v
@@ -23,45 +24,76 @@ counts_say c raw v =
     ∷ unique_items_says (raw (codes "uniqueItems")) v
     ∷ []
 
--- about an item among others, and about members
-abbrev pub members_say : Context → Raw → Readings → Data → List Verdict
-members_say c raw read v =
-    contains_says c.dialect.reads_const c.dialect.reads_unevaluated (read (codes "contains")) (raw (codes "minContains"))
-    (raw (codes "maxContains")) v
-    ∷ min_properties_says (raw (codes "minProperties")) v
+-- and about types and values
+abbrev pub values_say : Context → Raw → Data → List Verdict
+values_say c raw v =
+    type_says c.dialect.reads_nullable (raw (codes "type")) (raw (codes "nullable")) v
+    ∷ const_says c.dialect.reads_const (raw (codes "const")) v
+    ∷ enum_says (raw (codes "enum")) v
+    ∷ counts_say c raw v
+
+-- about keys
+abbrev pub keys_say : Context → Raw → Data → List Verdict
+keys_say c raw v =
+    min_properties_says (raw (codes "minProperties")) v
     ∷ max_properties_says (raw (codes "maxProperties")) v
     ∷ required_says (raw (codes "required")) v
     ∷ dependent_required_says c.dialect.reads_unevaluated (raw (codes "dependentRequired")) v
-    ∷ property_names_say c.dialect.reads_const (read (codes "propertyNames")) v
+    ∷ []
+
+-- with schemas for members
+abbrev pub schemas_say : Context → Readings → Data → List Verdict
+schemas_say c read v =
+    property_names_say c.dialect.reads_const (read (codes "propertyNames")) v
     ∷ properties_say (read (codes "properties")) v
     ∷ pattern_properties_say c.patterns (read (codes "patternProperties")) v
     ∷ additional_properties_say (is_covered c.patterns (read (codes "properties")) (read (codes "patternProperties")))
     (read (codes "additionalProperties")) v
     ∷ []
 
--- after `allOf`, where these members are judged
-abbrev pub last_say : Context → Readings → (Text → Bool) → Data → List Verdict
-last_say c read judged v =
+-- about an item among others, and about members
+abbrev pub members_say : Context → Raw → Readings → Data → List Verdict
+members_say c raw read v =
+    contains_says c.dialect.reads_const c.dialect.reads_unevaluated (read (codes "contains")) (raw (codes "minContains"))
+    (raw (codes "maxContains")) v
+    ∷ keys_say c raw v
+    ++ schemas_say c read v
+
+-- before `allOf`
+abbrev pub before_say : Context → Raw → Readings → Data → List Verdict
+before_say c raw read v =
+    values_say c raw v
+    ++ items_say c.dialect.reads_prefix_items (read (codes "prefixItems")) (read (codes "items")) (read (codes "additionalItems")) v
+    ∷ members_say c raw read v
+
+-- after `allOf`, with schemas of the same value
+abbrev pub joined_say : Context → Raw → Readings → Data → List Verdict
+joined_say c raw read v =
     each_says any_of (read (codes "anyOf")) v
     ∷ each_says one_of (read (codes "oneOf")) v
     ∷ not_says (read (codes "not")) v
     ∷ condition_says c.dialect.reads_const (read (codes "if")) (read (codes "then")) (read (codes "else")) v
     ∷ dependent_schemas_say c.dialect.reads_unevaluated (read (codes "dependentSchemas")) v
-    ∷ unevaluated_properties_say c.dialect.reads_unevaluated judged (read (codes "unevaluatedProperties")) v
+    ∷ dependencies_say (reads_dependencies c.dialect) (raw (codes "dependencies")) (read (codes "dependencies")) v
     ∷ []
+
+-- about what is left where these parts are judged
+abbrev pub left_say : Context → Readings → (Part → Bool) → Data → List Verdict
+left_say c read judged v =
+    unevaluated_items_say c.dialect.reads_unevaluated (λ n. judged (position n)) (read (codes "unevaluatedItems")) v
+    ∷ unevaluated_properties_say c.dialect.reads_unevaluated (λ k. judged (key k)) (read (codes "unevaluatedProperties")) v
+    ∷ []
+
+abbrev pub last_say : Context → Raw → Readings → (Part → Bool) → Data → List Verdict
+last_say c raw read judged v = joined_say c raw read v ++ left_say c read judged v
 
 -- all, in order
 abbrev pub all_say : Context → Raw → Readings → Data → List Verdict
 all_say c raw read v =
     reference_says c.follow (raw (codes "$ref")) v
-    ∷ type_says c.dialect.reads_nullable (raw (codes "type")) (raw (codes "nullable")) v
-    ∷ const_says c.dialect.reads_const (raw (codes "const")) v
-    ∷ enum_says (raw (codes "enum")) v
-    ∷ counts_say c raw v
-    ++ items_say c.dialect.reads_prefix_items (read (codes "prefixItems")) (read (codes "items")) (read (codes "additionalItems")) v
-    ∷ members_say c raw read v
+    ∷ before_say c raw read v
     ++ each_says all_of (read (codes "allOf")) v
-    ∷ last_say c read (judged_beside c raw read v) v
+    ∷ last_say c raw read (judged_beside c raw read v) v
 
 pub fits-all : (c : Context) (raw : Raw) (read : Readings) (v : Data) → (all_keywords c raw read).fits v ≡ all_of (all_say c raw read v)
 unfolding all_keywords

@@ -16,7 +16,7 @@ use Rattle.schemars_builders.proofs.NullKeywords.{null-json_eq}
 use Rattle.schemars_transform.specs.Nullable.{all_null, nulls_in, type_without_null, null_taken_out, nullable_by, with_nullable}
 use Rattle.schemars_laws.specs.Classes.{IsTypes, is_null_alone, HasPlainType, plain_nullable, with_nullable_read, without_nullable_read}
 use Rattle.schemars_laws.proofs.Looked.{without-other, walked, raw-walked, Change}
-use Rattle.schemars_laws.proofs.Apart.{four_of, four_by, look_up, says-moved, outside}
+use Rattle.schemars_laws.proofs.Apart.{four_of, four_by, look_up, says-moved, placed-agree, outside}
 use Rattle.schemars_laws.proofs.Siblings.{replaced-other}
 use Rattle.schemars_laws.proofs.TypeNames.{text-missing, list-missing, text-alone, list-alone, list-among}
 
@@ -138,6 +138,7 @@ module _ (c : Context) (d : Dialect) (ms : Members) (is : c.dialect ≡ with_nul
       (λ v x. rw none
       (four-missing c d (get_member (codes "prefixItems") ms) (get_member (codes "items") ms) (get_member (codes "additionalItems") ms)
       (get_member (codes "enum") ms) v x (get_member (codes "const") ms) (get_member (codes "type") ms) (type v)))
+      (λ v n. placed-agree c (with_nullable_read d) (without_nullable_read d) (look_up ms) (look_up ms) v n refl refl refl refl refl)
 
   judge-alone : get_member (codes "const") ms ≡ None
       → ((v : Data) → type_says false (get_member (codes "type") ms) None v ≡ verdict (is_null v)) → Says (alone_members ms)
@@ -146,6 +147,9 @@ module _ (c : Context) (d : Dialect) (ms : Members) (is : c.dialect ≡ with_nul
       (λ k out. alone-other k ms (outside k (codes "type") out refl) (outside k (codes "const") out refl)
       (outside k (codes "nullable") out refl))
       same
+      (λ v n. placed-agree c (with_nullable_read d) (without_nullable_read d) (look_up (alone_members ms)) (look_up ms) v n refl
+      (other (codes "prefixItems") refl refl refl) (other (codes "items") refl refl refl) (other (codes "additionalItems") refl refl refl)
+      (other (codes "contains") refl refl refl))
     where
       other : (k : Text) → bytes_eq k (codes "type") ≡ false → bytes_eq k (codes "const") ≡ false → bytes_eq k (codes "nullable") ≡ false
           → get_member k (alone_members ms) ≡ get_member k ms
@@ -173,6 +177,9 @@ module _ (c : Context) (d : Dialect) (ms : Members) (is : c.dialect ≡ with_nul
   judge-among t here type =
       says-moved c (without_nullable_read d) (with_nullable_read d) ms (among_members t ms) is refl refl (inl refl)
       (λ k out. among-other t k ms (outside k (codes "type") out refl) (outside k (codes "nullable") out refl)) same
+      (λ v n. placed-agree c (with_nullable_read d) (without_nullable_read d) (look_up (among_members t ms)) (look_up ms) v n refl
+      (other (codes "prefixItems") refl refl) (other (codes "items") refl refl) (other (codes "additionalItems") refl refl)
+      (other (codes "contains") refl refl))
     where
       other : (k : Text) → bytes_eq k (codes "type") ≡ false → bytes_eq k (codes "nullable") ≡ false
           → get_member k (among_members t ms) ≡ get_member k ms

@@ -1,5 +1,5 @@
 -- The kinds of schema objects that laws speak of are kept by a walk, and by changes of other keywords.
-use Rattle.std.proofs.Common.{◌≡◌, ◌≢◌, List, [], ◌∷◌, Some, Bool, true, false, codes, refl, sym, ap, ◌∙◌, subst, true≢false}
+use Rattle.std.proofs.Common.{◌≡◌, ◌≢◌, List, [], ◌∷◌, None, Some, Bool, true, false, codes, refl, sym, ap, ◌∙◌, subst, true≢false}
 use Rattle.std.proofs.lemmas.Slice.Eq.{bytes_eq-Decides}
 use Rattle.std.proofs.Math.Bool.{or-true}
 use Rattle.std.specs.Prelude.{bytes_eq, ◌||◌, if◌then◌else◌, option_and_then}
@@ -10,21 +10,56 @@ use Rattle.schemars_text.specs.OrderedText.{is_listed}
 use Rattle.schemars_schema.specs.SchemaData.{IsSchema}
 use Rattle.schemars_schema.specs.Edits.{without}
 use Rattle.schemars_schema.specs.References.{NoSchemas, place_under}
-use Rattle.schemars_schema.specs.Acceptance.{Dialect}
+use Rattle.schemars_schema.specs.Acceptance.{Dialect, reads_dependencies}
 use Rattle.schemars_text.proofs.Members.{differ, get_member-member, unequal}
 use Rattle.schemars_walk.specs.Rewritten.{Rules, in_keywords}
-use Rattle.schemars_laws.specs.Names.{IsNamedBy, HasNameOf, IsNoObject, HasPlainUnevaluated}
-use Rattle.schemars_laws.specs.Classes.{HasNone, IsText, IsSchemaList, IsNoList, HasPlainItems, HasPlainReference, HasNoUnevaluated}
+use Rattle.schemars_laws.specs.Names.{IsNamedBy, HasNameOf, IsNoObject, HasNoObjects, HasPlainUnevaluated}
+use Rattle.schemars_laws.specs.Classes.{HasNone, of_draft06, of_draft2019_09, IsConstAlone, IsText, IsSchemaList, IsNoList, HasPlainItems, HasPlainReference, HasNoUnevaluated}
 use Rattle.schemars_laws.proofs.Walking.{without-walked, raw-walked as raw-walked_by}
 use Rattle.schemars_laws.proofs.Looked.{without-other, walked, raw-walked, once-walked, list-walked}
 
--- ---- no `unevaluatedProperties` and `dependentSchemas`, or none that are read
+-- ---- keywords that a walk does not lead to: they are not there, or not read
+
+-- one of these keywords
+pub none-at : (ks : List Text) (k : Text) (ms : Members) → is_listed k ks ≡ true → HasNone ks ms → get_member k ms ≡ None
+none-at [] k ms there none = absurd (true≢false (sym there))
+none-at (l ∷ ls) k ms there none = go (bytes_eq k l) refl there (λ later. none-at ls k ms later none.1)
+  where
+    go : (b : Bool) → bytes_eq k l ≡ b → b || is_listed k ls ≡ true → (is_listed k ls ≡ true → get_member k ms ≡ None)
+        → get_member k ms ≡ None
+    go true same there later = ap (λ x. get_member x ms) ((bytes_eq-Decides k l).0 same) ∙ none.0
+    go false same there later = later there
+
+pub all-none : (ks : List Text) (ms : Members) → ((k : Text) → is_listed k ks ≡ true → get_member k ms ≡ None) → HasNone ks ms
+all-none [] ms none = tt
+all-none (k ∷ ks) ms none = (
+  none k (ap (λ b. b || is_listed k ks) ((bytes_eq-Decides k k).1 refl)),
+  all-none ks ms (λ l there. none l (ap (λ b. bytes_eq l k || b) there ∙ or-true (bytes_eq l k))),
+)
 
 pub none-plain : (d : Dialect) (ms : Members) → HasNoUnevaluated ms → HasPlainUnevaluated d ms
-none-plain d ms none reads = (subst IsNoObject (sym none.1) tt, subst IsNoObject (sym none.2.1.1.1.0) tt)
+none-plain d ms none = (
+  λ reads. (
+    subst IsNoObject (sym none.1) tt,
+    subst IsNoObject (sym (gone (codes "unevaluatedItems") refl)) tt,
+    subst HasNoObjects (sym (gone (codes "dependentSchemas") refl)) tt,
+  ),
+  λ reads. subst HasNoObjects (sym (gone (codes "dependencies") refl)) tt,
+)
+  where
+    gone : (k : Text) → is_listed k of_draft2019_09 ≡ true → get_member k ms ≡ None
+    gone k there = none-at of_draft2019_09 k ms there none.2
 
-pub unread-plain : (d : Dialect) (ms : Members) → d.reads_unevaluated ≡ false → HasPlainUnevaluated d ms
-unread-plain d ms unread reads = absurd (true≢false (sym reads ∙ unread))
+pub unread-plain : (d : Dialect) (ms : Members) → d.reads_unevaluated ≡ false → HasNoObjects (get_member (codes "dependencies") ms)
+    → HasPlainUnevaluated d ms
+unread-plain d ms unread plain = (λ reads. absurd (true≢false (sym reads ∙ unread)), λ reads. plain)
+
+pub const-plain : (d : Dialect) (ms : Members) → d.reads_unevaluated ≡ false → IsConstAlone ms → HasPlainUnevaluated d ms
+const-plain d ms unread alone =
+    unread-plain d ms unread (subst HasNoObjects (sym (none-at of_draft06 (codes "dependencies") ms refl alone.2)) tt)
+
+pub neither-plain : (d : Dialect) (ms : Members) → d.reads_unevaluated ≡ false → reads_dependencies d ≡ false → HasPlainUnevaluated d ms
+neither-plain d ms unread none = (λ reads. absurd (true≢false (sym reads ∙ unread)), λ reads. absurd (true≢false (sym reads ∙ none)))
 
 -- ---- by a walk
 
@@ -54,10 +89,15 @@ pub reference-alike : (ns ms : Members) → Alike (codes "$ref") ns ms → Alike
 reference-alike ns ms a b plain = (a.others ∙ plain.0, subst IsText (sym a.first) plain.1, subst IsSchemaList (sym b.first) plain.2)
 
 pub items-alike : (ns ms : Members) → Alike (codes "prefixItems") ns ms → Alike (codes "items") ns ms
-    → Alike (codes "additionalItems") ns ms
+    → Alike (codes "additionalItems") ns ms → Alike (codes "contains") ns ms
     → HasPlainItems ms → HasPlainItems ns
-items-alike ns ms a b c plain =
-    (a.others ∙ plain.0, subst IsSchemaList (sym a.first) plain.1, subst IsNoList (sym b.first) plain.2, c.first ∙ plain.3)
+items-alike ns ms a b c d plain = (
+  a.others ∙ plain.0,
+  subst IsSchemaList (sym a.first) plain.1,
+  subst IsNoList (sym b.first) plain.2,
+  c.first ∙ plain.3,
+  d.first ∙ plain.4,
+)
 
 pub without-swap : (k l : Text) (ms : Members) → k ≢ l → get_member k (without k (without l ms)) ≡ get_member k (without k ms)
 without-swap k l no_members apart = refl
@@ -85,11 +125,7 @@ unlisted k l ks there out = unequal k l (λ same. true≢false (sym there ∙ (a
 -- none of these keywords is there, where look-ups of them agree
 pub none-alike : (ks : List Text) (ns ms : Members) → ((k : Text) → is_listed k ks ≡ true → get_member k ns ≡ get_member k ms)
     → HasNone ks ms → HasNone ks ns
-none-alike [] ns ms agree none = tt
-none-alike (k ∷ ks) ns ms agree none = (
-  agree k (ap (λ b. b || is_listed k ks) ((bytes_eq-Decides k k).1 refl)) ∙ none.0,
-  none-alike ks ns ms (λ l there. agree l (ap (λ b. bytes_eq l k || b) there ∙ or-true (bytes_eq l k))) none.1,
-)
+none-alike ks ns ms agree none = all-none ks ns (λ k there. agree k there ∙ none-at ks k ms there none)
 
 -- keywords without schemas that a walk goes down under
 pub alike-walked : {R : Type 0} (ρ : Rules R) (Enters : Text → Type 0)

@@ -1,6 +1,7 @@
 -- A list under `items` in place of `prefixItems`, for readers that judge by position under `items`.
-use Rattle.std.proofs.Common.{◌≡◌, ◌≢◌, inl, List, [], ◌∷◌, Option, Some, None, Bool, true, false, codes, option_map, refl, sym, ap, ◌∙◌, subst}
-use Rattle.std.specs.Prelude.{bytes_eq}
+use Rattle.std.proofs.Common.{◌≡◌, ◌≢◌, ℕ, inl, List, [], ◌∷◌, Option, Some, None, Bool, true, false, codes, option_map, refl, sym, ap, ◌∙◌, subst}
+use Rattle.std.proofs.Math.Bool.{or-false}
+use Rattle.std.specs.Prelude.{bytes_eq, nat_lt, length, ◌||◌}
 use Rattle.serde_json.specs.Data.{Data, null, boolean, number, string, array, object, Items, no_items, item, Members, put}
 use Rattle.serde_json.specs.Find.{get_member, as_array}
 use Rattle.serde_json.proofs.Views.{get_member-put, get_member-put_other}
@@ -8,7 +9,7 @@ use Rattle.schemars_schema.specs.Json.{Text}
 use Rattle.schemars_schema.specs.SchemaData.{IsSchema}
 use Rattle.schemars_schema.specs.Edits.{without}
 use Rattle.schemars_schema.specs.Verdict.{Verdict}
-use Rattle.schemars_schema.specs.Acceptance.{Dialect, Context, Judge, judge, keywords, truth_value, read_data, read_items, read_members, reading_at, items_say}
+use Rattle.schemars_schema.specs.Acceptance.{Dialect, Context, Judge, judge, keywords, truth_value, read_data, read_items, read_members, reading_at, items_say, judged_by_items, has_schema}
 use Rattle.schemars_schema.proofs.Objects.{schema-judge}
 use Rattle.schemars_transform.specs.Built.{prefix_as_items, prefix_moved, old_items_moved}
 use Rattle.schemars_laws.specs.Classes.{IsOnce, AreSchemas, IsSchemaList, IsNoList, HasPlainItems, by_items, by_prefix_items}
@@ -16,7 +17,7 @@ use Rattle.schemars_schema.proofs.Verdicts.{both-yes}
 use Rattle.schemars_schema.proofs.Silent.{silent}
 use Rattle.schemars_text.proofs.Members.{differ}
 use Rattle.schemars_laws.proofs.Looked.{without-other, walked, none-walked, once-walked, list-walked, no_list-walked, Change}
-use Rattle.schemars_laws.proofs.Apart.{four_of, four_by, look_up, says-moved, outside}
+use Rattle.schemars_laws.proofs.Apart.{four_of, four_by, placed_of, placed_in, look_up, says-moved, outside}
 
 -- ---- what the keywords for items say
 
@@ -51,6 +52,23 @@ list-before : (c : Context) (ds : Items) (d v : Data) → AreSchemas ds
     → items_by c false None (Some (array ds)) (Some d) v ≡ items_by c true (Some (array ds)) (Some d) None v
 unfolding read_data
 list-before c ds d v are = let list = some-list c ds are in rw (list.1, silent (as_array v)) refl
+
+-- ---- which items they judge
+
+abbrev places_by : Context → Bool → Option Data → Option Data → Option Data → ℕ → Bool
+places_by c b p i a n = judged_by_items b (option_map (read_data c) p) (option_map (read_data c) i) (option_map (read_data c) a) n
+
+items-places : (c : Context) (i : Option Data) (n : ℕ) → IsNoList i → places_by c false None i None n ≡ places_by c true None i None n
+items-places c None n is = refl
+items-places c (Some d) n is = rw (no-list c d is) (or-false (has_schema (Some (read_data c d))))
+
+-- a list, and what stands behind it
+list-places : (c : Context) (ds : Items) (i : Option Data) (n : ℕ) → AreSchemas ds
+    → places_by c false None (Some (array ds)) i n ≡ places_by c true (Some (array ds)) i None n
+unfolding read_data
+list-places c ds i n are =
+    let list = some-list c ds are in
+    rw list.1 (ap (λ b. b || has_schema (option_map (read_data c) i)) (sym (or-false (nat_lt n (length list.0)))))
 
 -- ---- the members of one schema
 
@@ -143,6 +161,21 @@ items-same c (Some (number n)) i v list plain = absurd list
 items-same c (Some (string s)) i v list plain = absurd list
 items-same c (Some (object ms)) i v list plain = absurd list
 
+places-same : (c : Context) (p i : Option Data) (n : ℕ) → IsSchemaList p → IsNoList i
+    → places_by c false None (items_of p i) (additional_of p i) n ≡ places_by c true p i None n
+places-same c None i n list plain = items-places c i n plain
+places-same c (Some (array ds)) i n list plain = list-places c ds i n list
+places-same c (Some null) i n list plain = absurd list
+places-same c (Some (boolean b)) i n list plain = absurd list
+places-same c (Some (number x)) i n list plain = absurd list
+places-same c (Some (string s)) i n list plain = absurd list
+places-same c (Some (object ms)) i n list plain = absurd list
+
+placed-same : (c : Context) (d : Dialect) (p i : Option Data) (v : Data) (n : ℕ) → IsSchemaList p → IsNoList i
+    → placed_of c (by_items d) None (items_of p i) (additional_of p i) None v n ≡ placed_of c (by_prefix_items d) p i None None v n
+unfolding placed_of
+placed-same c d p i v n list plain = rw (places-same c p i n list plain) refl
+
 four-same : (c : Context) (d : Dialect) (p i e k t n : Option Data) (v : Data) (x : Verdict) → IsSchemaList p → IsNoList i
     → four_of c (by_items d) None (items_of p i) (additional_of p i) e k t n v x ≡ four_of c (by_prefix_items d) p i None e k t n v x
 unfolding four_of
@@ -159,7 +192,7 @@ judge-prefix c d ms is plain =
     ∙ says-moved c (by_prefix_items d) (by_items d) ms new is refl refl (inl refl)
     (λ k out. get-other p i k ms (outside k (codes "prefixItems") out refl) (outside k (codes "items") out refl)
     (outside k (codes "additionalItems") out refl))
-    same
+    same place
   where
     other : (k : Text) → bytes_eq k (codes "prefixItems") ≡ false → bytes_eq k (codes "items") ≡ false
         → bytes_eq k (codes "additionalItems") ≡ false
@@ -185,6 +218,20 @@ judge-prefix c d ms is plain =
         (four-same c d (get_member (codes "prefixItems") ms) (get_member (codes "items") ms) (get_member (codes "enum") ms)
         (get_member (codes "const") ms) (get_member (codes "type") ms) (get_member (codes "nullable") ms) v x plain.1 plain.2)
 
+    place : (v : Data) (n : ℕ)
+        → placed_in c (by_items d) (look_up (moved_members (get_member (codes "prefixItems") ms) (get_member (codes "items") ms) ms)) v n
+        ≡ placed_in c (by_prefix_items d) (look_up ms) v n
+    place v n =
+        rw (
+          prefix-gone ms plain.0 plain.3 (get_member (codes "prefixItems") ms) (get_member (codes "items") ms),
+          items-moved ms plain.0 plain.3 (get_member (codes "prefixItems") ms),
+          additional-moved ms plain.0 plain.3 (get_member (codes "prefixItems") ms) (get_member (codes "items") ms),
+          other (codes "contains") refl refl refl,
+          plain.3,
+          plain.4,
+        )
+        (placed-same c d (get_member (codes "prefixItems") ms) (get_member (codes "items") ms) v n plain.1 plain.2)
+
 -- ---- with the subschemas done
 
 schema-prefix : (s : Data) → IsSchema s → IsSchema (prefix_as_items s)
@@ -202,6 +249,7 @@ plain-walked ms plain = (
   list-walked prefix_as_items schema-prefix (codes "prefixItems") ms refl plain.1,
   no_list-walked prefix_as_items schema-prefix (codes "items") ms refl plain.2,
   none-walked prefix_as_items (codes "additionalItems") ms plain.3,
+  none-walked prefix_as_items (codes "contains") ms plain.4,
 )
 
 pub prefix_items : (key : Text) (d : Dialect) → key ≢ codes "prefixItems" → key ≢ codes "items" → key ≢ codes "additionalItems"

@@ -21,7 +21,7 @@ use Rattle.schemars_laws.proofs.Siblings.{schema-siblings, moved_members}
 use Rattle.schemars_laws.proofs.Nullable.{nullable_change, nullable}
 use Rattle.schemars_laws.proofs.Unevaluated.{schema-unevaluated}
 use Rattle.schemars_laws.proofs.BoolSchemas.{bool_schemas}
-use Rattle.schemars_laws.proofs.Plain.{Alike, items-alike, alike-without, unlisted, none-alike}
+use Rattle.schemars_laws.proofs.Plain.{Alike, all-none, items-alike, alike-without, unlisted, none-alike}
 use Rattle.schemars_laws.proofs.Preserved.{Preserves, asked-without, asked-put, asked-replaced, asked-get}
 use Rattle.schemars_laws.specs.Stages.{IsTextWith, Stands, IsForOpenApi, AfterNullable, AfterSiblings, Anything}
 use Rattle.schemars_laws.proofs.Editing.{alike-put, alike-replaced, alike-moved, alike-then, alike-same, asked-moved, once-moved, gone-moved, once-put, absent-once, type-alike, values-alike, const-alike, stands-alike}
@@ -29,10 +29,10 @@ use Rattle.schemars_laws.proofs.Steps.{goes-down-here, by_change, place-bool, fi
 
 -- an object without members has none of the newer keywords
 no_newer : HasNone of_draft06 no_members
-no_newer = (refl, (refl, (refl, (refl, (refl, tt)))))
+no_newer = all-none of_draft06 no_members (λ k there. refl)
 
 no_newest : HasNone of_draft2019_09 no_members
-no_newest = (refl, (refl, (refl, (refl, tt))))
+no_newest = all-none of_draft2019_09 no_members (λ k there. refl)
 
 module _ (N : Text → Type 0) where
   -- ---- the first two
@@ -58,7 +58,7 @@ module _ (N : Text → Type 0) where
           (λ k there. (a k (unlisted k (codes "unevaluatedProperties") of_draft06 there refl)).first) is.own.const.2)
           is.own.const;
       items = items-alike (without (codes "unevaluatedProperties") ns) ns (a (codes "prefixItems") refl) (a (codes "items") refl)
-          (a (codes "additionalItems") refl) is.own.items;
+          (a (codes "additionalItems") refl) (a (codes "contains") refl) is.own.items;
     };
   }
     where
@@ -84,7 +84,7 @@ module _ (N : Text → Type 0) where
       values = inl refl;
       all_of = tt;
       const = (refl, inl refl, no_newer);
-      items = (refl, tt, tt, refl);
+      items = (refl, tt, tt, refl, refl);
     };
   }
 
@@ -98,7 +98,7 @@ module _ (N : Text → Type 0) where
       values = inl refl;
       all_of = tt;
       const = (refl, inl refl, no_newer);
-      items = (refl, tt, tt, refl);
+      items = (refl, tt, tt, refl, refl);
     };
   }
 
@@ -160,10 +160,10 @@ module _ (N : Text → Type 0) where
 
   after-alike : (ns ms : Members) → Alike (codes "$ref") ns ms → Alike (codes "allOf") ns ms → IsConstAlone ns
       → Alike (codes "prefixItems") ns ms → Alike (codes "items") ns ms → Alike (codes "additionalItems") ns ms
-      → Stands N IsForOpenApi ms → Stands N AfterNullable ns
-  after-alike ns ms ref all const prefix items additional is =
+      → Alike (codes "contains") ns ms → Stands N IsForOpenApi ms → Stands N AfterNullable ns
+  after-alike ns ms ref all const prefix items additional contains is =
       stands-alike N IsForOpenApi AfterNullable ns ms ref
-      (subst IsSchemaList (sym all.first) is.own.all_of, const, items-alike ns ms prefix items additional is.own.items) is
+      (subst IsSchemaList (sym all.first) is.own.all_of, const, items-alike ns ms prefix items additional contains is.own.items) is
 
   made : (P : Members → Type 0) (ns : Members) → Stands N P ns → asked_of_keywords (Stands N P) ns
       → (asked (Stands N P) (object ns)).as_schema
@@ -204,7 +204,7 @@ module _ (N : Text → Type 0) where
               (none-alike of_draft06 (nulled ns) ns (λ k there. (n k (unlisted k (codes "nullable") of_draft06 there refl)).first)
               is.own.const.2)
               is.own.const)
-              (n (codes "prefixItems") refl) (n (codes "items") refl) (n (codes "additionalItems") refl) is
+              (n (codes "prefixItems") refl) (n (codes "items") refl) (n (codes "additionalItems") refl) (n (codes "contains") refl) is
 
           inside-nulls : asked_of_keywords Q (nulled ns)
           inside-nulls = asked-put Q (codes "nullable") (boolean true) ns tt a
@@ -224,7 +224,8 @@ module _ (N : Text → Type 0) where
               (unlisted k (codes "nullable") of_draft06 there refl)).first)
               is.own.const.2)
               is.own.const)
-              (t d (codes "prefixItems") refl refl) (t d (codes "items") refl refl) (t d (codes "additionalItems") refl refl) is
+              (t d (codes "prefixItems") refl refl) (t d (codes "items") refl refl) (t d (codes "additionalItems") refl refl)
+              (t d (codes "contains") refl refl) is
 
           inside-among : (d : Data) → asked_of_keywords Q (replaced (codes "type") d (nulled ns))
           inside-among d = asked-replaced Q (codes "type") d (nulled ns) tt inside-nulls
@@ -259,7 +260,8 @@ module _ (N : Text → Type 0) where
                     (λ k there. (c k (unlisted k (codes "type") of_draft06 there refl) (unlisted k (codes "const") of_draft06 there refl)
                     (unlisted k (codes "nullable") of_draft06 there refl)).first) is.own.const.2,
               )
-              (c (codes "prefixItems") refl refl refl) (c (codes "items") refl refl refl) (c (codes "additionalItems") refl refl refl) is
+              (c (codes "prefixItems") refl refl refl) (c (codes "items") refl refl refl) (c (codes "additionalItems") refl refl refl)
+              (c (codes "contains") refl refl refl) is
 
           inside-alone : asked_of_keywords Q (alone_members ns)
           inside-alone = asked-without Q (codes "type") (put (codes "const") null (nulled ns))
@@ -294,7 +296,7 @@ module _ (N : Text → Type 0) where
                   (none-alike of_draft06 (without (codes "$ref") ns) ns
                   (λ k there. (w k (unlisted k (codes "$ref") of_draft06 there refl)).first) is.own.1.2) is.own.1,
               items-alike (without (codes "$ref") ns) ns (w (codes "prefixItems") refl) (w (codes "items") refl)
-                  (w (codes "additionalItems") refl) is.own.2,
+                  (w (codes "additionalItems") refl) (w (codes "contains") refl) is.own.2,
             );
           }
             where
@@ -311,7 +313,7 @@ module _ (N : Text → Type 0) where
                   (λ k there. (w k (unlisted k (codes "allOf") of_draft06 there refl)
                   (unlisted k (codes "$ref") of_draft06 there refl)).first) is.own.1.2) is.own.1,
               items-alike (moved_members r ns) ns (w (codes "prefixItems") refl refl) (w (codes "items") refl refl)
-                  (w (codes "additionalItems") refl refl) is.own.2,
+                  (w (codes "additionalItems") refl refl) (w (codes "contains") refl refl) is.own.2,
             );
           }
             where
@@ -319,7 +321,7 @@ module _ (N : Text → Type 0) where
               w k out ref_out = alike-moved r k ns out ref_out
 
           alone : (r : Data) → IsTextWith N (Some r) → Q (member (codes "$ref") r no_members)
-          alone r text = record { reference = text; once = refl; own = ((refl, inl refl, no_newer), (refl, tt, tt, refl)) }
+          alone r text = record { reference = text; once = refl; own = ((refl, inl refl, no_newer), (refl, tt, tt, refl, refl)) }
 
           each : (b : Bool) (o : Option Data) → get_member (codes "$ref") ns ≡ o
               → (asked Q (if b then object ns else reference_moved o (object (without (codes "$ref") ns)))).as_schema
@@ -356,7 +358,7 @@ module _ (N : Text → Type 0) where
                     (λ k there. (w k (unlisted k (codes "examples") of_draft06 there refl)
                     (unlisted k (codes "example") of_draft06 there refl)).first) is.own.0.2) is.own.0,
                 items-alike ls ms (w (codes "prefixItems") refl refl) (w (codes "items") refl refl)
-                    (w (codes "additionalItems") refl refl) is.own.1,
+                    (w (codes "additionalItems") refl refl) (w (codes "contains") refl refl) is.own.1,
               ) is
 
           gone : (asked Q (object (without (codes "examples") ns))).as_schema
@@ -402,7 +404,7 @@ module _ (N : Text → Type 0) where
           kept P ls ms w items is =
               stands-alike N P HasPlainItems ls ms (w (codes "$ref") refl refl)
               (items-alike ls ms (w (codes "prefixItems") refl refl) (w (codes "items") refl refl)
-              (w (codes "additionalItems") refl refl) items) is
+              (w (codes "additionalItems") refl refl) (w (codes "contains") refl refl) items) is
 
           gone : (asked Q (object (without (codes "const") ns))).as_schema
           gone = (

@@ -14,10 +14,10 @@ use Rattle.schemars_text.specs.OrderedText.{is_listed}
 use Rattle.schemars_schema.specs.SchemaData.{IsSchema}
 use Rattle.schemars_schema.specs.Edits.{without, replaced, with_item, with_last, changed_at}
 use Rattle.schemars_schema.specs.Verdict.{Verdict, Yes, No, Open, both, all_of, is_yes}
-use Rattle.schemars_schema.specs.Acceptance.{Dialect, Context, Raw, Readings, Judge, judge, keywords, all_keywords, reference_alone, is_reference, truth_value, read_data, read_items, read_members, reading_at, judged_by_reference, judged_by, judged_by_list, judged_by_some, judged_beside, both_some, reference_says, type_says, const_says, enum_says, items_say, has_schema, is_covered, each_says, judged_by_condition, judged_by_dependents}
+use Rattle.schemars_schema.specs.Acceptance.{Dialect, Context, Raw, Readings, Judge, judge, keywords, all_keywords, reference_alone, is_reference, truth_value, read_data, read_items, read_members, reading_at, judged_by_reference, judged_by, judged_by_list, judged_by_some, judged_beside, judged_itself, judges_rest, Part, key as member_key, position, both_some, reference_says, each_says, judged_by_condition, judged_by_dependents}
 use Rattle.schemars_schema.proofs.Objects.{schema-judge, reading_at-members, judge-agree}
 use Rattle.schemars_transform.specs.Built.{referring, reference_moved, without_siblings}
-use Rattle.schemars_laws.proofs.Keywords.{counts_say, members_say, last_say, fits-all, left_out, AgreeOutside, left_out-agree}
+use Rattle.schemars_laws.proofs.Keywords.{before_say, last_say, fits-all, left_out, AgreeOutside, left_out-agree}
 use Rattle.schemars_laws.proofs.Seen.{judge_ext}
 use Rattle.schemars_laws.specs.Classes.{IsOnce, IsText, IsSchemaList, HasPlainReference, alone_by, beside_by}
 use Rattle.schemars_laws.proofs.Looked.{without-other, walked, raw-walked, once-walked, list-walked, Change}
@@ -27,36 +27,25 @@ use Rattle.schemars_schema.proofs.Silent.{items_none, const_none, unevaluated_no
 use Rattle.schemars_text.proofs.Members.{differ, get_member-member, unequal}
 use Rattle.schemars_schema.proofs.Members.{get_member-replaced, get_member-replaced_other}
 use Rattle.schemars_laws.proofs.PrefixItems.{some-list}
+use Rattle.schemars_laws.proofs.BoolSchemas.{places_none}
 
 -- ---- `$ref` and `allOf` apart from the other keywords
 
--- before `allOf`
-abbrev before_say : Context → Raw → Readings → Data → List Verdict
-before_say c raw read v =
-    type_says c.dialect.reads_nullable (raw (codes "type")) (raw (codes "nullable")) v
-    ∷ const_says c.dialect.reads_const (raw (codes "const")) v
-    ∷ enum_says (raw (codes "enum")) v
-    ∷ counts_say c raw v
-    ++ items_say c.dialect.reads_prefix_items (read (codes "prefixItems")) (read (codes "items")) (read (codes "additionalItems")) v
-    ∷ members_say c raw read v
+-- which parts the other keywords judge, and those of a list and of a reference
+judged_say : Context → Readings → Data → Part → Bool → Bool → Bool
+judged_say c read v p listed referred =
+    judged_itself c read v p
+    || (listed || (judged_by_list (read (codes "anyOf")) v p || (judged_by_list (read (codes "oneOf")) v p
+    || (judged_by_condition c.dialect.reads_const (read (codes "if")) (read (codes "then")) (read (codes "else")) v p
+    || (judged_by_dependents c.dialect.reads_unevaluated (read (codes "dependentSchemas")) v p || referred)))))
 
--- which members the other keywords judge, and those of a list and of a reference
-judged_say : Context → Readings → Data → Text → Bool → Bool → Bool
-judged_say c read v k listed referred =
-    is_covered c.patterns (read (codes "properties")) (read (codes "patternProperties")) k
-    || (has_schema (read (codes "additionalProperties"))
-    || (listed || (judged_by_list (read (codes "anyOf")) v k || (judged_by_list (read (codes "oneOf")) v k
-    || (judged_by_condition c.dialect.reads_const (read (codes "if")) (read (codes "then")) (read (codes "else")) v k
-    || (judged_by_dependents c.dialect.reads_unevaluated (read (codes "dependentSchemas")) v k || referred))))))
-
-judges_say : Context → Readings → Data → Text → Bool → Bool → Bool
-judges_say c read v k listed referred =
-    judged_say c read v k listed referred || (c.dialect.reads_unevaluated && has_schema (read (codes "unevaluatedProperties")))
+judges_say : Context → Readings → Data → Part → Bool → Bool → Bool
+judges_say c read v p listed referred = judged_say c read v p listed referred || (c.dialect.reads_unevaluated && judges_rest read p)
 
 -- what all keywords say, by what the list and the reference say
-whole_say : Context → Raw → Readings → Data → Verdict → Verdict → (Text → Bool) → (Text → Bool) → Verdict
+whole_say : Context → Raw → Readings → Data → Verdict → Verdict → (Part → Bool) → (Part → Bool) → Verdict
 whole_say c raw read v list ref listed referred =
-    both ref (both list (all_of (before_say c raw read v ++ last_say c read (λ k. judged_say c read v k (listed k) (referred k)) v)))
+    both ref (both list (all_of (before_say c raw read v ++ last_say c raw read (λ p. judged_say c read v p (listed p) (referred p)) v)))
 
 fits-whole : (c : Context) (raw : Raw) (read : Readings) (v : Data) → (all_keywords c raw read).fits v
     ≡ whole_say c raw read v (each_says all_of (read (codes "allOf")) v) (reference_says c.follow (raw (codes "$ref")) v)
@@ -65,27 +54,27 @@ unfolding whole_say judged_say
 fits-whole c raw read v =
     fits-all c raw read v
     ∙ ap (both (reference_says c.follow (raw (codes "$ref")) v))
-    (pulled (before_say c raw read v) (each_says all_of (read (codes "allOf")) v) (last_say c read (judged_beside c raw read v) v))
+    (pulled (before_say c raw read v) (each_says all_of (read (codes "allOf")) v) (last_say c raw read (judged_beside c raw read v) v))
 
-judges-whole : (c : Context) (raw : Raw) (read : Readings) (v : Data) (k : Text) → (all_keywords c raw read).judges v k
-    ≡ judges_say c read v k (judged_by_list (read (codes "allOf")) v k) (judged_by_reference c.follow (raw (codes "$ref")) v k)
+judges-whole : (c : Context) (raw : Raw) (read : Readings) (v : Data) (p : Part) → (all_keywords c raw read).judges v p
+    ≡ judges_say c read v p (judged_by_list (read (codes "allOf")) v p) (judged_by_reference c.follow (raw (codes "$ref")) v p)
 unfolding all_keywords judges_say judged_say
-judges-whole c raw read v k = refl
+judges-whole c raw read v p = refl
 
 abbrev two : List Text
 two = codes "$ref" ∷ codes "allOf" ∷ []
 
-whole-left_out : (c : Context) (raw : Raw) (read : Readings) (v : Data) (list ref : Verdict) (listed referred : Text → Bool)
+whole-left_out : (c : Context) (raw : Raw) (read : Readings) (v : Data) (list ref : Verdict) (listed referred : Part → Bool)
     → whole_say c (left_out two raw) (left_out two read) v list ref listed referred ≡ whole_say c raw read v list ref listed referred
 unfolding whole_say judged_say
 whole-left_out c raw read v list ref listed referred = refl
 
-judges-left_out : (c : Context) (read : Readings) (v : Data) (k : Text) (listed referred : Bool)
-    → judges_say c (left_out two read) v k listed referred ≡ judges_say c read v k listed referred
+judges-left_out : (c : Context) (read : Readings) (v : Data) (p : Part) (listed referred : Bool)
+    → judges_say c (left_out two read) v p listed referred ≡ judges_say c read v p listed referred
 unfolding judges_say judged_say
-judges-left_out c read v k listed referred = refl
+judges-left_out c read v p listed referred = refl
 
-whole-agree : (c : Context) (f g : Raw) (read reread : Readings) (v : Data) (list ref : Verdict) (listed referred : Text → Bool)
+whole-agree : (c : Context) (f g : Raw) (read reread : Readings) (v : Data) (list ref : Verdict) (listed referred : Part → Bool)
     → AgreeOutside two f g → AgreeOutside two read reread
     → whole_say c f read v list ref listed referred ≡ whole_say c g reread v list ref listed referred
 whole-agree c f g read reread v list ref listed referred e h =
@@ -94,12 +83,12 @@ whole-agree c f g read reread v list ref listed referred e h =
     ∙ (ap (λ x. whole_say c (left_out two g) x v list ref listed referred) (fun_ext (left_out-agree two read reread h))
     ∙ whole-left_out c g reread v list ref listed referred))
 
-judges-agree : (c : Context) (read reread : Readings) (v : Data) (k : Text) (listed referred : Bool) → AgreeOutside two read reread
-    → judges_say c read v k listed referred ≡ judges_say c reread v k listed referred
-judges-agree c read reread v k listed referred h =
-    sym (judges-left_out c read v k listed referred)
-    ∙ (ap (λ x. judges_say c x v k listed referred) (fun_ext (left_out-agree two read reread h))
-    ∙ judges-left_out c reread v k listed referred)
+judges-agree : (c : Context) (read reread : Readings) (v : Data) (p : Part) (listed referred : Bool) → AgreeOutside two read reread
+    → judges_say c read v p listed referred ≡ judges_say c reread v p listed referred
+judges-agree c read reread v p listed referred h =
+    sym (judges-left_out c read v p listed referred)
+    ∙ (ap (λ x. judges_say c x v p listed referred) (fun_ext (left_out-agree two read reread h))
+    ∙ judges-left_out c reread v p listed referred)
 
 -- a verdict of the list that holds the reference is one of both
 with_reference : (a r x : Verdict) → both Yes (both (both a r) x) ≡ both r (both a x)
@@ -114,17 +103,15 @@ with_reference No No No = refl
 with_reference No No Open = refl
 
 -- so is what they judge
-judged_with : (a s b m n i j r : Bool)
-    → a || (s || ((b || r) || (m || (n || (i || (j || false)))))) ≡ a || (s || (b || (m || (n || (i || (j || r))))))
-judged_with true s b m n i j r = refl
-judged_with false true b m n i j r = refl
-judged_with false false true m n i j r = refl
-judged_with false false false m n i j false = refl
-judged_with false false false true n i j true = refl
-judged_with false false false false true i j true = refl
-judged_with false false false false false true j true = refl
-judged_with false false false false false false true true = refl
-judged_with false false false false false false false true = refl
+judged_with : (a b m n i j r : Bool) → a || ((b || r) || (m || (n || (i || (j || false))))) ≡ a || (b || (m || (n || (i || (j || r)))))
+judged_with true b m n i j r = refl
+judged_with false true m n i j r = refl
+judged_with false false m n i j false = refl
+judged_with false false true n i j true = refl
+judged_with false false false true i j true = refl
+judged_with false false false false true j true = refl
+judged_with false false false false false true true = refl
+judged_with false false false false false false true = refl
 
 -- ---- the members of one schema
 
@@ -179,11 +166,11 @@ all_of-last [] j v = both-yes (j.fits v)
 all_of-last (s ∷ ss) j v =
     ap (both (s.fits v)) (all_of-last ss j v) ∙ sym (both-assoc (s.fits v) (all_of (map (λ s. s.fits v) ss)) (j.fits v))
 
-judged-last : (ss : List Judge) (j : Judge) (v : Data) (k : Text)
-    → judged_by_some (ss ++ j ∷ []) v k ≡ judged_by_some ss v k || judged_by j v k
-judged-last [] j v k = or-false (judged_by j v k)
-judged-last (s ∷ ss) j v k =
-    ap (λ b. judged_by s v k || b) (judged-last ss j v k) ∙ sym (or_assoc (judged_by s v k) (judged_by_some ss v k) (judged_by j v k))
+judged-last : (ss : List Judge) (j : Judge) (v : Data) (p : Part)
+    → judged_by_some (ss ++ j ∷ []) v p ≡ judged_by_some ss v p || judged_by j v p
+judged-last [] j v p = or-false (judged_by j v p)
+judged-last (s ∷ ss) j v p =
+    ap (λ b. judged_by s v p || b) (judged-last ss j v p) ∙ sym (or_assoc (judged_by s v p) (judged_by_some ss v p) (judged_by j v p))
 
 read-last : (c : Context) (ds : Items) (d : Data) (ss : List Judge) → read_items c ds ≡ Some ss → IsSchema d
     → read_items c (with_item ds d) ≡ Some (ss ++ judge c d ∷ [])
@@ -206,18 +193,18 @@ read-last c (item e ds) d ss is schema = go (read_data c e).schema (read_items c
 record Longer (c : Context) (o : Option Data) (d : Data) : Type 0 where
   ss : List Judge
   fit : (v : Data) → each_says all_of (option_map (read_data c) o) v ≡ all_of (map (λ s. s.fits v) ss)
-  judged : (v : Data) (k : Text) → judged_by_list (option_map (read_data c) o) v k ≡ judged_by_some ss v k
+  judged : (v : Data) (p : Part) → judged_by_list (option_map (read_data c) o) v p ≡ judged_by_some ss v p
   longer : (read_data c (list_with o d)).listed ≡ Some (ss ++ judge c d ∷ [])
 
 longer-list : (c : Context) (o : Option Data) (d : Data) → IsSchemaList o → IsSchema d → Longer c o d
 unfolding read_data
-longer-list c None d is schema = record { ss = []; fit = λ v. refl; judged = λ v k. refl; longer = rw (schema-judge c d schema) refl }
+longer-list c None d is schema = record { ss = []; fit = λ v. refl; judged = λ v p. refl; longer = rw (schema-judge c d schema) refl }
 longer-list c (Some (array ds)) d is schema =
     let list = some-list c ds is in
     record {
       ss = list.0;
       fit = λ v. rw list.1 refl;
-      judged = λ v k. rw list.1 refl;
+      judged = λ v p. rw list.1 refl;
       longer = read-last c ds d list.0 list.1 schema;
     }
 longer-list c (Some null) d is schema = absurd is
@@ -230,15 +217,15 @@ each-longer : (c : Context) (o : Option Data) (d : Data) (l : Longer c o d) (v :
     → each_says all_of (option_map (read_data c) (Some (list_with o d))) v
     ≡ both (each_says all_of (option_map (read_data c) o) v) ((judge c d).fits v)
 each-longer c o d l v =
-    ap (λ ss. each_says all_of (Some (record { schema = None; listed = ss; named = None })) v) l.longer
+    ap (λ ss. each_says all_of (Some (record { schema = None; listed = ss; named = None; among = [] })) v) l.longer
     ∙ (all_of-last l.ss (judge c d) v ∙ ap (λ x. both x ((judge c d).fits v)) (sym (l.fit v)))
 
-judged-longer : (c : Context) (o : Option Data) (d : Data) (l : Longer c o d) (v : Data) (k : Text)
-    → judged_by_list (option_map (read_data c) (Some (list_with o d))) v k
-    ≡ judged_by_list (option_map (read_data c) o) v k || judged_by (judge c d) v k
-judged-longer c o d l v k =
-    ap (λ ss. judged_by_list (Some (record { schema = None; listed = ss; named = None })) v k) l.longer
-    ∙ (judged-last l.ss (judge c d) v k ∙ ap (λ b. b || judged_by (judge c d) v k) (sym (l.judged v k)))
+judged-longer : (c : Context) (o : Option Data) (d : Data) (l : Longer c o d) (v : Data) (p : Part)
+    → judged_by_list (option_map (read_data c) (Some (list_with o d))) v p
+    ≡ judged_by_list (option_map (read_data c) o) v p || judged_by (judge c d) v p
+judged-longer c o d l v p =
+    ap (λ ss. judged_by_list (Some (record { schema = None; listed = ss; named = None; among = [] })) v p) l.longer
+    ∙ (judged-last l.ss (judge c d) v p ∙ ap (λ b. b || judged_by (judge c d) v p) (sym (l.judged v p)))
 
 and-twice : (v : Verdict) (b : Bool) → is_yes v && (is_yes v && b) ≡ is_yes v && b
 and-twice Yes b = refl
@@ -246,31 +233,26 @@ and-twice No b = refl
 and-twice Open b = refl
 
 -- what is left of a whole, without the first two
-module _ (c : Context) (raw : Raw) (read : Readings) (v : Data) (a r : Verdict) (listed referred : Text → Bool) where
-  whole-moved : whole_say c raw read v (both a r) Yes (λ k. listed k || referred k) (λ k. false)
-      ≡ whole_say c raw read v a r listed referred
-  unfolding whole_say judged_say
-  whole-moved =
-      ap (λ f. both Yes (both (both a r) (all_of (before_say c raw read v ++ last_say c read f v)))) (fun_ext regrouped)
-      ∙ with_reference a r (all_of (before_say c raw read v ++ last_say c read (λ k. judged_say c read v k (listed k) (referred k)) v))
-    where
-      regrouped : (k : Text) → judged_say c read v k (listed k || referred k) false ≡ judged_say c read v k (listed k) (referred k)
-      regrouped k =
-          judged_with (is_covered c.patterns (read (codes "properties")) (read (codes "patternProperties")) k)
-          (has_schema (read (codes "additionalProperties"))) (listed k) (judged_by_list (read (codes "anyOf")) v k)
-          (judged_by_list (read (codes "oneOf")) v k)
-          (judged_by_condition c.dialect.reads_const (read (codes "if")) (read (codes "then")) (read (codes "else")) v k)
-          (judged_by_dependents c.dialect.reads_unevaluated (read (codes "dependentSchemas")) v k) (referred k)
+module _ (c : Context) (raw : Raw) (read : Readings) (v : Data) (listed referred : Part → Bool) where
+  regrouped : (p : Part) → judged_say c read v p (listed p || referred p) false ≡ judged_say c read v p (listed p) (referred p)
+  unfolding judged_say
+  regrouped p =
+      judged_with (judged_itself c read v p) (listed p) (judged_by_list (read (codes "anyOf")) v p)
+      (judged_by_list (read (codes "oneOf")) v p)
+      (judged_by_condition c.dialect.reads_const (read (codes "if")) (read (codes "then")) (read (codes "else")) v p)
+      (judged_by_dependents c.dialect.reads_unevaluated (read (codes "dependentSchemas")) v p) (referred p)
 
-  judges-moved : (k : Text) → judges_say c read v k (listed k || referred k) false ≡ judges_say c read v k (listed k) (referred k)
-  unfolding judges_say judged_say
-  judges-moved k =
-      ap (λ b. b || (c.dialect.reads_unevaluated && has_schema (read (codes "unevaluatedProperties"))))
-      (judged_with (is_covered c.patterns (read (codes "properties")) (read (codes "patternProperties")) k)
-      (has_schema (read (codes "additionalProperties"))) (listed k) (judged_by_list (read (codes "anyOf")) v k)
-      (judged_by_list (read (codes "oneOf")) v k)
-      (judged_by_condition c.dialect.reads_const (read (codes "if")) (read (codes "then")) (read (codes "else")) v k)
-      (judged_by_dependents c.dialect.reads_unevaluated (read (codes "dependentSchemas")) v k) (referred k))
+  whole-moved : (a r : Verdict) → whole_say c raw read v (both a r) Yes (λ p. listed p || referred p) (λ p. false)
+      ≡ whole_say c raw read v a r listed referred
+  unfolding whole_say
+  whole-moved a r =
+      ap (λ f. both Yes (both (both a r) (all_of (before_say c raw read v ++ last_say c raw read f v)))) (fun_ext regrouped)
+      ∙ with_reference a r
+      (all_of (before_say c raw read v ++ last_say c raw read (λ p. judged_say c read v p (listed p) (referred p)) v))
+
+  judges-moved : (p : Part) → judges_say c read v p (listed p || referred p) false ≡ judges_say c read v p (listed p) (referred p)
+  unfolding judges_say
+  judges-moved p = ap (λ b. b || (c.dialect.reads_unevaluated && judges_rest read p)) (regrouped p)
 
 -- in a dialect that passes over siblings
 module _ (c : Context) (d : Dialect) where
@@ -338,14 +320,14 @@ module _ (c : Context) (d : Dialect) where
         ∙ (ap (λ j. both (each_says all_of (option_map (read_data now) o) v) (j.fits v)) (judge-reference t)
         ∙ ap (λ x. both (each_says all_of x v) (target.fits v)) (sym read-list)))
 
-    judged-list : (v : Data) (k : Text)
-        → judged_by_list (reread (codes "allOf")) v k ≡ judged_by_list (read (codes "allOf")) v k || judged_by target v k
-    judged-list v k =
-        ap (λ x. judged_by_list x v k) reread-list
-        ∙ (judged-longer now o (referring (string t)) list v k
-        ∙ (ap (λ j. judged_by_list (option_map (read_data now) o) v k || judged_by j v k) (judge-reference t)
-        ∙ (ap (λ b. judged_by_list (option_map (read_data now) o) v k || b) (and-twice (target.fits v) (target.judges v k))
-        ∙ ap (λ x. judged_by_list x v k || judged_by target v k) (sym read-list))))
+    judged-list : (v : Data) (p : Part)
+        → judged_by_list (reread (codes "allOf")) v p ≡ judged_by_list (read (codes "allOf")) v p || judged_by target v p
+    judged-list v p =
+        ap (λ x. judged_by_list x v p) reread-list
+        ∙ (judged-longer now o (referring (string t)) list v p
+        ∙ (ap (λ j. judged_by_list (option_map (read_data now) o) v p || judged_by j v p) (judge-reference t)
+        ∙ (ap (λ b. judged_by_list (option_map (read_data now) o) v p || b) (and-twice (target.fits v) (target.judges v p))
+        ∙ ap (λ x. judged_by_list x v p || judged_by target v p) (sym read-list))))
 
     fits-moved : (v : Data) → (all_keywords now (look_up rs) reread).fits v ≡ (all_keywords now (look_up ms) read).fits v
     fits-moved v =
@@ -356,27 +338,27 @@ module _ (c : Context) (d : Dialect) where
         (reference_says now.follow (get_member (codes "$ref") rs) v) g (judged_by_reference now.follow (get_member (codes "$ref") rs) v))
         (fun_ext (judged-list v))
         ∙ (ap (λ x. whole_say now (look_up rs) reread v (both (each_says all_of (read (codes "allOf")) v) (target.fits v))
-        (reference_says now.follow x v) (λ k. judged_by_list (read (codes "allOf")) v k || judged_by target v k)
+        (reference_says now.follow x v) (λ p. judged_by_list (read (codes "allOf")) v p || judged_by target v p)
         (judged_by_reference now.follow x v)) ref-gone
         ∙ (whole-agree now (look_up rs) (look_up ms) reread read v (both (each_says all_of (read (codes "allOf")) v) (target.fits v)) Yes
-        (λ k. judged_by_list (read (codes "allOf")) v k || judged_by target v k) (λ k. false) raw-same read-same
-        ∙ (whole-moved now (look_up ms) read v (each_says all_of (read (codes "allOf")) v) (target.fits v)
-        (judged_by_list (read (codes "allOf")) v) (judged_by target v)
+        (λ p. judged_by_list (read (codes "allOf")) v p || judged_by target v p) (λ p. false) raw-same read-same
+        ∙ (whole-moved now (look_up ms) read v (judged_by_list (read (codes "allOf")) v) (judged_by target v)
+        (each_says all_of (read (codes "allOf")) v) (target.fits v)
         ∙ (ap (λ x. whole_say now (look_up ms) read v (each_says all_of (read (codes "allOf")) v) (reference_says now.follow x v)
         (judged_by_list (read (codes "allOf")) v) (judged_by_reference now.follow x v)) (sym here)
         ∙ sym (fits-whole now (look_up ms) read v)))))))
 
-    judges-same : (v : Data) (k : Text)
-        → (all_keywords now (look_up rs) reread).judges v k ≡ (all_keywords now (look_up ms) read).judges v k
-    judges-same v k =
-        judges-whole now (look_up rs) reread v k
-        ∙ (ap (λ b. judges_say now reread v k b (judged_by_reference now.follow (get_member (codes "$ref") rs) v k)) (judged-list v k)
-        ∙ (ap (λ x. judges_say now reread v k (judged_by_list (read (codes "allOf")) v k || judged_by target v k)
-        (judged_by_reference now.follow x v k)) ref-gone
-        ∙ (judges-agree now reread read v k (judged_by_list (read (codes "allOf")) v k || judged_by target v k) false read-same
-        ∙ (judges-moved now (look_up ms) read v Yes Yes (judged_by_list (read (codes "allOf")) v) (judged_by target v) k
-        ∙ (ap (λ x. judges_say now read v k (judged_by_list (read (codes "allOf")) v k) (judged_by_reference now.follow x v k)) (sym here)
-        ∙ sym (judges-whole now (look_up ms) read v k))))))
+    judges-same : (v : Data) (p : Part)
+        → (all_keywords now (look_up rs) reread).judges v p ≡ (all_keywords now (look_up ms) read).judges v p
+    judges-same v p =
+        judges-whole now (look_up rs) reread v p
+        ∙ (ap (λ b. judges_say now reread v p b (judged_by_reference now.follow (get_member (codes "$ref") rs) v p)) (judged-list v p)
+        ∙ (ap (λ x. judges_say now reread v p (judged_by_list (read (codes "allOf")) v p || judged_by target v p)
+        (judged_by_reference now.follow x v p)) ref-gone
+        ∙ (judges-agree now reread read v p (judged_by_list (read (codes "allOf")) v p || judged_by target v p) false read-same
+        ∙ (judges-moved now (look_up ms) read v (judged_by_list (read (codes "allOf")) v) (judged_by target v) p
+        ∙ (ap (λ x. judges_say now read v p (judged_by_list (read (codes "allOf")) v p) (judged_by_reference now.follow x v p)) (sym here)
+        ∙ sym (judges-whole now (look_up ms) read v p))))))
 
     judge-moved : judge now (object (moved_members (string t) ms)) ≡ keywords was (look_up ms) (reading_at (read_members now ms))
     unfolding read_data all_keywords rs read reread
@@ -399,12 +381,14 @@ module _ (c : Context) (d : Dialect) (t : Text) where
       rw (
         items_none d.reads_prefix_items v,
         const_none d.reads_const v,
-        unevaluated_none d.reads_unevaluated (judged_beside (was c d) (look_up (single t)) single-read v) v,
+        unevaluated_none d.reads_unevaluated _ v,
       ) (both-yes ((c.follow t).fits v))
 
-  single-judges : (v : Data) (k : Text) → (all_keywords (was c d) (look_up (single t)) single-read).judges v k ≡ judged_by (c.follow t) v k
+  single-judges : (v : Data) (p : Part) → (all_keywords (was c d) (look_up (single t)) single-read).judges v p ≡ judged_by (c.follow t) v p
   unfolding all_keywords single-read read_data
-  single-judges v k = rw (and-false d.reads_unevaluated) (or-false (judged_by (c.follow t) v k))
+  single-judges v (member_key k) = rw (and-false d.reads_unevaluated) (or-false (judged_by (c.follow t) v (member_key k)))
+  single-judges v (position n) =
+      rw (places_none d.reads_prefix_items n, and-false d.reads_unevaluated) (or-false (judged_by (c.follow t) v (position n)))
 
   single-same : keywords (now c d) (look_up (single t)) (reading_at (read_members (now c d) (single t)))
       ≡ keywords (was c d) (look_up (single t)) (reading_at (read_members (now c d) (single t)))

@@ -2,20 +2,21 @@
 use Rattle.std.proofs.Common.{◌≡◌, ◌≢◌, List, ◌∷◌, Option, Some, None, Bool, true, false, codes, refl, sym, ap, ◌∙◌, subst}
 use Rattle.std.proofs.Math.Path.{fun_ext}
 use Rattle.std.proofs.lemmas.Slice.Eq.{bytes_eq-Decides}
-use Rattle.std.specs.Prelude.{bytes_eq}
+use Rattle.std.specs.Prelude.{bytes_eq, if◌then◌else◌, ◌&&◌, not}
 use Rattle.serde_json.specs.Data.{Data, boolean, object, Members, no_members, member, put}
 use Rattle.serde_json.specs.Find.{get_member}
 use Rattle.serde_json.proofs.Views.{get_member-put_other}
 use Rattle.schemars_schema.specs.Json.{Text}
 use Rattle.schemars_schema.specs.SchemaData.{IsSchema}
 use Rattle.schemars_schema.specs.Edits.{without}
-use Rattle.schemars_schema.specs.Acceptance.{Dialect, Context, Raw, Readings, judge, keywords, all_keywords, read_data, read_members, reading_at}
+use Rattle.schemars_schema.specs.Acceptance.{Dialect, Context, Raw, Readings, Part, key as member_key, position, judge, keywords, all_keywords, reference_alone, is_reference, read_data, read_members, reading_at}
 use Rattle.schemars_schema.proofs.Objects.{judge-agree}
 use Rattle.schemars_text.proofs.Members.{differ}
 use Rattle.schemars_transform.specs.Unevaluated.{unevaluated_as_additional, closed_by, property_names, properties_made, properties_named, object_with_names, with_names}
 use Rattle.schemars_laws.specs.Classes.{of_draft2019_09, HasNoUnevaluated, with_unevaluated, without_unevaluated}
 use Rattle.schemars_laws.proofs.Keywords.{left_out, AllNone, left_out-none}
 use Rattle.schemars_laws.proofs.Formats.{truth-judge}
+use Rattle.schemars_laws.proofs.Seen.{judge_ext}
 use Rattle.schemars_laws.proofs.Looked.{without-other, walked, none-walked, nones-walked, once-walked, Change}
 use Rattle.schemars_laws.proofs.Apart.{look_up, read-none}
 
@@ -35,7 +36,16 @@ module _ (c : Context) (d : Dialect) where
       → keywords now (left_out unevaluated_keywords raw) (left_out unevaluated_keywords read)
       ≡ keywords was (left_out unevaluated_keywords raw) (left_out unevaluated_keywords read)
   unfolding all_keywords
-  left_out-same raw read = refl
+  left_out-same raw read =
+      ap (λ j. if not d.judges_siblings && is_reference (raw (codes "$ref"))
+      then reference_alone now (left_out unevaluated_keywords raw) else j)
+      (judge_ext _ _ (λ v. refl) judged)
+    where
+      judged : (v : Data) (p : Part)
+          → (all_keywords now (left_out unevaluated_keywords raw) (left_out unevaluated_keywords read)).judges v p
+          ≡ (all_keywords was (left_out unevaluated_keywords raw) (left_out unevaluated_keywords read)).judges v p
+      judged v (member_key k) = refl
+      judged v (position n) = refl
 
   keywords-same : (raw : Raw) (read : Readings) → AllNone unevaluated_keywords raw → AllNone unevaluated_keywords read
       → keywords now raw read ≡ keywords was raw read

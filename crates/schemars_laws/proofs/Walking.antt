@@ -110,4 +110,5 @@ module _ {R : Type 0} (ρ : Rules R) (Enters : Text → Type 0)
       list-walked r (codes "prefixItems") ms prefix refl is.1,
       no_list-walked r (codes "items") ms items refl is.2,
       none-walked r (codes "additionalItems") ms is.3,
+      none-walked r (codes "contains") ms is.4,
     )

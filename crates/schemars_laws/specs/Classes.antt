@@ -78,24 +78,28 @@ abbrev pub HasNone : List Text → Members → Type 0
 HasNone [] ms = Unit {0}
 HasNone (k ∷ ks) ms = (get_member k ms ≡ None) × HasNone ks ms
 
--- the keywords beside `const` that came with Drafts 6 and 7 (`then` and `else` say nothing without `if`)
+-- the keywords beside `const` that came with Drafts 6 and 7 (`then` and `else` say nothing without `if`), and `dependencies`, which
+-- is read where they are
 abbrev pub of_draft06 : List Text
-of_draft06 = codes "exclusiveMinimum" ∷ codes "exclusiveMaximum" ∷ codes "contains" ∷ codes "propertyNames" ∷ codes "if" ∷ []
+of_draft06 = codes "exclusiveMinimum" ∷ codes "exclusiveMaximum" ∷ codes "contains" ∷ codes "propertyNames" ∷ codes "if"
+    ∷ codes "dependencies" ∷ []
 
--- the keywords beside `unevaluatedProperties` that came with Draft 2019-09
+-- the keywords beside `unevaluatedProperties` that came with Draft 2019-09, and `dependencies`, which went with them
 abbrev pub of_draft2019_09 : List Text
-of_draft2019_09 = codes "minContains" ∷ codes "maxContains" ∷ codes "dependentRequired" ∷ codes "dependentSchemas" ∷ []
+of_draft2019_09 = codes "minContains" ∷ codes "maxContains" ∷ codes "dependentRequired" ∷ codes "dependentSchemas"
+    ∷ codes "unevaluatedItems" ∷ codes "dependencies" ∷ []
 
 -- `const` occurs once, and not beside `enum`, nor is there another keyword that came with it
 abbrev pub IsConstAlone : Members → Type 0
 IsConstAlone ms =
     IsOnce (codes "const") ms × ((get_member (codes "const") ms ≡ None) ⊎ (get_member (codes "enum") ms ≡ None)) × HasNone of_draft06 ms
 
--- `prefixItems` occurs once and is a list of schemas, `items` is not a list, and there are no `additionalItems`
+-- `prefixItems` occurs once and is a list of schemas, `items` is not a list, and there are no `additionalItems`, nor is there
+-- `contains`, which judges the items that it accepts where `prefixItems` are read
 abbrev pub HasPlainItems : Members → Type 0
 HasPlainItems ms =
     IsOnce (codes "prefixItems") ms × IsSchemaList (get_member (codes "prefixItems") ms) × IsNoList (get_member (codes "items") ms)
-    × (get_member (codes "additionalItems") ms ≡ None)
+    × (get_member (codes "additionalItems") ms ≡ None) × (get_member (codes "contains") ms ≡ None)
 
 -- `$ref` occurs once and is a text, and `allOf` is a list of schemas
 abbrev pub HasPlainReference : Members → Type 0
@@ -112,7 +116,7 @@ HasPlainType ms =
 abbrev pub IsReferenceAlone : Members → Type 0
 IsReferenceAlone ms = (get_member (codes "$ref") ms ≡ None) ⊎ ((members_len ms == 1) ≡ true)
 
--- there are no `unevaluatedProperties`, nor another keyword that came with them
+-- there are no `unevaluatedProperties`, nor another keyword that came or went with them
 abbrev pub HasNoUnevaluated : Members → Type 0
 HasNoUnevaluated ms =
     IsOnce (codes "unevaluatedProperties") ms × (get_member (codes "unevaluatedProperties") ms ≡ None) × HasNone of_draft2019_09 ms

@@ -1,10 +1,10 @@
 -- References that name the document or one of its definitions.
 use Rattle.std.specs.Prelude.{◌≡◌, ◌⊎◌, Option, Some, None, true, option_and_then, codes}
-use Rattle.serde_json.specs.Data.{Data, null, boolean, number, string, array, object, Members}
+use Rattle.serde_json.specs.Data.{Data, null, boolean, number, string, array, object, Members, no_members, member}
 use Rattle.serde_json.specs.Find.{get_member, as_str}
 use Rattle.schemars_schema.specs.Json.{Text}
 use Rattle.schemars_schema.specs.Encoding.{lookup}
-use Rattle.schemars_schema.specs.Acceptance.{Dialect}
+use Rattle.schemars_schema.specs.Acceptance.{Dialect, reads_dependencies}
 
 -- if a document has a map at key, the reference leads to its member k, and to nothing if there is no such member
 pub record IsNameOf (key k reference : Text) : Type 0 where
@@ -33,10 +33,27 @@ IsNoObject (Some (string s)) = Unit {0}
 IsNoObject (Some (array ds)) = Unit {0}
 IsNoObject (Some (object ms)) = ⊥
 
--- if the dialect reads `unevaluatedProperties` and `dependentSchemas`, their values are no objects, since a walk does not lead to them
+-- none of the members is an object
+abbrev pub AreNoObjects : Members → Type 0
+AreNoObjects no_members = Unit {0}
+AreNoObjects (member k d ms) = IsNoObject (Some d) × AreNoObjects ms
+
+abbrev pub HasNoObjects : Option Data → Type 0
+HasNoObjects None = Unit {0}
+HasNoObjects (Some null) = Unit {0}
+HasNoObjects (Some (boolean b)) = Unit {0}
+HasNoObjects (Some (number n)) = Unit {0}
+HasNoObjects (Some (string s)) = Unit {0}
+HasNoObjects (Some (array ds)) = Unit {0}
+HasNoObjects (Some (object ms)) = AreNoObjects ms
+
+-- A walk does not lead to `unevaluatedProperties`, `unevaluatedItems`, `dependentSchemas` and `dependencies`. Where the dialect
+-- reads them, there is no schema object under them.
 abbrev pub HasPlainUnevaluated : Dialect → Members → Type 0
-HasPlainUnevaluated d ms = d.reads_unevaluated ≡ true
-    → IsNoObject (get_member (codes "unevaluatedProperties") ms) × IsNoObject (get_member (codes "dependentSchemas") ms)
+HasPlainUnevaluated d ms =
+    (d.reads_unevaluated ≡ true → IsNoObject (get_member (codes "unevaluatedProperties") ms)
+    × IsNoObject (get_member (codes "unevaluatedItems") ms) × HasNoObjects (get_member (codes "dependentSchemas") ms))
+    × (reads_dependencies d ≡ true → HasNoObjects (get_member (codes "dependencies") ms))
 
 -- a schema object with such a reference and such keywords, of which Q holds
 abbrev pub NamedBy : Dialect → (Text → Type 0) → (Members → Type 0) → Members → Type 0

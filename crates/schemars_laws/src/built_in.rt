@@ -4,7 +4,8 @@
 //! another, for every reading of patterns and however many references are followed, wherever the
 //! document has its definitions: at `$defs`, at `definitions` or at `/components/schemas`, where
 //! each definition is transformed too. References are `#` or name a definition there. Where the
-//! dialects read `unevaluatedProperties`, no schema object is under them.
+//! dialects read `unevaluatedProperties`, `unevaluatedItems`, `dependentSchemas` or
+//! `dependencies`, no schema object is under them.
 ghost use Rattle.schemars_schema.specs.Acceptance.{Dialect, draft2020_12};
 ghost use Rattle.schemars_schema.specs.Acceptance as dialect;
 ghost use Rattle.schemars_transform.specs.Built as made;

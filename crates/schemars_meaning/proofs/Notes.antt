@@ -1,10 +1,11 @@
 -- Notes say nothing of a value, and leave a schema one to which null can be added.
 use Rattle.std.proofs.Common.{◌≡◌, inl, inr, List, [], ◌∷◌, Option, Some, None, Bool, true, false, refl, sym, ap, ◌∙◌, true≢false}
 use Rattle.schemars_meaning.proofs.Words.{codes, is_some, bytes_eq, option_and_then, if◌then◌else◌, bytes_eq-Decides, Data, boolean, string, object, Members, no_members, member, put, get_member, as_str, get_member-put, Text, put_members, IsSchema, members_in, Context, Patterns, Judge, judge, verdict, is_annotation, AreNotes, without, context2020_12, IsReady, annotated}
-use Rattle.schemars_schema.specs.Acceptance.{read_data, all_keywords}
+use Rattle.schemars_schema.specs.Acceptance.{Part, key, position, read_data, all_keywords}
 use Rattle.schemars_schema.proofs.Objects.{judge-put}
 use Rattle.schemars_schema.proofs.Literals.{judge-put_members}
 use Rattle.schemars_schema.proofs.Members.{without-put}
+use Rattle.schemars_schema.specs.Verdict.{Yes, No}
 use Rattle.schemars_schema.proofs.Silent.{items_none, const_none, unevaluated_none}
 use Rattle.schemars_schema.specs.Edits.{is_text}
 use Rattle.schemars_builders.specs.AllowNull.{is_null_choice}
@@ -26,11 +27,19 @@ module _ (patterns : Patterns) (f : Text → Judge) where
   abbrev c : Context
   c = context2020_12 patterns f
 
+  -- the object that a truth value becomes judges no part of a value
+  judges_nothing : (b : Bool) (v : Data) (p : Part) → (judge c (object (members_in (boolean b)))).judges v p ≡ false
+  unfolding read_data all_keywords
+  judges_nothing true v (key k) = refl
+  judges_nothing true v (position n) = refl
+  judges_nothing false v (key k) = refl
+  judges_nothing false v (position n) = refl
+
   -- a truth value and the object that it becomes say the same
   judge-members_in : (s : Data) → IsSchema s → judge c (object (members_in s)) ≡ judge c s
   unfolding read_data all_keywords
-  judge-members_in (boolean true) is = refl
-  judge-members_in (boolean false) is = refl
+  judge-members_in (boolean true) is = λ i. record { fits = λ v. Yes; judges = λ v p. judges_nothing true v p i }
+  judge-members_in (boolean false) is = λ i. record { fits = λ v. No; judges = λ v p. judges_nothing false v p i }
   judge-members_in (object ms) is = refl
   judge-members_in _ is = absurd is
 

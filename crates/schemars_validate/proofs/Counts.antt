@@ -37,7 +37,3 @@ count_at_least n k count = go (whole_of n) refl count
     go None is some = absurd (true≢false (sym some))
     go (Some (pos m)) is some = ap Some (least-whole (pos k) n (pos m) is)
     go (Some (negsuc m)) is some = absurd (true≢false (sym some))
-
--- so many beside those of a count
-abbrev pub added : ℕ → Option ℕ → Option ℕ
-added n count = option_map (λ m. n + m) count

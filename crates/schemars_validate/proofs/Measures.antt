@@ -2,14 +2,14 @@
 use Rattle.std.proofs.Common.{◌≡◌, ℕ, zero, suc, ◌+◌, ◌-◌, ◌*◌, ◌<◌, ◌≤◌, max, [], ◌∷◌, ◌++◌, Bool, true, false, Option, Some, None, refl, arith}
 use Rattle.std.specs.Prelude.{◌==◌, is_some, option_and_then, if◌then◌else◌, bytes_eq, codes}
 use Rattle.serde_json.specs.Data.{Data, null, boolean, number, string, array, object, Items, no_items, item, Members, no_members, member, depth, items_depth, members_depth}
-use Rattle.serde_json.specs.Find.{get_member, get_item, step, walk, pointer, index_of, unescape}
+use Rattle.serde_json.specs.Find.{get_member, as_object, get_item, step, walk, pointer, index_of, unescape}
 use Rattle.schemars_text.proofs.Members.{get_member-member}
 use Rattle.schemars_schema.specs.Json.{Text}
 use Rattle.schemars_schema.specs.SchemaData.{is_schema}
 use Rattle.schemars_schema.specs.Encoding.{lookup, percent_decoded}
 use Rattle.schemars_schema.specs.Lookup.{resolved}
 use Rattle.schemars_schema.specs.Acceptance.{when}
-use Rattle.schemars_validate.specs.Schemas.{are_schemas, are_named_schemas, schema_at, schemas_in, schemas_by_name, schema_where_read, schemas_where_read}
+use Rattle.schemars_validate.specs.Schemas.{are_schemas, are_named_schemas, schema_at, schemas_in, schemas_by_name, schema_where_read, schemas_where_read, members_where_read, schema_of_rest}
 use Rattle.schemars_validate.specs.Parts.{first_schemas, other_schema, items_or_none}
 
 abbrev pub depth_at : Option Data → ℕ
@@ -97,6 +97,23 @@ read_under false k ms = omega arith
 pub read_map_under : (r : Bool) (k : Text) (ms : Members) → members_depth_at (schemas_where_read r (get_member k ms)) ≤ members_depth ms
 read_map_under true k ms = map_under k ms
 read_map_under false k ms = omega arith
+
+pub rest_under : (r : Bool) (ms : Members) (v : Data) → depth_at (schema_of_rest r (λ k. get_member k ms) v) ≤ members_depth ms
+rest_under r ms null = omega arith
+rest_under r ms (boolean b) = omega arith
+rest_under r ms (number n) = omega arith
+rest_under r ms (string s) = omega arith
+rest_under r ms (array ds) = read_under r (codes "unevaluatedItems") ms
+rest_under r ms (object ns) = read_under r (codes "unevaluatedProperties") ms
+
+pub among_under : (r : Bool) (k : Text) (ms : Members) → members_depth_at (members_where_read r (get_member k ms)) ≤ members_depth ms
+among_under true k ms = go (get_member k ms) (member_shallow k ms)
+  where
+    go : (x : Option Data) → depth_at x ≤ members_depth ms → members_depth_at (option_and_then as_object x) ≤ members_depth ms
+    go None h = h
+    go (Some (object ns)) h = omega arith
+    go (Some _) h = omega arith
+among_under false k ms = omega arith
 
 -- ---- what a reference leads to is no deeper than the document
 

@@ -9,15 +9,15 @@ use lib.Ieee.{up, down}
 use lib.Ieee.Exact.{HasValue}
 use lib.Ieee.Back.{round_whole}
 use lib.Ieee.Fits.{down_pos}
-use Rattle.std.specs.Prelude.{◌-◌, ◌==◌, Some, None, is_some, int_le, if◌then◌else◌}
+use Rattle.std.specs.Prelude.{◌-◌, ◌==◌, Some, None, Option, is_some, option_and_then, nat_lt, int_le, if◌then◌else◌}
 use Rattle.serde_json.specs.Data.{Num, unsigned, negative, float}
 use Rattle.serde_json.specs.Find.{as_integer, as_u64, as_i64, is_float, to_float}
 use Rattle.serde_json.specs.Number.{num_of, is_valid}
 use Rattle.serde_json.specs.declared.number.N.{N}
 use Rattle.serde_json.specs.declared.number.N.TheVariants.{PosInt, NegInt}
 use Rattle.serde_json.specs.declared.number.N.TheVariants as the
-use Rattle.schemars_schema.specs.Numbers.{of_whole, value_of, number_le, whole_of_float, with_sign}
-use Rattle.schemars_schema.proofs.ByValue.{le-left, le-right, eq-left, le_whole, some_same, none_some}
+use Rattle.schemars_schema.specs.Numbers.{of_whole, value_of, number_le, whole_of, whole_of_float, with_sign, size_of_whole, size_in_64_bits}
+use Rattle.schemars_schema.proofs.ByValue.{le-left, le-right, eq-left, le_whole, greatest-whole, some_same, none_some}
 
 pub middle_is : Ieee.of_bits binary64 4845873199050653696 ≡ two_to 53
 unfolding Ieee.of_bits
@@ -274,3 +274,110 @@ to_top_bound (inf true) low = tt
 to_top_bound (inf false) low = absurd (true≢false (sym low))
 to_top_bound (fin true m e) low = T_from_true _ (grind (arith, nat_tests, down_pos e))
 to_top_bound (fin false m e) low = T_from_true _ (grind (arith, nat_tests, down_pos e))
+
+-- ---- sizes below 2 ^ 64
+
+top : (k : ℕ) → size_of_whole (with_sign true k) ≡ size_of_whole (pos k)
+top zero = refl
+top (suc k) = refl
+
+size_signed : (s : Bool) (k : ℕ) → size_of_whole (with_sign s k) ≡ (if nat_lt k (2 ^ 64) then Some k else None)
+size_signed false k = refl
+size_signed true k = top k
+
+-- the float without its sign and its fraction
+pub size_below : (x : Float) → Ieee.lt (float_with_sign false x) (two_to 64) ≡ true → is_some (whole_of_float x) ≡ true
+    → Some (Ieee.to_unsigned 64 (float_with_sign false x)) ≡ option_and_then size_of_whole (whole_of_float x)
+unfolding Ieee.lt Ieee.to_unsigned float_with_sign
+size_below nan low some = absurd (true≢false (sym low))
+size_below (inf s) low some = absurd (true≢false (sym low))
+size_below (fin s m e) low some =
+    let a = m * up e in
+    let below : a < 2 ^ 64 * down e = grind (arith, nat_tests) in
+    let whole : a / down e < 2 ^ 64 = (div-lt_iff_lt-mul {x = a} {y = 2 ^ 64} (down_pos e)).1 below in
+    let part : min (a / down e) (2 ^ 64 - 1) ≡ a / down e = omega arith in
+    let fits : nat_lt (a / down e) (2 ^ 64) ≡ true = grind (arith, nat_tests) in
+    let there : (a % down e == 0) ≡ true = sym (chosen (a % down e == 0) (with_sign s (a / down e))) ∙ some in
+    ap Some part
+    ∙ (sym (size_signed s (a / down e) ∙ ap (λ (b : Bool). if b then Some (a / down e) else None) fits)
+    ∙ sym (ap (λ (b : Bool). option_and_then size_of_whole (if b then Some (with_sign s (a / down e)) else None)) there))
+
+pub size_fraction : (x : Float) → is_some (whole_of_float x) ≡ false → None ≡ option_and_then size_of_whole (whole_of_float x)
+size_fraction x none = go (whole_of_float x) none
+  where
+    go : (z : Option ℤ) → is_some z ≡ false → None ≡ option_and_then size_of_whole z
+    go None none = refl
+    go (Some z) none = absurd (true≢false none)
+
+pub size_above : (x : Float) → Ieee.lt (float_with_sign false x) (two_to 64) ≡ false
+    → None ≡ option_and_then size_of_whole (whole_of_float x)
+unfolding Ieee.lt float_with_sign
+size_above nan high = refl
+size_above (inf s) high = refl
+size_above (fin s m e) high =
+    let a = m * up e in
+    let above : (a / down e < 2 ^ 64) → ⊥ = λ less.
+    let less' = (div-lt_iff_lt-mul {x = a} {y = 2 ^ 64} (down_pos e)).0 less in
+    true≢false (sym (sym high ∙ grind (arith, nat_tests, less'))) in
+    let over : nat_lt (a / down e) (2 ^ 64) ≡ false = grind (arith, nat_tests, above) in
+    go (a % down e == 0) (sym (size_signed s (a / down e) ∙ ap (λ (b : Bool). if b then Some (a / down e) else None) over))
+  where
+    go : (b : Bool) → None ≡ size_of_whole (with_sign s (m * up e / down e))
+        → None ≡ option_and_then size_of_whole (if b then Some (with_sign s (m * up e / down e)) else None)
+    go true over = over
+    go false over = refl
+
+pub from_zero_up : (x : Float) → Ieee.lt (float_with_sign false x) (two_to 64) ≡ true → T (Ieee.lt minus_one (float_with_sign false x))
+unfolding Ieee.lt float_with_sign
+from_zero_up nan low = absurd (true≢false (sym low))
+from_zero_up (inf s) low = tt
+from_zero_up (fin s m e) low = T_from_true _ (grind (arith, nat_tests, down_pos e))
+
+-- of a number as it is held
+pub size_unsigned : (n : Num) (k : ℕ) → as_u64 n ≡ Some k → k < 2 ^ 64 → Some k ≡ size_in_64_bits n
+size_unsigned (unsigned m) k is fits =
+    let same : m ≡ k = some_same is in
+    let below : nat_lt m (2 ^ 64) ≡ true = grind (arith, nat_tests) in
+    ap Some (sym same) ∙ sym (ap (λ (b : Bool). if b then Some m else None) below)
+size_unsigned (negative z) k is fits = none_some is
+size_unsigned (float x) k is fits = none_some is
+
+pub size_negative : (n : Num) (z : ℤ) (k : ℕ) → as_u64 n ≡ None → as_i64 n ≡ Some z → k ≡ unsigned_abs z → k < 2 ^ 64
+    → Some k ≡ size_in_64_bits n
+size_negative (unsigned m) z k none is size fits = none_some (sym none)
+size_negative (float x) z k none is size fits = none_some is
+size_negative (negative y) z k none is size fits = ap Some (size ∙ ap unsigned_abs (sym same)) ∙ go y (size ∙ ap unsigned_abs (sym same))
+  where
+    same : y ≡ z
+    same = some_same is
+
+    go : (y : ℤ) → k ≡ unsigned_abs y → Some (unsigned_abs y) ≡ size_of_whole y
+    go (pos m) e =
+        let below : nat_lt m (2 ^ 64) ≡ true = grind (arith, nat_tests) in sym (ap (λ (b : Bool). if b then Some m else None) below)
+    go (negsuc m) e =
+        let below : nat_lt (suc m) (2 ^ 64) ≡ true = grind (arith, nat_tests) in
+        sym (ap (λ (b : Bool). if b then Some (suc m) else None) below)
+
+pub size_floating : (n : Num) (x : Float) → as_u64 n ≡ None → as_i64 n ≡ None → to_float n ≡ x
+    → option_and_then size_of_whole (whole_of_float x) ≡ size_in_64_bits n
+size_floating (unsigned m) x none other is = none_some (sym none)
+size_floating (negative z) x none other is = none_some (sym other)
+size_floating (float y) x none other is = ap (λ (w : Float). option_and_then size_of_whole (whole_of_float w)) (sym is)
+
+-- ---- a number above zero has a size above zero
+
+pub size_above_zero : (n : Num) (k : ℕ) → number_le n (unsigned 0) ≡ false → size_in_64_bits n ≡ Some k → 0 < k
+size_above_zero n zero high is = absurd (true≢false (sym (zero_size (whole_of n) refl is) ∙ high))
+  where
+    zero_size : (z : Option ℤ) → whole_of n ≡ z → option_and_then size_of_whole z ≡ Some 0 → number_le n (unsigned 0) ≡ true
+    zero_size None whole size = none_some size
+    zero_size (Some z) whole size = greatest-whole (pos 0) n z whole ∙ low z size
+      where
+        low : (z : ℤ) → size_of_whole z ≡ Some 0 → int_le z (pos 0) ≡ true
+        low (pos m) h = go (nat_lt m (2 ^ 64)) h
+          where
+            go : (b : Bool) → (if b then Some m else None) ≡ Some 0 → int_le (pos m) (pos 0) ≡ true
+            go true e = ap (λ (k : ℕ). int_le (pos k) (pos 0)) (some_same e)
+            go false e = none_some e
+        low (negsuc m) h = refl
+size_above_zero n (suc k) high is = omega arith

@@ -6,12 +6,13 @@ use Rattle.serde_json.specs.Find.{get_member, as_array, as_object, as_bool}
 use Rattle.schemars_text.proofs.Members.{get_member-member}
 use Rattle.schemars_schema.specs.Json.{Text}
 use Rattle.schemars_schema.specs.SchemaData.{is_schema}
+use Rattle.schemars_schema.specs.Lookup.{schema_only}
 use Rattle.schemars_schema.specs.Verdict.{Verdict, Yes, Open, both, verdict}
-use Rattle.schemars_schema.specs.Acceptance.{Context, Judge, Reading, Patterns, Raw, judge, read_data, read_items, read_members, all_named, both_some, truth_value, where_some, when, by_position, each_past, items_say, positions_say, past_say, past_list_say, count_of_positions, each_says, schema_says, condition_says, chosen, contains_says, count_of_fitting, where_read, property_names_say, dependent_schemas_say, schema_named, matches_some, by_patterns, each_member, named_in, properties_say, pattern_properties_say, additional_properties_say, is_covered, matches}
+use Rattle.schemars_schema.specs.Acceptance.{Context, Judge, Reading, Patterns, Raw, judge, read_data, read_items, read_members, all_named, both_some, truth_value, where_some, when, by_position, each_past, items_say, positions_say, past_say, past_list_say, count_of_positions, each_says, schema_says, condition_says, chosen, contains_says, count_of_fitting, where_read, property_names_say, dependent_schemas_say, dependencies_say, dependent_required_says, with_schema, some_named, schema_named, matches_some, by_patterns, each_member, named_in, properties_say, pattern_properties_say, additional_properties_say, is_covered, matches}
 use Rattle.schemars_schema.proofs.Verdicts.{both-yes, both-assoc, both-middle}
-use Rattle.schemars_validate.specs.Schemas.{are_schemas, are_named_schemas, schema_at, schemas_in, schemas_by_name, schema_where_read, schemas_where_read, judge_at, judges_of, named_judges, named_judges_in}
+use Rattle.schemars_validate.specs.Schemas.{are_schemas, are_named_schemas, schema_at, schemas_in, schemas_by_name, schema_where_read, schemas_where_read, members_where_read, judge_at, judges_of, named_judges, named_judges_in, judges_among, judges_among_in}
 use Rattle.schemars_validate.specs.Judged.{is_named, matches_one, is_matched}
-use Rattle.schemars_validate.specs.Parts.{each_item, items_by, items_or_none, first_schemas, other_schema, member_by, members_by, reads, names_by, dependents_by, is_contained}
+use Rattle.schemars_validate.specs.Parts.{each_item, items_by, items_or_none, first_schemas, other_schema, member_by, members_by, reads, names_by, dependents_by, counted_says}
 
 -- ---- schemas
 
@@ -151,9 +152,6 @@ pub read_names : (r : Bool) (c : Context) (x : Option Data) (v : Data)
     → names_by (judge_at c (schema_where_read r x)) v ≡ property_names_say r (option_map (read_data c) x) v
 read_names r c x v = read_where_read r c x (as_object v) (λ s ms. each_member (λ k w. s.fits (string k)) ms)
 
-abbrev pub counted_says : Bool → Option Data → Option Data → Option ℕ → Verdict
-counted_says reads least most count = elim count [ None ↦ Open | Some n ↦ verdict (is_contained reads least most n) ]
-
 pub read_contains : (r counts : Bool) (c : Context) (x least most : Option Data) (v : Data)
     → where_some (judge_at c (schema_where_read r x)) (λ s. where_some (as_array v) (λ vs. counted_says counts least most (count_of_fitting s vs)))
     ≡ contains_says r counts (option_map (read_data c) x) least most v
@@ -169,17 +167,79 @@ read_condition r c x accepted refused v =
 no_dependents : (v : Data) → dependents_by [] v ≡ Yes
 no_dependents v = says_nothing (as_object v)
 
-pub read_dependents : (r : Bool) (c : Context) (x : Option Data) (v : Data)
-    → dependents_by (named_judges_in c (schemas_where_read r x)) v ≡ dependent_schemas_say r (option_map (read_data c) x) v
-read_dependents true c None v = no_dependents v
-read_dependents true c (Some d) v =
-    sym (ap (λ o. where_some o (λ ss. dependents_by ss v)) (read_named c (Some d)) ∙ through (schemas_by_name (Some d)))
+-- where all members are schemas, none is left out
+each_among : (c : Context) (ms : Members) → are_named_schemas ms ≡ true → judges_among c ms ≡ named_judges c ms
+each_among c no_members all = refl
+each_among c (member k d ms) all = go (is_schema d) (are_named_schemas ms) refl refl all
   where
-    through : (y : Option Members) → where_some (option_map (named_judges c) y) (λ ss. dependents_by ss v) ≡ dependents_by (named_judges_in c y) v
-    through None = sym (no_dependents v)
-    through (Some ms) = refl
-read_dependents false c None v = no_dependents v
-read_dependents false c (Some d) v = no_dependents v
+    go : (b e : Bool) → is_schema d ≡ b → are_named_schemas ms ≡ e → (b && e) ≡ true
+        → with_schema k (judge_at c (schema_only d)) (judges_among c ms) ≡ (k, judge c d) ∷ named_judges c ms
+    go true true here later all =
+        ap (λ t. with_schema k (judge_at c (if t then Some d else None)) (judges_among c ms)) here
+        ∙ ap (λ ss. (k, judge c d) ∷ ss) (each_among c ms later)
+    go true false here later all = cc
+    go false e here later all = cc
+
+pub all_among : (r : Bool) (c : Context) (x : Option Data)
+    → judges_among_in c (schemas_where_read r x) ≡ named_judges_in c (schemas_where_read r x)
+all_among true c None = refl
+all_among true c (Some d) = go (as_object d)
+  where
+    found : (b : Bool) (ms : Members) → are_named_schemas ms ≡ b → judges_among_in c (when b ms) ≡ named_judges_in c (when b ms)
+    found true ms all = each_among c ms all
+    found false ms all = refl
+
+    go : (y : Option Members) → judges_among_in c (option_and_then (λ ms. when (are_named_schemas ms) ms) y)
+        ≡ named_judges_in c (option_and_then (λ ms. when (are_named_schemas ms) ms) y)
+    go None = refl
+    go (Some ms) = found (are_named_schemas ms) ms refl
+all_among false c x = refl
+
+pub read_among : (r : Bool) (c : Context) (x : Option Data) (v : Data)
+    → dependents_by (judges_among_in c (schemas_where_read r x)) v ≡ dependent_schemas_say r (option_map (read_data c) x) v
+read_among r c x v = ap (λ ss. dependents_by ss v) (all_among r c x) ∙ read_dependents r c x v
+  where
+    read_dependents : (r : Bool) (c : Context) (x : Option Data) (v : Data)
+        → dependents_by (named_judges_in c (schemas_where_read r x)) v ≡ dependent_schemas_say r (option_map (read_data c) x) v
+    read_dependents true c None v = no_dependents v
+    read_dependents true c (Some d) v =
+        sym (ap (λ o. where_some o (λ ss. dependents_by ss v)) (read_named c (Some d)) ∙ through (schemas_by_name (Some d)))
+      where
+        through : (y : Option Members)
+            → where_some (option_map (named_judges c) y) (λ ss. dependents_by ss v) ≡ dependents_by (named_judges_in c y) v
+        through None = sym (no_dependents v)
+        through (Some ms) = refl
+    read_dependents false c None v = no_dependents v
+    read_dependents false c (Some d) v = no_dependents v
+
+-- those of an object's members that are schemas
+among_read : (c : Context) (ms : Members) → some_named (read_members c ms) ≡ judges_among c ms
+unfolding read_data
+among_read c no_members = refl
+among_read c (member k d ms) =
+    ap (λ o. with_schema k o (some_named (read_members c ms))) (schema_read c d ∙ moved_if (judge c) (is_schema d) d)
+    ∙ ap (with_schema k (judge_at c (schema_only d))) (among_read c ms)
+
+pub read_dependencies : (r : Bool) (c : Context) (x : Option Data) (v : Data)
+    → both (dependent_required_says r x v) (dependents_by (judges_among_in c (members_where_read r x)) v)
+    ≡ dependencies_say r x (option_map (read_data c) x) v
+unfolding read_data
+read_dependencies r c x v = ap (both (dependent_required_says r x v)) (go r x)
+  where
+    of_kind : (d : Data) → dependents_by (judges_among_in c (as_object d)) v ≡ dependents_by (read_data c d).among v
+    of_kind null = refl
+    of_kind (boolean b) = refl
+    of_kind (number n) = refl
+    of_kind (string s) = refl
+    of_kind (array ds) = refl
+    of_kind (object ms) = ap (λ ss. dependents_by ss v) (sym (among_read c ms))
+
+    go : (r : Bool) (x : Option Data) → dependents_by (judges_among_in c (members_where_read r x)) v
+        ≡ where_read r (option_map (read_data c) x) (λ y. dependents_by y.among v)
+    go true None = no_dependents v
+    go true (Some d) = of_kind d
+    go false None = no_dependents v
+    go false (Some d) = no_dependents v
 
 -- ---- lists
 
@@ -235,7 +295,7 @@ positions_count c x = ap (λ o. elim o [ None ↦ 0 | Some ss ↦ length ss ]) (
     counted (Some ds) = refl
 
 -- a list of schemas is no schema
-list_no_schema : (x : Option Data) (ds : Items) → schemas_in x ≡ Some ds → schema_at x ≡ None
+pub list_no_schema : (x : Option Data) (ds : Items) → schemas_in x ≡ Some ds → schema_at x ≡ None
 list_no_schema None ds h = refl
 list_no_schema (Some null) ds h = refl
 list_no_schema (Some (boolean b)) ds h = cc

@@ -1,6 +1,6 @@
 -- One turn of a loop over schemas, items or members.
-use Rattle.std.proofs.Common.{◌≡◌, ℕ, zero, suc, ◌<◌, ◌≤◌, List, [], ◌∷◌, Bool, true, false, Option, Some, None, length, get_or, refl, sym, ap, ◌∙◌, arith, Bor, Iter}
-use Rattle.std.specs.Prelude.{◌||◌, if◌then◌else◌, is_some, option_map, option_and_then, max}
+use Rattle.std.proofs.Common.{◌≡◌, ℕ, zero, suc, ◌+◌, ◌<◌, ◌≤◌, List, [], ◌∷◌, Bool, true, false, Option, Some, None, length, get_or, refl, sym, ap, ◌∙◌, arith, Bor, Iter}
+use Rattle.std.specs.Prelude.{◌||◌, if◌then◌else◌, is_some, option_map, option_and_then, max, map}
 use Rattle.serde_json.specs.Data.{Data, Items, no_items, item, Members, member, depth, items_depth, members_depth}
 use Rattle.serde_json.specs.View.{view, items_view, members_view}
 use Rattle.serde_json.specs.declared.value.Value.{Value}
@@ -8,13 +8,16 @@ use Rattle.serde_json.specs.Find.{get_member}
 use Rattle.serde_json.proofs.Views.{Entry}
 use Rattle.std.specs.Slice.Iter.{iter_rest, iter_steps}
 use Rattle.schemars_schema.specs.Json.{Text}
-use Rattle.schemars_schema.specs.Verdict.{Verdict, Yes, both}
-use Rattle.schemars_schema.specs.Acceptance.{Context, Judge, Patterns, judge, where_some, by_patterns, matches_some, schema_named, beside_members}
+use Rattle.schemars_schema.specs.SchemaData.{is_schema}
+use Rattle.schemars_schema.specs.Lookup.{schema_only}
+use Rattle.schemars_schema.specs.Verdict.{Verdict, Yes, No, Open, both, all_of}
+use Rattle.schemars_schema.specs.Acceptance.{Context, Judge, Patterns, judge, where_some, by_patterns, matches_some, schema_named, Part, judged_by_some, beside_members, with_schema, one_more}
 use Rattle.schemars_schema.proofs.Verdicts.{both-assoc}
-use Rattle.schemars_validate.specs.Judged.{each_unmarked, is_marked}
+use Rattle.schemars_validate.specs.Judged.{marked, each_unmarked, each_unmarked_item, is_marked, judged_by_one}
 use Rattle.schemars_validate.specs.Schemas.{first_of, judge_at, judges_of, named_judges_in}
 use Rattle.schemars_validate.specs.Parts.{each_item, member_by}
 use Rattle.schemars_validate.proofs.Measures.{depth_at, members_depth_at, member_shallow}
+use Rattle.schemars_validate.proofs.Judging.{marked_none, next_marks}
 use Rattle.schemars_validate.proofs.Readings.{schema_named-judges, named-judges}
 
 -- what is said so far, with what one more says, and then what the others say
@@ -59,22 +62,37 @@ next_deep (Some x) s t others n step h =
 next_deep None s t others n step h =
     let same = ap (λ (i : Iter Value). items_depth (items_view (iter_rest i))) step.1 in (omega (arith, same), omega arith)
 
--- ---- the members without a mark
+-- ---- the members and the items without a mark
+
+-- where a mark is not set
+unmarked_says : (c : Context) (d w : Data) (b : Bool) → (if b then Yes else (judge c d).fits w)
+    ≡ where_some (judge_at c (if b then None else Some d)) (λ j. j.fits w)
+unmarked_says c d w true = refl
+unmarked_says c d w false = refl
 
 pub unmarked_member_says : (c : Context) (d : Data) (r : Option (Bor Bool)) (s t : Iter Bool) (k : Text) (w : Data) (ms : Members) → iter_steps s r t
     → each_unmarked (judge c d) (member k w ms) (iter_rest s)
     ≡ both (where_some (judge_at c (if is_marked (option_map (λ b. b.now) r) then None else Some d)) (λ j. j.fits w))
     (each_unmarked (judge c d) ms (iter_rest t))
 unmarked_member_says c d (Some x) s t k w ms step =
-    ap (each_unmarked (judge c d) (member k w ms)) step ∙ ap (λ (y : Verdict). both y (each_unmarked (judge c d) ms (iter_rest t))) (go x.now)
-  where
-    go : (b : Bool) → (if b then Yes else (judge c d).fits w) ≡ where_some (judge_at c (if b then None else Some d)) (λ j. j.fits w)
-    go true = refl
-    go false = refl
+    ap (each_unmarked (judge c d) (member k w ms)) step
+    ∙ ap (λ (y : Verdict). both y (each_unmarked (judge c d) ms (iter_rest t))) (unmarked_says c d w x.now)
 unmarked_member_says c d None s t k w ms step =
     let none = no_items_there (iter_rest s) step.0 in
     ap (each_unmarked (judge c d) (member k w ms)) none
     ∙ ap (λ (bs : List Bool). both ((judge c d).fits w) (each_unmarked (judge c d) ms bs)) (sym none ∙ ap iter_rest (sym step.1))
+
+pub unmarked_item_says : (c : Context) (d : Data) (r : Option (Bor Bool)) (s t : Iter Bool) (w : Data) (ws : Items) → iter_steps s r t
+    → each_unmarked_item (judge c d) (item w ws) (iter_rest s)
+    ≡ both (where_some (judge_at c (if is_marked (option_map (λ b. b.now) r) then None else Some d)) (λ j. j.fits w))
+    (each_unmarked_item (judge c d) ws (iter_rest t))
+unmarked_item_says c d (Some x) s t w ws step =
+    ap (each_unmarked_item (judge c d) (item w ws)) step
+    ∙ ap (λ (y : Verdict). both y (each_unmarked_item (judge c d) ws (iter_rest t))) (unmarked_says c d w x.now)
+unmarked_item_says c d None s t w ws step =
+    let none = no_items_there (iter_rest s) step.0 in
+    ap (each_unmarked_item (judge c d) (item w ws)) none
+    ∙ ap (λ (bs : List Bool). both ((judge c d).fits w) (each_unmarked_item (judge c d) ws bs)) (sym none ∙ ap iter_rest (sym step.1))
 
 pub asked_deep : (b : Bool) (d : Data) → depth_at (if b then None else Some d) ≤ depth d
 asked_deep true d = omega arith
@@ -144,6 +162,78 @@ no_item_says (s ∷ ss) others = refl
 
 -- ---- schemas beside members
 
-pub beside_one : (s : Text × Judge) (ss : List (Text × Judge)) (ms : Members) → is_some (get_member s.0 ms) ≡ true
-    → beside_members (s ∷ ss) ms ≡ s.1 ∷ beside_members ss ms
-beside_one s ss ms there = ap (λ b. if b then s.1 ∷ beside_members ss ms else beside_members ss ms) there
+-- a schema whose name is a key of the value's members
+abbrev pub beside_at : Members → Text → Data → Option Data
+beside_at ms k d = if is_some (get_member k ms) then schema_only d else None
+
+pub beside_deep : (ms : Members) (k : Text) (d : Data) → depth_at (beside_at ms k d) ≤ depth d
+beside_deep ms k d = go (is_some (get_member k ms)) (is_schema d)
+  where
+    go : (b e : Bool) → depth_at (if b then (if e then Some d else None) else None) ≤ depth d
+    go true true = omega arith
+    go true false = omega arith
+    go false e = omega arith
+
+pub with_schema_says : (c : Context) (ms : Members) (k : Text) (d v : Data) (ss : List (Text × Judge))
+    → all_of (map (λ s. s.fits v) (beside_members (with_schema k (judge_at c (schema_only d)) ss) ms))
+    ≡ both (where_some (judge_at c (beside_at ms k d)) (λ s. s.fits v)) (all_of (map (λ s. s.fits v) (beside_members ss ms)))
+with_schema_says c ms k d v ss = go (is_some (get_member k ms)) refl (schema_only d)
+  where
+    rest : Verdict
+    rest = all_of (map (λ s. s.fits v) (beside_members ss ms))
+
+    go : (b : Bool) → is_some (get_member k ms) ≡ b → (o : Option Data)
+        → all_of (map (λ s. s.fits v) (beside_members (with_schema k (judge_at c o) ss) ms))
+        ≡ both (where_some (judge_at c (if b then o else None)) (λ s. s.fits v)) rest
+    go true there None = refl
+    go false there None = refl
+    go true there (Some e) =
+        ap (λ t. all_of (map (λ s. s.fits v) (if t then judge c e ∷ beside_members ss ms else beside_members ss ms))) there
+    go false there (Some e) =
+        ap (λ t. all_of (map (λ s. s.fits v) (if t then judge c e ∷ beside_members ss ms else beside_members ss ms))) there
+
+pub with_schema_judges : (c : Context) (ms : Members) (k : Text) (d v : Data) (ss : List (Text × Judge)) (ps : List Part) (bs cs : List Bool)
+    → cs ≡ marked (judged_by_one (judge_at c (beside_at ms k d)) v) ps bs
+    → marked (judged_by_some (beside_members ss ms) v) ps cs
+    ≡ marked (judged_by_some (beside_members (with_schema k (judge_at c (schema_only d)) ss) ms) v) ps bs
+with_schema_judges c ms k d v ss ps bs cs = go (is_some (get_member k ms)) refl (schema_only d)
+  where
+    go : (b : Bool) → is_some (get_member k ms) ≡ b → (o : Option Data)
+        → cs ≡ marked (judged_by_one (judge_at c (if b then o else None)) v) ps bs
+        → marked (judged_by_some (beside_members ss ms) v) ps cs
+        ≡ marked (judged_by_some (beside_members (with_schema k (judge_at c o) ss) ms) v) ps bs
+    go true there None e = ap (marked (judged_by_some (beside_members ss ms) v) ps) (e ∙ marked_none ps bs)
+    go false there None e = ap (marked (judged_by_some (beside_members ss ms) v) ps) (e ∙ marked_none ps bs)
+    go true there (Some x) e =
+        next_marks (judge c x) (beside_members ss ms) v ps bs cs e
+        ∙ ap (λ t. marked (judged_by_some (if t then judge c x ∷ beside_members ss ms else beside_members ss ms) v) ps bs) (sym there)
+    go false there (Some x) e =
+        ap (marked (judged_by_some (beside_members ss ms) v) ps) (e ∙ marked_none ps bs)
+        ∙ ap (λ t. marked (judged_by_some (if t then judge c x ∷ beside_members ss ms else beside_members ss ms) v) ps bs) (sym there)
+
+-- ---- the count of items that fit
+
+-- so many more
+abbrev pub added : Option ℕ → Option ℕ → Option ℕ
+added None count = None
+added (Some n) count = option_map (λ m. n + m) count
+
+pub added_one : (x : Verdict) (n count : Option ℕ) → added (one_more x n) count ≡ added n (one_more x count)
+added_one Yes None count = refl
+added_one Yes (Some n) None = refl
+added_one Yes (Some n) (Some m) = let moved : suc n + m ≡ n + suc m = omega arith in ap Some moved
+added_one No n count = refl
+added_one Open None count = refl
+added_one Open (Some n) count = refl
+
+-- no more than so many
+abbrev pub IsFew : Option ℕ → ℕ → Type 0
+IsFew None i = Unit {0}
+IsFew (Some n) i = n ≤ i
+
+pub one_few : (x : Verdict) (n : Option ℕ) (i : ℕ) → IsFew n i → IsFew (one_more x n) (i + 1)
+one_few Yes None i few = tt
+one_few Yes (Some n) i few = omega arith
+one_few No None i few = tt
+one_few No (Some n) i few = omega arith
+one_few Open n i few = tt

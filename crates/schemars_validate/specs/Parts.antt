@@ -3,8 +3,8 @@ use Rattle.std.specs.Prelude.{◌||◌, ◌&&◌, ℕ, nat_le, map, Bool, true, 
 use Rattle.serde_json.specs.Data.{Data, string, Items, no_items, item}
 use Rattle.serde_json.specs.Find.{as_array, as_object}
 use Rattle.schemars_schema.specs.Json.{Text}
-use Rattle.schemars_schema.specs.Verdict.{Verdict, Yes, both, all_of, any_of, one_of}
-use Rattle.schemars_schema.specs.Acceptance.{Dialect, Patterns, Context, Judge, Test, Raw, Readings, read_data, where_some, type_says, const_says, enum_says, minimum_says, maximum_says, exclusive_minimum_says, exclusive_maximum_says, min_length_says, max_length_says, pattern_says, min_items_says, max_items_says, unique_items_says, items_say, contains_says, or_one, is_up_to, contained_count, min_properties_says, max_properties_says, required_says, dependent_required_says, property_names_say, properties_say, pattern_properties_say, additional_properties_say, is_covered, each_says, not_says, condition_says, dependent_schemas_say, beside_members, reference_says, schema_named, by_patterns, matches_some, each_member}
+use Rattle.schemars_schema.specs.Verdict.{Verdict, Yes, Open, verdict, both, all_of, any_of, one_of}
+use Rattle.schemars_schema.specs.Acceptance.{Dialect, Patterns, Context, Judge, Test, Raw, Readings, read_data, where_some, type_says, const_says, enum_says, minimum_says, maximum_says, exclusive_minimum_says, exclusive_maximum_says, multiple_of_says, min_length_says, max_length_says, pattern_says, min_items_says, max_items_says, unique_items_says, items_say, contains_says, or_one, is_up_to, contained_count, min_properties_says, max_properties_says, required_says, dependent_required_says, property_names_say, properties_say, pattern_properties_say, additional_properties_say, is_covered, each_says, not_says, condition_says, dependent_schemas_say, dependencies_say, reads_dependencies, beside_members, reference_says, schema_named, by_patterns, matches_some, each_member}
 use Rattle.schemars_validate.specs.Schemas.{schema_at, schemas_in}
 
 -- the keywords that judge a value by itself, but for those that look at the keys
@@ -17,6 +17,7 @@ by_itself dialect patterns raw v =
     ∷ maximum_says (raw (codes "maximum")) v
     ∷ exclusive_minimum_says dialect.reads_const (raw (codes "exclusiveMinimum")) (raw (codes "minimum")) v
     ∷ exclusive_maximum_says dialect.reads_const (raw (codes "exclusiveMaximum")) (raw (codes "maximum")) v
+    ∷ multiple_of_says (raw (codes "multipleOf")) v
     ∷ min_length_says (raw (codes "minLength")) v
     ∷ max_length_says (raw (codes "maxLength")) v
     ∷ pattern_says patterns (raw (codes "pattern")) v
@@ -54,7 +55,7 @@ inside c raw v =
     (reads c raw (codes "additionalProperties")) v))
     ∷ []
 
--- all keywords but `unevaluatedProperties`
+-- all keywords but those for what is left
 abbrev pub besides : Context → Raw → Data → List Verdict
 besides c raw v =
     reference_says c.follow (raw (codes "$ref")) v
@@ -66,6 +67,7 @@ besides c raw v =
     ∷ not_says (reads c raw (codes "not")) v
     ∷ condition_says c.dialect.reads_const (reads c raw (codes "if")) (reads c raw (codes "then")) (reads c raw (codes "else")) v
     ∷ dependent_schemas_say c.dialect.reads_unevaluated (reads c raw (codes "dependentSchemas")) v
+    ∷ dependencies_say (reads_dependencies c.dialect) (raw (codes "dependencies")) (reads c raw (codes "dependencies")) v
     ∷ []
 
 -- ---- lists
@@ -96,6 +98,10 @@ other_schema false raw =
 -- so many items as `minContains` and `maxContains` ask for
 abbrev pub is_contained : Bool → Option Data → Option Data → ℕ → Bool
 is_contained reads least most n = nat_le (or_one (contained_count reads least)) n && is_up_to (contained_count reads most) n
+
+-- what is said of a count, unless an item was left open
+abbrev pub counted_says : Bool → Option Data → Option Data → Option ℕ → Verdict
+counted_says reads least most count = elim count [ None ↦ Open | Some n ↦ verdict (is_contained reads least most n) ]
 
 -- ---- objects
 

@@ -1,6 +1,6 @@
 //! How the drafts of JSON Schema differ.
 ghost use Rattle.std.specs.Prelude.{◌≡◌};
-ghost use Rattle.schemars_schema.specs.Acceptance.{draft2020_12, draft2019_09, draft07, openapi3};
+ghost use Rattle.schemars_schema.specs.Acceptance.{draft2020_12, draft2019_09, draft07, openapi3, reads_dependencies};
 
 use std::marker::Model;
 
@@ -118,5 +118,11 @@ impl Dialect {
         ensures { result ≡ self.reads_unevaluated }
     {
         self.reads_unevaluated
+    }
+
+    pub(crate) fn reads_dependencies(self) -> bool
+        ensures { result ≡ reads_dependencies self }
+    {
+        self.reads_const && !self.reads_unevaluated
     }
 }

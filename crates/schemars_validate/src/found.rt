@@ -3,9 +3,9 @@ ghost use Rattle.std.specs.Prelude.{◌≡◌, ◌||◌, ◌&&◌, not, None, If
 ghost use Rattle.serde_json.specs.Data.{string};
 ghost use Rattle.serde_json.specs.Find.{get_member, as_str};
 ghost use Rattle.serde_json.specs.View.{view, items_view, members_view};
-ghost use Rattle.schemars_validate.specs.Schemas.{are_schemas, are_named_schemas, first_of, schema_at, schemas_in, schemas_by_name, schema_where_read, schemas_where_read};
+ghost use Rattle.schemars_validate.specs.Schemas.{are_schemas, are_named_schemas, first_of, schema_at, schemas_in, schemas_by_name, schema_where_read, schemas_where_read, members_where_read, schema_of_rest};
 ghost use Rattle.schemars_validate.specs.Parts.{first_schemas, other_schema, items_or_none};
-ghost use Rattle.schemars_schema.specs.Lookup.{resolved};
+ghost use Rattle.schemars_schema.specs.Lookup.{resolved, schema_only};
 ghost use Rattle.schemars_schema.specs.Acceptance.{is_reference};
 
 use crate::dialect::Dialect;
@@ -78,6 +78,33 @@ pub fn schemas_where_read(reads: bool, value: Option<&Value>) -> Option<&Map<Str
     if reads { schemas_by_name(value) } else { None }
 }
 
+/// The members of an object under a keyword that only some drafts read.
+pub fn members_where_read(reads: bool, value: Option<&Value>) -> Option<&Map<String, Value>>
+    ensures { option_map (λ s. members_view s.now.entries) result
+        ≡ members_where_read reads (option_map (λ v. view v.now) value.entry) }
+{
+    match value {
+        Some(map) if reads => map.as_object(),
+        _ => None,
+    }
+}
+
+/// The schema, if it is one, and if its name is a key of the value's members.
+pub fn schema_beside<'k>(
+    members: &Map<String, Value>,
+    name: &str,
+    schema: &'k Value,
+) -> Option<&'k Value>
+    ensures { option_map (λ s. view s.now) result
+        ≡ (if is_some (get_member name.now (members_view members.now.entries)) then schema_only (view schema.now) else None) }
+{
+    if member(members, name).is_some() && Schema::is_schema(schema) {
+        Some(schema)
+    } else {
+        None
+    }
+}
+
 fn are_schemas(values: &[Value]) -> bool
     ensures { result ≡ are_schemas (items_view values.now) }
 {
@@ -119,16 +146,21 @@ pub fn refers_alone(dialect: Dialect, keywords: &Map<String, Value>) -> bool
     !dialect.judges_siblings() && reference_in(keywords).is_some()
 }
 
-/// The schema under `unevaluatedProperties`, where that is read.
-pub fn unevaluated_in(dialect: Dialect, keywords: &Map<String, Value>) -> Option<&Value>
+/// The schema for all parts of the value that are left, where such a schema is read.
+pub fn schema_of_rest<'k>(
+    dialect: Dialect,
+    keywords: &'k Map<String, Value>,
+    value: &Value,
+) -> Option<&'k Value>
     ensures { option_map (λ s. view s.now) result
-        ≡ schema_where_read dialect.reads_unevaluated
-        (get_member (codes "unevaluatedProperties") (members_view keywords.now.entries)) }
+        ≡ schema_of_rest dialect.reads_unevaluated (λ k. get_member k (members_view keywords.now.entries)) (view value.now) }
 {
-    schema_where_read(
-        dialect.reads_unevaluated(),
-        member(keywords, "unevaluatedProperties"),
-    )
+    let keyword = match value {
+        Value::Array(_) => "unevaluatedItems",
+        Value::Object(_) => "unevaluatedProperties",
+        _ => return None,
+    };
+    schema_where_read(dialect.reads_unevaluated(), member(keywords, keyword))
 }
 
 /// The schemas of the first items of a list, and of all others.

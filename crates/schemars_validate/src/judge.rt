@@ -1,26 +1,30 @@
-//! What a schema says of a value, and which of the value's members it has judged, in one pass.
+//! What a schema says of a value, and which of the value's parts it has judged, in one pass.
 ghost use Rattle.std.specs.Prelude.{◌≡◌, IfOk, OnOk, option_map, map, codes};
 ghost use Rattle.serde_json.specs.Data.{object};
 ghost use Rattle.serde_json.specs.Find.{get_member};
 ghost use Rattle.serde_json.specs.View.{view, items_view, members_view};
 ghost use Rattle.schemars_schema.specs.Verdict.{all_of};
-ghost use Rattle.schemars_schema.specs.Acceptance.{Raw, context, judge, follow, where_some, reference_says, contains_says, count_of_fitting, condition_says, judged_by, judged_by_reference, judged_by_some, judged_by_condition, by_patterns, matches_some, judged_beside};
+ghost use Rattle.schemars_schema.specs.Acceptance.{Raw, context, judge, follow, where_some, reference_says, contains_says, count_of_fitting, condition_says, dependencies_say, reads_dependencies, judged_by, judged_by_reference, judged_by_some, judged_by_condition, judged_by_contains, by_patterns, matches_some, judged_itself, judged_beside};
 ghost use Rattle.schemars_validate.specs.Meant.{meant};
-ghost use Rattle.schemars_validate.specs.Judged.{marked, keys_of, unmarked_by, judged_by_one, judged_beside_members};
+ghost use Rattle.schemars_validate.specs.Judged.{marked, parts_of, positions_in, at_positions, fits_at, each_unmarked, each_unmarked_item, unmarked_by, judged_by_one, judged_beside_members};
 ghost use Rattle.schemars_validate.specs.Joined.{joined_by};
-ghost use Rattle.schemars_validate.specs.Schemas.{judge_at, judges_of, judges_in, named_judges_in};
+ghost use Rattle.schemars_validate.specs.Schemas.{judge_at, judges_of, judges_in, named_judges_in, judges_among_in};
 ghost use Rattle.schemars_validate.specs.Parts.{besides, inside, reads, items_by, members_by, member_by, names_by, dependents_by};
 
 use crate::dialect::Dialect;
 use crate::found::{
-    ItemSchemas, Matched, MemberSchemas, item_schemas, member, member_schemas, or_else, others_for,
-    reference_in, refers_alone, resolved, schema_at, schema_named, schema_where_read, schemas_in,
-    schemas_where_read, text, unevaluated_in,
+    ItemSchemas, Matched, MemberSchemas, item_schemas, member, member_schemas, members_where_read,
+    or_else, others_for, reference_in, refers_alone, resolved, schema_at, schema_beside,
+    schema_named, schema_of_rest, schema_where_read, schemas_in, schemas_where_read, text,
 };
 use crate::joined::{Join, Joined};
-use crate::marks::{copied, keep, mark_all, mark_members, unless_marked, unmarked};
+use crate::keys::{by_keys, dependent_required_says};
+use crate::arrays::{contained_says, one_more};
+use crate::marks::{
+    copied, keep, mark_all, mark_fitting, mark_items, mark_members, unless_marked, unmarked,
+};
 use crate::patterns::Patterns;
-use crate::scalars::{by_itself, by_keys, is_contained};
+use crate::scalars::by_itself;
 use crate::verdict::{Verdict, all_of, both, opposite, unless_missing, verdict_of};
 use serde_json::{Map, Value};
 use std::alloc::{AllocError, Global};
@@ -35,7 +39,7 @@ pub struct Document<'d, P> {
 }
 
 /// What a schema of a document says of a value, with at most `left` references within one another
-/// followed, and a mark for each member that it judges.
+/// followed, and a mark for each part that it judges.
 #[cycle(judge)]
 pub fn judge<P: Patterns>(
     d: &Document<'_, P>,
@@ -48,7 +52,7 @@ pub fn judge<P: Patterns>(
         IfOk result (λ says. meant says ≡ (judge c (view schema.now)).fits (view value.now)) }
     ensures judged { let c = context d.now.dialect (view d.now.whole.now) (P.reading d.now.patterns.now) left in
         OnOk result (marks.new.items
-        ≡ marked ((judge c (view schema.now)).judges (view value.now)) (keys_of (view value.now)) marks.old.items) }
+        ≡ marked ((judge c (view schema.now)).judges (view value.now)) (parts_of (view value.now)) marks.old.items) }
 {
     match schema.as_object() {
         Some(keywords) => object(d, left, keywords, value, marks),
@@ -70,12 +74,12 @@ fn object<P: Patterns>(
     ensures judged { let c = context d.now.dialect (view d.now.whole.now) (P.reading d.now.patterns.now) left in
         OnOk result (marks.new.items
         ≡ marked ((judge c (object (members_view keywords.now.entries))).judges (view value.now))
-        (keys_of (view value.now)) marks.old.items) }
+        (parts_of (view value.now)) marks.old.items) }
 {
     if refers_alone(d.dialect, keywords) {
         return reference(d, left, keywords, value, marks);
     }
-    match unevaluated_in(d.dialect, keywords) {
+    match schema_of_rest(d.dialect, keywords, value) {
         Some(schema) => {
             let mut judged = unmarked(d.alloc, value)?;
             let says = beside(d, left, keywords, value, &mut judged)?;
@@ -87,7 +91,7 @@ fn object<P: Patterns>(
     }
 }
 
-// All keywords but `unevaluatedProperties`.
+// All keywords but those for what is left.
 #[cycle(judge)]
 fn beside<P: Patterns>(
     d: &Document<'_, P>,
@@ -102,11 +106,10 @@ fn beside<P: Patterns>(
     ensures judged { let c = context d.now.dialect (view d.now.whole.now) (P.reading d.now.patterns.now) left in
         let raw : Raw = λ k. get_member k (members_view keywords.now.entries) in
         OnOk result (marks.new.items
-        ≡ marked (judged_beside c raw (reads c raw) (view value.now)) (keys_of (view value.now)) marks.old.items) }
+        ≡ marked (judged_beside c raw (reads c raw) (view value.now)) (parts_of (view value.now)) marks.old.items) }
 {
     let itself = by_itself(d.dialect, d.patterns, keywords, value);
-    let inside = inside(d, left, keywords, value)?;
-    mark_members(d.patterns, &member_schemas(keywords), value, marks);
+    let inside = inside(d, left, keywords, value, marks)?;
     let all = each(
         d,
         left,
@@ -138,11 +141,21 @@ fn beside<P: Patterns>(
     );
     let dependent = dependents(d, left, named, value, marks)?;
     let reference = reference(d, left, keywords, value, marks)?;
+    let dependencies = dependencies(d, left, keywords, value)?;
     let denied = schema_at(member(keywords, "not"));
     let fits_denied = alone(d, left, denied, value)?;
     let not = unless_missing(denied, opposite(fits_denied));
     Ok(all_of(&[
-        reference, itself, inside, all, any, one, not, chosen, dependent,
+        reference,
+        itself,
+        inside,
+        all,
+        any,
+        one,
+        not,
+        chosen,
+        dependent,
+        dependencies,
     ]))
 }
 
@@ -153,17 +166,26 @@ fn inside<P: Patterns>(
     left: u64,
     keywords: &Map<String, Value>,
     value: &Value,
+    marks: &mut Vec<bool>,
 ) -> Result<Verdict, AllocError>
-    ensures { let c = context d.now.dialect (view d.now.whole.now) (P.reading d.now.patterns.now) left in
+    ensures verdict { let c = context d.now.dialect (view d.now.whole.now) (P.reading d.now.patterns.now) left in
         IfOk result (λ says. meant says
         ≡ all_of (inside c (λ k. get_member k (members_view keywords.now.entries)) (view value.now))) }
+    ensures judged { let c = context d.now.dialect (view d.now.whole.now) (P.reading d.now.patterns.now) left in
+        let raw : Raw = λ k. get_member k (members_view keywords.now.entries) in
+        OnOk result (marks.new.items
+        ≡ marked (judged_itself c (reads c raw) (view value.now)) (parts_of (view value.now)) marks.old.items) }
 {
-    let items = items(d, left, &item_schemas(d.dialect, keywords), value)?;
-    let contains = contains(d, left, keywords, value)?;
+    let of_items = item_schemas(d.dialect, keywords);
+    let items = items(d, left, &of_items, value)?;
+    mark_items(&of_items, value, marks);
+    let contains = contains(d, left, keywords, value, marks)?;
     let keys = by_keys(d.dialect, keywords, value);
     let of_names = schema_where_read(d.dialect.reads_const(), member(keywords, "propertyNames"));
     let names = names(d, left, of_names, value)?;
-    let members = members(d, left, &member_schemas(keywords), value)?;
+    let of_members = member_schemas(keywords);
+    let members = members(d, left, &of_members, value)?;
+    mark_members(d.patterns, &of_members, value, marks);
     Ok(all_of(&[items, contains, keys, names, members]))
 }
 
@@ -181,7 +203,7 @@ fn reference<P: Patterns>(
     ensures judged { let to = follow d.now.dialect (view d.now.whole.now) (P.reading d.now.patterns.now) left in
         OnOk result (marks.new.items
         ≡ marked (judged_by_reference to (get_member (codes "$ref") (members_view keywords.now.entries)) (view value.now))
-        (keys_of (view value.now)) marks.old.items) }
+        (parts_of (view value.now)) marks.old.items) }
 {
     let Some(name) = reference_in(keywords) else {
         return Ok(Verdict::Yes);
@@ -195,7 +217,7 @@ fn reference<P: Patterns>(
     }
 }
 
-// What a schema of the same value says. It has judged members only if the value fits it.
+// What a schema of the same value says. It has judged parts only if the value fits it.
 #[cycle(judge)]
 fn fits<P: Patterns>(
     d: &Document<'_, P>,
@@ -208,7 +230,7 @@ fn fits<P: Patterns>(
         IfOk result (λ says. meant says ≡ (judge c (view schema.now)).fits (view value.now)) }
     ensures judged { let c = context d.now.dialect (view d.now.whole.now) (P.reading d.now.patterns.now) left in
         OnOk result (marks.new.items
-        ≡ marked (judged_by (judge c (view schema.now)) (view value.now)) (keys_of (view value.now)) marks.old.items) }
+        ≡ marked (judged_by (judge c (view schema.now)) (view value.now)) (parts_of (view value.now)) marks.old.items) }
 {
     let mut tried = copied(d.alloc, marks)?;
     let says = judge(d, left, schema, value, &mut tried)?;
@@ -216,7 +238,7 @@ fn fits<P: Patterns>(
     Ok(says)
 }
 
-// What a schema says of a value whose members nobody asks for. No schema says nothing.
+// What a schema says of a value whose parts nobody asks for. No schema says nothing.
 #[cycle(judge)]
 fn alone<P: Patterns>(
     d: &Document<'_, P>,
@@ -269,48 +291,55 @@ fn contains<P: Patterns>(
     left: u64,
     keywords: &Map<String, Value>,
     value: &Value,
+    marks: &mut Vec<bool>,
 ) -> Result<Verdict, AllocError>
-    ensures { let c = context d.now.dialect (view d.now.whole.now) (P.reading d.now.patterns.now) left in
+    ensures verdict { let c = context d.now.dialect (view d.now.whole.now) (P.reading d.now.patterns.now) left in
         let raw : Raw = λ k. get_member k (members_view keywords.now.entries) in
         IfOk result (λ says. meant says
         ≡ contains_says d.now.dialect.reads_const d.now.dialect.reads_unevaluated (reads c raw (codes "contains"))
         (raw (codes "minContains")) (raw (codes "maxContains")) (view value.now)) }
+    ensures judged { let c = context d.now.dialect (view d.now.whole.now) (P.reading d.now.patterns.now) left in
+        let raw : Raw = λ k. get_member k (members_view keywords.now.entries) in
+        OnOk result (marks.new.items ≡ marked
+        (at_positions (judged_by_contains d.now.dialect.reads_prefix_items (reads c raw (codes "contains")) (view value.now)))
+        (parts_of (view value.now)) marks.old.items) }
 {
-    let asked = schema_where_read(d.dialect.reads_const(), member(keywords, "contains"));
+    let asked = schema_at(member(keywords, "contains"));
     let Some(schema) = asked else {
         return Ok(Verdict::Yes);
     };
     let Some(items) = value.as_array() else {
         return Ok(Verdict::Yes);
     };
-    let Some(count) = count_of_fitting(d, left, schema, items)? else {
-        return Ok(Verdict::Open);
-    };
+    let count = count_of_fitting(d, left, schema, items, marks)?;
     let least = member(keywords, "minContains");
     let most = member(keywords, "maxContains");
-    Ok(verdict_of(is_contained(d.dialect.reads_unevaluated(), least, most, count)))
+    Ok(contained_says(d.dialect, least, most, count))
 }
 
-// How many items fit, unless the schema leaves one open.
+// How many items fit, unless the schema leaves one open. Those that fit are marked where a draft says so.
 #[cycle(judge)]
 fn count_of_fitting<P: Patterns>(
     d: &Document<'_, P>,
     left: u64,
     schema: &Value,
     items: &[Value],
+    marks: &mut Vec<bool>,
 ) -> Result<Option<u64>, AllocError>
-    ensures { let c = context d.now.dialect (view d.now.whole.now) (P.reading d.now.patterns.now) left in
+    ensures counted { let c = context d.now.dialect (view d.now.whole.now) (P.reading d.now.patterns.now) left in
         IfOk result (λ count. count ≡ count_of_fitting (judge c (view schema.now)) (items_view items.now)) }
+    ensures judged { let c = context d.now.dialect (view d.now.whole.now) (P.reading d.now.patterns.now) left in
+        OnOk result (marks.new.items ≡ marked
+        (at_positions (fits_at d.now.dialect.reads_prefix_items (judge c (view schema.now)) (items_view items.now)))
+        (positions_in 0 (items_view items.now)) marks.old.items) }
 {
-    let mut count: usize = 0;
-    for item in items {
-        match alone(d, left, Some(schema), item)? {
-            Verdict::Yes => count += 1,
-            Verdict::No => {}
-            Verdict::Open => return Ok(None),
-        }
+    let mut count = Some(0);
+    for (place, item) in items.iter().enumerate() {
+        let says = alone(d, left, Some(schema), item)?;
+        mark_fitting(d.dialect.reads_prefix_items(), says, marks, place);
+        count = one_more(says, count);
     }
-    Ok(Some(count as u64))
+    Ok(count)
 }
 
 // A schema for each key, as a text.
@@ -437,7 +466,7 @@ fn each<P: Patterns>(
     ensures judged { let c = context d.now.dialect (view d.now.whole.now) (P.reading d.now.patterns.now) left in
         OnOk result (marks.new.items
         ≡ marked (judged_by_some (judges_in c (option_map (λ s. items_view s.now.items) schemas.entry)) (view value.now))
-        (keys_of (view value.now)) marks.old.items) }
+        (parts_of (view value.now)) marks.old.items) }
 {
     let Some(schemas) = schemas else {
         return Ok(Verdict::Yes);
@@ -468,7 +497,7 @@ fn condition<P: Patterns>(
         let raw : Raw = λ k. get_member k (members_view keywords.now.entries) in
         OnOk result (marks.new.items
         ≡ marked (judged_by_condition d.now.dialect.reads_const (reads c raw (codes "if")) (reads c raw (codes "then"))
-        (reads c raw (codes "else")) (view value.now)) (keys_of (view value.now)) marks.old.items) }
+        (reads c raw (codes "else")) (view value.now)) (parts_of (view value.now)) marks.old.items) }
 {
     let asked = schema_where_read(d.dialect.reads_const(), member(keywords, "if"));
     let Some(schema) = asked else {
@@ -497,7 +526,7 @@ fn branch<P: Patterns>(
     ensures judged { let c = context d.now.dialect (view d.now.whole.now) (P.reading d.now.patterns.now) left in
         OnOk result (marks.new.items
         ≡ marked (judged_by_one (judge_at c (option_map (λ s. view s.now) schema.entry)) (view value.now))
-        (keys_of (view value.now)) marks.old.items) }
+        (parts_of (view value.now)) marks.old.items) }
 {
     match schema {
         Some(schema) => fits(d, left, schema, value, marks),
@@ -505,7 +534,7 @@ fn branch<P: Patterns>(
     }
 }
 
-// The schemas whose names are keys of the value.
+// Of the members those that are schemas, and whose names are keys of the value.
 #[cycle(judge)]
 fn dependents<P: Patterns>(
     d: &Document<'_, P>,
@@ -516,11 +545,11 @@ fn dependents<P: Patterns>(
 ) -> Result<Verdict, AllocError>
     ensures verdict { let c = context d.now.dialect (view d.now.whole.now) (P.reading d.now.patterns.now) left in
         IfOk result (λ says. meant says
-        ≡ dependents_by (named_judges_in c (option_map (λ s. members_view s.now.entries) by_name.entry)) (view value.now)) }
+        ≡ dependents_by (judges_among_in c (option_map (λ s. members_view s.now.entries) by_name.entry)) (view value.now)) }
     ensures judged { let c = context d.now.dialect (view d.now.whole.now) (P.reading d.now.patterns.now) left in
         OnOk result (marks.new.items
-        ≡ marked (judged_beside_members (named_judges_in c (option_map (λ s. members_view s.now.entries) by_name.entry))
-        (view value.now)) (keys_of (view value.now)) marks.old.items) }
+        ≡ marked (judged_beside_members (judges_among_in c (option_map (λ s. members_view s.now.entries) by_name.entry))
+        (view value.now)) (parts_of (view value.now)) marks.old.items) }
 {
     let mut says = Verdict::Yes;
     let Some(schemas) = by_name else {
@@ -530,14 +559,36 @@ fn dependents<P: Patterns>(
         return Ok(says);
     };
     for (name, schema) in schemas.iter() {
-        if member(members, name.as_str()).is_some() {
-            says = both(says, fits(d, left, schema, value, marks)?);
-        }
+        let asked = schema_beside(members, name.as_str(), schema);
+        says = both(says, branch(d, left, asked, value, marks)?);
     }
     Ok(says)
 }
 
-// A schema for the members that are not marked.
+// Beside a member, the names that are required or a schema of the value. It judges no parts.
+#[cycle(judge)]
+fn dependencies<P: Patterns>(
+    d: &Document<'_, P>,
+    left: u64,
+    keywords: &Map<String, Value>,
+    value: &Value,
+) -> Result<Verdict, AllocError>
+    ensures { let c = context d.now.dialect (view d.now.whole.now) (P.reading d.now.patterns.now) left in
+        let raw : Raw = λ k. get_member k (members_view keywords.now.entries) in
+        IfOk result (λ says. meant says
+        ≡ dependencies_say (reads_dependencies d.now.dialect) (raw (codes "dependencies")) (reads c raw (codes "dependencies"))
+        (view value.now)) }
+{
+    let reads = d.dialect.reads_dependencies();
+    let by_name = member(keywords, "dependencies");
+    let required = dependent_required_says(reads, by_name, value);
+    let mut unwanted = Vec::new(d.alloc);
+    let among = members_where_read(reads, by_name);
+    let says = dependents(d, left, among, value, &mut unwanted)?;
+    Ok(both(required, says))
+}
+
+// A schema for the parts that are not marked.
 #[cycle(judge)]
 fn unevaluated<P: Patterns>(
     d: &Document<'_, P>,
@@ -550,10 +601,48 @@ fn unevaluated<P: Patterns>(
         IfOk result (λ says. meant says
         ≡ unmarked_by (judge c (view schema.now)) (view value.now) judged.now) }
 {
+    match value {
+        Value::Array(items) => unevaluated_items(d, left, schema, items, judged),
+        Value::Object(members) => unevaluated_members(d, left, schema, members, judged),
+        _ => Ok(Verdict::Yes),
+    }
+}
+
+#[cycle(judge)]
+fn unevaluated_items<P: Patterns>(
+    d: &Document<'_, P>,
+    left: u64,
+    schema: &Value,
+    items: &[Value],
+    judged: &[bool],
+) -> Result<Verdict, AllocError>
+    ensures { let c = context d.now.dialect (view d.now.whole.now) (P.reading d.now.patterns.now) left in
+        IfOk result (λ says. meant says
+        ≡ each_unmarked_item (judge c (view schema.now)) (items_view items.now) judged.now) }
+{
     let mut says = Verdict::Yes;
-    let Some(members) = value.as_object() else {
-        return Ok(says);
-    };
+    let mut marks = judged.iter();
+    for item in items {
+        let mark = marks.next();
+        let asked = unless_marked(mark, schema);
+        says = both(says, alone(d, left, asked, item)?);
+    }
+    Ok(says)
+}
+
+#[cycle(judge)]
+fn unevaluated_members<P: Patterns>(
+    d: &Document<'_, P>,
+    left: u64,
+    schema: &Value,
+    members: &Map<String, Value>,
+    judged: &[bool],
+) -> Result<Verdict, AllocError>
+    ensures { let c = context d.now.dialect (view d.now.whole.now) (P.reading d.now.patterns.now) left in
+        IfOk result (λ says. meant says
+        ≡ each_unmarked (judge c (view schema.now)) (members_view members.now.entries) judged.now) }
+{
+    let mut says = Verdict::Yes;
     let mut marks = judged.iter();
     for (_, member) in members.iter() {
         let mark = marks.next();

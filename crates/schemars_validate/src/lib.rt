@@ -1,15 +1,18 @@
 //! What a schema of a document says of a value, decided.
 #![tactic(auto)]
 
+mod arrays;
 mod dialect;
 mod document;
 mod found;
 mod joined;
 mod json;
 mod judge;
+mod keys;
 mod marks;
 mod numbers;
 mod patterns;
+mod quantities;
 mod scalars;
 mod verdict;
 

@@ -1,58 +1,71 @@
-//! Marks for the members of a value that have been judged.
-ghost use Rattle.std.specs.Prelude.{◌≡◌, IfOk, Some, None, option_map, true, is_some, if◌then◌else◌, ◌<◌, vec_len, slice_set};
+//! Marks for the parts of a value that have been judged.
+ghost use Rattle.std.specs.Prelude.{◌≡◌, IfOk, Some, None, option_map, true, is_some, if◌then◌else◌, ◌&&◌, length, slice_set};
 ghost use Rattle.serde_json.specs.Find.{get_member};
-ghost use Rattle.serde_json.specs.View.{view, members_view};
-ghost use Rattle.schemars_validate.specs.Judged.{marked, unmarked, keys_in, keys_of, is_marked, is_named, matches_one, is_matched, is_taken};
+ghost use Rattle.serde_json.specs.View.{view, items_view, members_view};
+ghost use Rattle.schemars_validate.specs.Judged.{marked, unmarked, first_marked, keys_in, parts_of, at_keys, at_positions, is_placed, is_marked, is_named, matches_one, is_matched, is_taken};
 ghost use Rattle.schemars_schema.specs.Verdict.{is_yes};
 ghost use Rattle.schemars_validate.specs.Meant.{meant};
 
-use crate::found::{MemberSchemas, member};
+use crate::found::{ItemSchemas, MemberSchemas, member};
 use crate::patterns::Patterns;
 use crate::verdict::Verdict;
 use serde_json::{Map, Value};
 use std::alloc::{AllocError, Global};
 
-/// No member of the value is marked.
+/// No part of the value is marked.
 pub fn unmarked(alloc: Global, value: &Value) -> Result<Vec<bool>, AllocError>
-    ensures { IfOk result (λ marks. marks.items ≡ unmarked (keys_of (view value.now))) }
+    ensures { IfOk result (λ marks. marks.items ≡ unmarked (parts_of (view value.now))) }
 {
-    match value.as_object() {
-        Some(members) => unmarked_members(alloc, members),
-        None => Ok(Vec::new(alloc)),
-    }
+    vec![in alloc; false; count_of_parts(value)]
 }
 
-fn unmarked_members(alloc: Global, members: &Map<String, Value>) -> Result<Vec<bool>, AllocError>
-    ensures { IfOk result (λ marks. marks.items ≡ unmarked (keys_in (members_view members.now.entries))) }
-{
-    let mut marks = Vec::new(alloc);
-    for (_, _member) in members.iter() {
-        marks.push(false)?;
-    }
-    Ok(marks)
-}
-
-/// Marks all members of the value.
+/// Marks all parts of the value.
 pub fn mark_all(value: &Value, marks: &mut Vec<bool>)
-    ensures { marks.new.items ≡ marked (λ k. true) (keys_of (view value.now)) marks.old.items }
+    ensures { marks.new.items ≡ marked (λ p. true) (parts_of (view value.now)) marks.old.items }
 {
-    match value.as_object() {
-        Some(members) => mark_each(members, marks),
-        None => {}
+    mark_first(count_of_parts(value), marks);
+}
+
+fn count_of_parts(value: &Value) -> usize
+    ensures { result ≡ length (parts_of (view value.now)) }
+{
+    match value {
+        Value::Array(items) => items.len(),
+        Value::Object(members) => members.len(),
+        _ => 0,
     }
 }
 
-fn mark_each(members: &Map<String, Value>, marks: &mut Vec<bool>)
-    ensures { marks.new.items ≡ marked (λ k. true) (keys_in (members_view members.now.entries)) marks.old.items }
+fn mark_first(count: usize, marks: &mut Vec<bool>)
+    ensures { marks.new.items ≡ first_marked count marks.old.items }
 {
-    let mut place = 0;
-    for (_, _member) in members.iter() {
-        if place >= marks.len() {
-            return;
-        }
+    for place in 0..count.min(marks.len()) {
         marks[place] = true;
-        place += 1;
     }
+}
+
+/// Marks the items that a schema judges by their position, and all where there is one for all others.
+pub fn mark_items(schemas: &ItemSchemas<'_>, value: &Value, marks: &mut Vec<bool>)
+    ensures { marks.new.items ≡ marked
+        (at_positions (is_placed (items_view schemas.now.first.now) (option_map (λ s. view s.now) schemas.now.others)))
+        (parts_of (view value.now)) marks.old.items }
+{
+    let Some(items) = value.as_array() else {
+        return;
+    };
+    let count = match schemas.others {
+        Some(_) => items.len(),
+        None => schemas.first.len().min(items.len()),
+    };
+    mark_first(count, marks);
+}
+
+/// Marks the item at a place if it fits, where such items are taken as judged.
+pub fn mark_fitting(counts: bool, says: Verdict, marks: &mut Vec<bool>, place: usize)
+    ensures { marks.new.items
+        ≡ (if counts && is_yes (meant says) then slice_set marks.old.items place true else marks.old.items) }
+{
+    mark_if(counts && says == Verdict::Yes, marks, place);
 }
 
 /// Marks the members that one of the schemas judges.
@@ -63,10 +76,10 @@ pub fn mark_members<P: Patterns>(
     marks: &mut Vec<bool>,
 )
     ensures { marks.new.items ≡ marked
-        (is_taken (P.reading patterns.now) (option_map (λ s. members_view s.now.entries) schemas.now.named)
+        (at_keys (is_taken (P.reading patterns.now) (option_map (λ s. members_view s.now.entries) schemas.now.named)
         (option_map (λ s. members_view s.now.entries) schemas.now.by_pattern)
-        (option_map (λ s. view s.now) schemas.now.others))
-        (keys_of (view value.now)) marks.old.items }
+        (option_map (λ s. view s.now) schemas.now.others)))
+        (parts_of (view value.now)) marks.old.items }
 {
     match value.as_object() {
         Some(members) => mark_taken(patterns, schemas, members, marks),
@@ -82,9 +95,9 @@ fn mark_taken<P: Patterns>(
     marks: &mut Vec<bool>,
 )
     ensures { marks.new.items ≡ marked
-        (is_taken (P.reading patterns.now) (option_map (λ s. members_view s.now.entries) schemas.now.named)
+        (at_keys (is_taken (P.reading patterns.now) (option_map (λ s. members_view s.now.entries) schemas.now.named)
         (option_map (λ s. members_view s.now.entries) schemas.now.by_pattern)
-        (option_map (λ s. view s.now) schemas.now.others))
+        (option_map (λ s. view s.now) schemas.now.others)))
         (keys_in (members_view members.now.entries)) marks.old.items }
 {
     let mut place = 0;
@@ -98,12 +111,12 @@ fn mark_taken<P: Patterns>(
     }
 }
 
+// Marks the part at a place, if there is a mark for it.
 fn mark_if(taken: bool, marks: &mut Vec<bool>, place: usize)
-    requires { place < vec_len marks.old }
     ensures { marks.new.items
         ≡ (if taken then slice_set marks.old.items place true else marks.old.items) }
 {
-    if taken {
+    if taken && place < marks.len() {
         marks[place] = true;
     }
 }

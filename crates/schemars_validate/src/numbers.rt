@@ -1,9 +1,9 @@
 //! The order of numbers by their mathematical value, and which of them are whole.
-ghost use Rattle.std.specs.Prelude.{◌≡◌, pos, false, is_some};
+ghost use Rattle.std.specs.Prelude.{◌≡◌, pos, false, is_some, option_and_then};
 ghost use Rattle.std.specs.Float.Ieee.{le};
 ghost use Rattle.serde_json.specs.Find.{is_float};
 ghost use Rattle.serde_json.specs.View.{number_view};
-ghost use Rattle.schemars_schema.specs.Numbers.{number_le, of_whole, value_of, whole_of, whole_of_float};
+ghost use Rattle.schemars_schema.specs.Numbers.{number_le, of_whole, value_of, whole_of, whole_of_float, size_in_64_bits, size_of_whole};
 
 use serde_json::Number;
 use std::num::{nearest_u64_to_f64, truncating_f64_to_u64};
@@ -42,6 +42,34 @@ pub fn is_whole(number: Number) -> bool
         Some(x) => has_no_fraction(x),
         None => false,
     }
+}
+
+/// The number without its sign, if it has no fraction and is below 2^64 then.
+pub fn size_in_64_bits(number: Number) -> Option<u64>
+    ensures { result ≡ size_in_64_bits (number_view number) }
+{
+    match number.as_u64() {
+        Some(n) => Some(n),
+        None => match number.as_i64() {
+            Some(z) => Some(z.unsigned_abs()),
+            None => match number.as_f64() {
+                Some(x) => size_of_float(x),
+                None => None,
+            },
+        },
+    }
+}
+
+fn size_of_float(x: f64) -> Option<u64>
+    ensures { result ≡ option_and_then size_of_whole (whole_of_float x) }
+{
+    let size = x.abs();
+    if size < 18446744073709551616.0 {
+        if has_no_fraction(x) {
+            return Some(truncating_f64_to_u64(size));
+        }
+    }
+    None
 }
 
 fn whole_le(a: Number, b: Number) -> bool

@@ -1,5 +1,5 @@
 -- What is left is still to be judged; and the work that is left.
-use Rattle.std.proofs.Common.{◌≡◌, ◌≤◌, drop, map, max, option_map}
+use Rattle.std.proofs.Common.{◌≡◌, ◌≤◌, ◌++◌, take, drop, map, max, option_map}
 use Rattle.std.specs.Prelude.{◌||◌}
 use Rattle.std.specs.Slice.Iter.{iter_rest}
 use Rattle.serde_json.specs.Data.{string, depth, items_depth, members_depth}
@@ -8,10 +8,10 @@ use Rattle.schemars_schema.specs.Verdict.{both, all_of}
 use Rattle.schemars_schema.specs.Acceptance.{context, judge, by_patterns, matches_some, each_member, judged_by_some, where_some, count_of_fitting, beside_members}
 use Rattle.schemars_validate.specs.Meant.{meant}
 use Rattle.schemars_validate.specs.Joined.{so_far, with_each, taken_by, joined_by}
-use Rattle.schemars_validate.specs.Judged.{keys_of, marked, each_unmarked, unmarked_by, judged_beside_members}
-use Rattle.schemars_validate.specs.Schemas.{judge_at, judges_of, judges_in, named_judges, named_judges_in}
+use Rattle.schemars_validate.specs.Judged.{parts_of, positions_in, marked, at_positions, fits_at, each_unmarked, each_unmarked_item, judged_beside_members}
+use Rattle.schemars_validate.specs.Schemas.{judge_at, judges_of, judges_in, named_judges, named_judges_in, judges_among, judges_among_in}
 use Rattle.schemars_validate.specs.Parts.{each_item, items_by, member_by, members_by, names_by, dependents_by}
-use Rattle.schemars_validate.proofs.Counts.{added}
+use Rattle.schemars_validate.proofs.Stepping.{added, IsFew}
 use Rattle.schemars_validate.proofs.Measures.{work, depth_at, items_depth_at, members_depth_at}
 use Rattle.schemars_validate.proofs.judge.+judge.Given as goal
 
@@ -44,7 +44,7 @@ decreases-branch g l = work l.left (view l.d.now.whole.now) (depth_at (option_ma
 
 abbrev pub decreases-dependents : goal.decreases-dependents
 decreases-dependents g l =
-    work l.left (view l.d.now.whole.now) (members_depth_at (option_map (λ s. members_view s.now.entries) l.by_name)) 3
+    work l.left (view l.d.now.whole.now) (members_depth_at (option_map (λ s. members_view s.now.entries) l.by_name)) 4
 
 abbrev pub decreases-reference : goal.decreases-reference
 decreases-reference g l = work l.left (view l.d.now.whole.now) (members_depth (members_view l.keywords.now.entries)) 13
@@ -82,8 +82,17 @@ abbrev pub decreases-each : goal.decreases-each
 decreases-each g l =
     work l.left (view l.d.now.whole.now) (items_depth_at (option_map (λ s. items_view s.now.items) l.schemas)) 3
 
+abbrev pub decreases-dependencies : goal.decreases-dependencies
+decreases-dependencies g l = work l.left (view l.d.now.whole.now) (members_depth (members_view l.keywords.now.entries)) 13
+
 abbrev pub decreases-unevaluated : goal.decreases-unevaluated
-decreases-unevaluated g l = work l.left (view l.d.now.whole.now) (depth (view l.schema.now)) 3
+decreases-unevaluated g l = work l.left (view l.d.now.whole.now) (depth (view l.schema.now)) 4
+
+abbrev pub decreases-unevaluated_items : goal.decreases-unevaluated_items
+decreases-unevaluated_items g l = work l.left (view l.d.now.whole.now) (depth (view l.schema.now)) 3
+
+abbrev pub decreases-unevaluated_members : goal.decreases-unevaluated_members
+decreases-unevaluated_members g l = work l.left (view l.d.now.whole.now) (depth (view l.schema.now)) 3
 
 abbrev pub invariant-items-loop-item : goal.invariant-items-loop-item
 invariant-items-loop-item g l =
@@ -94,12 +103,15 @@ invariant-items-loop-item g l =
           ≡ items_by (judges_of c (items_view l.schemas.first.now)) others (view l.value);
     }
 
-abbrev pub invariant-count_of_fitting-loop-item : goal.invariant-count_of_fitting-loop-item
-invariant-count_of_fitting-loop-item g l =
+abbrev pub invariant-count_of_fitting-loop-place : goal.invariant-count_of_fitting-loop-place
+invariant-count_of_fitting-loop-place g l =
     let c = context l.d.dialect (view l.d.whole.now) (g.P.Patterns.reading l.d.patterns.now) l.left in
-    let s = judge c (view l.schema) in record {
-      counted : added l.count (count_of_fitting s (items_view (drop l.item-index l.items))) ≡ count_of_fitting s (items_view l.items);
-      few : l.count ≤ l.item-index;
+    let s = judge c (view l.schema) in
+    let f = at_positions (fits_at l.d.dialect.reads_prefix_items s (items_view l.items)) in record {
+      counted : added l.count (count_of_fitting s (items_view (drop l.place l.items))) ≡ count_of_fitting s (items_view l.items);
+      few : IsFew l.count l.place;
+      judged : take l.place l.marks.items ++ marked f (positions_in l.place (items_view (drop l.place l.items))) (drop l.place l.marks.items)
+          ≡ marked f (positions_in 0 (items_view l.items)) l.fn.marks.items;
     }
 
 abbrev pub invariant-names-loop-key : goal.invariant-names-loop-key
@@ -113,11 +125,11 @@ abbrev pub invariant-dependents-loop-name : goal.invariant-dependents-loop-name
 invariant-dependents-loop-name g l =
     let c = context l.d.dialect (view l.d.whole.now) (g.P.Patterns.reading l.d.patterns.now) l.left in
     let v = view l.value in
-    let left = beside_members (named_judges c (members_view l.name-iterator)) (members_view l.members.entries) in
-    let all = named_judges_in c (option_map (λ s. members_view s.now.entries) l.by_name) in record {
+    let left = beside_members (judges_among c (members_view l.name-iterator)) (members_view l.members.entries) in
+    let all = judges_among_in c (option_map (λ s. members_view s.now.entries) l.by_name) in record {
       deep : members_depth (members_view l.name-iterator) ≤ members_depth_at (option_map (λ s. members_view s.now.entries) l.by_name);
       rest : both (meant l.says) (all_of (map (λ s. s.fits v) left)) ≡ dependents_by all v;
-      judged : marked (judged_by_some left v) (keys_of v) l.marks.items ≡ marked (judged_beside_members all v) (keys_of v) l.fn.marks.items;
+      judged : marked (judged_by_some left v) (parts_of v) l.marks.items ≡ marked (judged_beside_members all v) (parts_of v) l.fn.marks.items;
     }
 
 abbrev pub invariant-members-loop-key : goal.invariant-members-loop-key
@@ -149,13 +161,19 @@ invariant-each-loop-schema g l =
       joined : taken_by l.join (with_each (so_far l.joined) (map (λ s. s.fits (view l.value)) (judges_of c left)))
           ≡ where_some (option_map (λ s. items_view s.now.items) l.schemas)
           (λ ds. joined_by l.join (map (λ s. s.fits (view l.value)) (judges_of c ds)));
-      judged : marked (judged_by_some (judges_of c left) (view l.value)) (keys_of (view l.value)) l.marks.items
-          ≡ marked (judged_by_some (judges_in c (option_map (λ s. items_view s.now.items) l.schemas)) (view l.value)) (keys_of (view l.value))
+      judged : marked (judged_by_some (judges_of c left) (view l.value)) (parts_of (view l.value)) l.marks.items
+          ≡ marked (judged_by_some (judges_in c (option_map (λ s. items_view s.now.items) l.schemas)) (view l.value)) (parts_of (view l.value))
           l.fn.marks.items;
     }
 
-abbrev pub invariant-unevaluated-loop-member : goal.invariant-unevaluated-loop-member
-invariant-unevaluated-loop-member g l =
+abbrev pub invariant-unevaluated_items-loop-item : goal.invariant-unevaluated_items-loop-item
+invariant-unevaluated_items-loop-item g l =
+    let c = context l.d.dialect (view l.d.whole.now) (g.P.Patterns.reading l.d.patterns.now) l.left in
+    both (meant l.says) (each_unmarked_item (judge c (view l.schema)) (items_view (drop l.item-index l.items)) (iter_rest l.marks))
+    ≡ each_unmarked_item (judge c (view l.schema)) (items_view l.items) l.judged
+
+abbrev pub invariant-unevaluated_members-loop-member : goal.invariant-unevaluated_members-loop-member
+invariant-unevaluated_members-loop-member g l =
     let c = context l.d.dialect (view l.d.whole.now) (g.P.Patterns.reading l.d.patterns.now) l.left in
     both (meant l.says) (each_unmarked (judge c (view l.schema)) (members_view l.member-iterator) (iter_rest l.marks))
-    ≡ unmarked_by (judge c (view l.schema)) (view l.value) l.judged
+    ≡ each_unmarked (judge c (view l.schema)) (members_view l.members.entries) l.judged

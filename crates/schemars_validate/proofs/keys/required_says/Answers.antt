@@ -2,7 +2,7 @@ use Rattle.std.proofs.Common.{◌≡◌, true, false, ap, sym, ◌∙◌}
 use Rattle.serde_json.specs.View.{view, items_view, members_view}
 use Rattle.schemars_validate.specs.Texts.{are_texts}
 use Rattle.schemars_validate.proofs.Texts.{keys_there, no_keys}
-use Rattle.schemars_validate.proofs.scalars.required_says.Goals as goal
+use Rattle.schemars_validate.proofs.keys.required_says.Goals as goal
 
 pub returns-in-Some-as_array : goal.returns-in-Some-as_array
 returns-in-Some-as_array c =

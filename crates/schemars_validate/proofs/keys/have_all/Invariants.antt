@@ -3,7 +3,7 @@ use Rattle.std.proofs.Common.{◌≡◌, drop}
 use Rattle.serde_json.specs.View.{items_view, members_view}
 use Rattle.schemars_schema.specs.Acceptance.{have_all}
 use Rattle.schemars_validate.specs.Texts.{texts_of}
-use Rattle.schemars_validate.proofs.scalars.have_all.Given as goal
+use Rattle.schemars_validate.proofs.keys.have_all.Given as goal
 
 abbrev pub invariant-loop-key : goal.invariant-loop-key
 invariant-loop-key l =

@@ -5,7 +5,7 @@ use Rattle.serde_json.specs.Find.{get_member}
 use Rattle.schemars_schema.specs.Verdict.{both}
 use Rattle.schemars_schema.specs.Acceptance.{where_some, each_member, required_says}
 use Rattle.schemars_validate.specs.Meant.{meant}
-use Rattle.schemars_validate.proofs.scalars.each_required.Given as goal
+use Rattle.schemars_validate.proofs.keys.each_required.Given as goal
 
 abbrev pub invariant-loop-key : goal.invariant-loop-key
 invariant-loop-key l =

@@ -1,7 +1,7 @@
 use Rattle.std.proofs.Common.{◌∙◌, sym}
 use Rattle.serde_json.specs.View.{number_view}
 use Rattle.schemars_validate.proofs.Counts.{count_at_least}
-use Rattle.schemars_validate.proofs.scalars.is_at_least.Goals as goal
+use Rattle.schemars_validate.proofs.quantities.is_at_least.Goals as goal
 
 pub returns-in-Some : goal.returns-in-Some
 returns-in-Some c =

@@ -1,7 +1,7 @@
 -- Those counted, and those that are left.
 use Rattle.std.proofs.Common.{◌≡◌, drop, ◌+◌, ◌≤◌}
 use Rattle.schemars_schema.specs.Acceptance.{code_points}
-use Rattle.schemars_validate.proofs.scalars.code_points.Given as goal
+use Rattle.schemars_validate.proofs.quantities.code_points.Given as goal
 
 abbrev pub invariant-loop-byte : goal.invariant-loop-byte
 invariant-loop-byte l =

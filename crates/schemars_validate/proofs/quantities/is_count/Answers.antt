@@ -2,7 +2,7 @@ use Rattle.std.proofs.Common.{◌∙◌, ap, sym}
 use Rattle.serde_json.specs.View.{number_view}
 use Rattle.schemars_schema.specs.Numbers.{number_le}
 use Rattle.schemars_validate.proofs.Counts.{from_zero_on}
-use Rattle.schemars_validate.proofs.scalars.is_count.Goals as goal
+use Rattle.schemars_validate.proofs.quantities.is_count.Goals as goal
 
 pub returns-then-is_whole : goal.returns-then-is_whole
 returns-then-is_whole c =
