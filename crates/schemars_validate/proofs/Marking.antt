@@ -94,13 +94,34 @@ none_marked (p ∷ ps) = ap (λ cs. false ∷ cs) (none_marked ps)
 
 -- ---- the number of parts
 
-pub items_parts : (n : ℕ) (vs : List Value) → length (positions_in n (items_view vs)) ≡ length vs
+items_parts : (n : ℕ) (vs : List Value) → length (positions_in n (items_view vs)) ≡ length vs
 items_parts n [] = refl
 items_parts n (v ∷ vs) = ap suc (items_parts (suc n) vs)
 
-pub members_parts : (es : List Entry) → length (keys_in (members_view es)) ≡ length es
+members_parts : (es : List Entry) → length (keys_in (members_view es)) ≡ length es
 members_parts [] = refl
 members_parts (e ∷ es) = ap suc (members_parts es)
+
+pub list_parts : (v : Data) (vs : List Value) → Some (items_view vs) ≡ as_array v → length (parts_of v) ≡ length vs
+list_parts (array ds) vs is = let same : items_view vs ≡ ds = cc in sym (ap (λ xs. length (positions_in 0 xs)) same) ∙ items_parts 0 vs
+list_parts null vs is = cc
+list_parts (boolean b) vs is = cc
+list_parts (number n) vs is = cc
+list_parts (string s) vs is = cc
+list_parts (object ms) vs is = cc
+
+pub object_parts : (v : Data) (es : List Entry) → Some (members_view es) ≡ as_object v → length (parts_of v) ≡ length es
+object_parts (object ms) es is = let same : members_view es ≡ ms = cc in sym (ap (λ xs. length (keys_in xs)) same) ∙ members_parts es
+object_parts null es is = cc
+object_parts (boolean b) es is = cc
+object_parts (number n) es is = cc
+object_parts (string s) es is = cc
+object_parts (array ds) es is = cc
+
+pub no_parts : (v : Data) → None ≡ as_array v → None ≡ as_object v → 0 ≡ length (parts_of v)
+no_parts (array ds) list map = cc
+no_parts (object ms) list map = cc
+no_parts _ list map = refl
 
 -- ---- marks of items
 

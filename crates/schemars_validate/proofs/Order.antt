@@ -333,37 +333,6 @@ from_zero_up nan low = absurd (true≢false (sym low))
 from_zero_up (inf s) low = tt
 from_zero_up (fin s m e) low = T_from_true _ (grind (arith, nat_tests, down_pos e))
 
--- of a number as it is held
-pub size_unsigned : (n : Num) (k : ℕ) → as_u64 n ≡ Some k → k < 2 ^ 64 → Some k ≡ size_in_64_bits n
-size_unsigned (unsigned m) k is fits =
-    let same : m ≡ k = some_same is in
-    let below : nat_lt m (2 ^ 64) ≡ true = grind (arith, nat_tests) in
-    ap Some (sym same) ∙ sym (ap (λ (b : Bool). if b then Some m else None) below)
-size_unsigned (negative z) k is fits = none_some is
-size_unsigned (float x) k is fits = none_some is
-
-pub size_negative : (n : Num) (z : ℤ) (k : ℕ) → as_u64 n ≡ None → as_i64 n ≡ Some z → k ≡ unsigned_abs z → k < 2 ^ 64
-    → Some k ≡ size_in_64_bits n
-size_negative (unsigned m) z k none is size fits = none_some (sym none)
-size_negative (float x) z k none is size fits = none_some is
-size_negative (negative y) z k none is size fits = ap Some (size ∙ ap unsigned_abs (sym same)) ∙ go y (size ∙ ap unsigned_abs (sym same))
-  where
-    same : y ≡ z
-    same = some_same is
-
-    go : (y : ℤ) → k ≡ unsigned_abs y → Some (unsigned_abs y) ≡ size_of_whole y
-    go (pos m) e =
-        let below : nat_lt m (2 ^ 64) ≡ true = grind (arith, nat_tests) in sym (ap (λ (b : Bool). if b then Some m else None) below)
-    go (negsuc m) e =
-        let below : nat_lt (suc m) (2 ^ 64) ≡ true = grind (arith, nat_tests) in
-        sym (ap (λ (b : Bool). if b then Some (suc m) else None) below)
-
-pub size_floating : (n : Num) (x : Float) → as_u64 n ≡ None → as_i64 n ≡ None → to_float n ≡ x
-    → option_and_then size_of_whole (whole_of_float x) ≡ size_in_64_bits n
-size_floating (unsigned m) x none other is = none_some (sym none)
-size_floating (negative z) x none other is = none_some (sym other)
-size_floating (float y) x none other is = ap (λ (w : Float). option_and_then size_of_whole (whole_of_float w)) (sym is)
-
 -- ---- a number above zero has a size above zero
 
 pub size_above_zero : (n : Num) (k : ℕ) → number_le n (unsigned 0) ≡ false → size_in_64_bits n ≡ Some k → 0 < k
