@@ -307,16 +307,15 @@ members_judged c raw k = λ i. (names i || patterns i) || rest i
 abbrev listed_at : Option Items → Bool → ℕ → Bool
 listed_at y past n = elim y [ None ↦ false | Some ds ↦ nat_lt n (items_len ds) || past ]
 
+abbrev before_all : Option (List Judge) → Bool → ℕ → Bool
+before_all o past n = elim o [ None ↦ false | Some ss ↦ nat_lt n (length ss) || past ]
+
 position_judged : (c : Context) (x : Option Data) (past : Bool) (n : ℕ)
     → judged_by_position (option_map (read_data c) x) past n ≡ listed_at (schemas_in x) past n
 position_judged c x past n =
-    ap (λ o. elim o [ None ↦ false | Some ss ↦ nat_lt n (length ss) || past ]) (read_listed c x) ∙ found (schemas_in x)
+    ap (λ o. before_all o past n) (read_listed c x) ∙ found (schemas_in x)
   where
-    judged_at : Option (List Judge) → Bool
-    judged_at o = elim o [ None ↦ false | Some ss ↦ nat_lt n (length ss) || past ]
-
-    found : (y : Option Items) → judged_at (option_map (judges_of c) y) ≡ listed_at y past n
-    unfolding judged_at
+    found : (y : Option Items) → before_all (option_map (judges_of c) y) past n ≡ listed_at y past n
     found None = refl
     found (Some ds) = ap (λ l. nat_lt n l || past) (judges_length c ds)
 
