@@ -48,18 +48,6 @@ pub mark_next : (f : Part → Bool) (p : Part) (ps : List Part) (bs cs : List Bo
 mark_next f p ps bs cs i true is e = rw (e, add-one) (set_next f p ps bs i (sym is))
 mark_next f p ps bs cs i false is e = rw (e, add-one) (keep_next f p ps bs i (sym is))
 
-pub marks_end : (f : Part → Bool) (ps : List Part) (bs : List Bool) (i : ℕ) → length bs ≤ i → take i bs ++ marked f ps (drop i bs) ≡ bs
-marks_end f ps [] zero h = no_marks f ps
-marks_end f ps [] (suc i) h = no_marks f ps
-marks_end f ps (b ∷ bs) zero h = absurd (omega arith)
-marks_end f ps (b ∷ bs) (suc i) h = ap (λ cs. b ∷ cs) (marks_end f ps bs i (omega arith))
-
-pub both_parts : (bs : List Bool) (i : ℕ) → take i bs ++ drop i bs ≡ bs
-both_parts [] zero = refl
-both_parts [] (suc i) = refl
-both_parts (b ∷ bs) zero = refl
-both_parts (b ∷ bs) (suc i) = ap (λ cs. b ∷ cs) (both_parts bs i)
-
 -- ---- the first marks
 
 pub first_next : (n : ℕ) (bs : List Bool) → set (first_marked n bs) n true ≡ first_marked (n + 1) bs
@@ -70,11 +58,6 @@ first_next n bs = rw add-one (go n bs)
     go zero (b ∷ bs) = refl
     go (suc n) [] = refl
     go (suc n) (b ∷ bs) = ap (λ cs. true ∷ cs) (go n bs)
-
-pub first_length : (n : ℕ) (bs : List Bool) → length (first_marked n bs) ≡ length bs
-first_length zero bs = refl
-first_length (suc n) [] = refl
-first_length (suc n) (b ∷ bs) = ap suc (first_length n bs)
 
 pub first_enough : (n : ℕ) (bs : List Bool) → first_marked (min n (length bs)) bs ≡ first_marked n bs
 first_enough zero bs = let none : min 0 (length bs) ≡ 0 = omega arith in ap (λ m. first_marked m bs) none

@@ -277,13 +277,10 @@ to_top_bound (fin false m e) low = T_from_true _ (grind (arith, nat_tests, down_
 
 -- ---- sizes below 2 ^ 64
 
-top : (k : ℕ) → size_of_whole (with_sign true k) ≡ size_of_whole (pos k)
-top zero = refl
-top (suc k) = refl
-
 size_signed : (s : Bool) (k : ℕ) → size_of_whole (with_sign s k) ≡ (if nat_lt k (2 ^ 64) then Some k else None)
 size_signed false k = refl
-size_signed true k = top k
+size_signed true zero = refl
+size_signed true (suc k) = refl
 
 -- the float without its sign and its fraction
 pub size_below : (x : Float) → Ieee.lt (float_with_sign false x) (two_to 64) ≡ true → is_some (whole_of_float x) ≡ true
@@ -301,13 +298,6 @@ size_below (fin s m e) low some =
     ap Some part
     ∙ (sym (size_signed s (a / down e) ∙ ap (λ (b : Bool). if b then Some (a / down e) else None) fits)
     ∙ sym (ap (λ (b : Bool). option_and_then size_of_whole (if b then Some (with_sign s (a / down e)) else None)) there))
-
-pub size_fraction : (x : Float) → is_some (whole_of_float x) ≡ false → None ≡ option_and_then size_of_whole (whole_of_float x)
-size_fraction x none = go (whole_of_float x) none
-  where
-    go : (z : Option ℤ) → is_some z ≡ false → None ≡ option_and_then size_of_whole z
-    go None none = refl
-    go (Some z) none = absurd (true≢false none)
 
 pub size_above : (x : Float) → Ieee.lt (float_with_sign false x) (two_to 64) ≡ false
     → None ≡ option_and_then size_of_whole (whole_of_float x)
