@@ -170,15 +170,14 @@ no_dependents v = says_nothing (as_object v)
 -- where all members are schemas, none is left out
 each_among : (c : Context) (ms : Members) → are_named_schemas ms ≡ true → judges_among c ms ≡ named_judges c ms
 each_among c no_members all = refl
-each_among c (member k d ms) all = go (is_schema d) (are_named_schemas ms) refl refl all
+each_among c (member k d ms) all = go (is_schema d) (are_named_schemas ms) refl all (each_among c ms)
   where
-    go : (b e : Bool) → is_schema d ≡ b → are_named_schemas ms ≡ e → (b && e) ≡ true
+    go : (b e : Bool) → is_schema d ≡ b → (b && e) ≡ true → (e ≡ true → judges_among c ms ≡ named_judges c ms)
         → with_schema k (judge_at c (schema_only d)) (judges_among c ms) ≡ (k, judge c d) ∷ named_judges c ms
-    go true true here later all =
+    go true e here all later =
         ap (λ t. with_schema k (judge_at c (if t then Some d else None)) (judges_among c ms)) here
-        ∙ ap (λ ss. (k, judge c d) ∷ ss) (each_among c ms later)
-    go true false here later all = cc
-    go false e here later all = cc
+        ∙ ap (λ ss. (k, judge c d) ∷ ss) (later all)
+    go false e here all later = cc
 
 pub all_among : (r : Bool) (c : Context) (x : Option Data)
     → judges_among_in c (schemas_where_read r x) ≡ named_judges_in c (schemas_where_read r x)
