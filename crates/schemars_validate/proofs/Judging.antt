@@ -153,7 +153,8 @@ items_rest r f c x ds = sym (read_where_read r c x (Some ds) (λ s ds. each_item
 -- a keyword says nothing of a value of another kind
 no_members_rest : (r : Bool) (f : Text → Bool) (x : Option Reading) (v : Data) → as_object v ≡ None → unevaluated_properties_say r f x v ≡ Yes
 no_members_rest true f None v none = refl
-no_members_rest true f (Some y) v none = ap (λ o. where_some o (λ ms. where_some y.schema (λ s. each_member (λ k w. if f k then Yes else s.fits w) ms))) none
+no_members_rest true f (Some y) v none =
+    ap (λ o. where_some o (λ ms. where_some y.schema (λ s. each_member (λ k w. if f k then Yes else s.fits w) ms))) none
 no_members_rest false f x v none = refl
 
 no_items_rest : (r : Bool) (f : ℕ → Bool) (x : Option Reading) (v : Data) → as_array v ≡ None → unevaluated_items_say r f x v ≡ Yes
@@ -164,7 +165,8 @@ no_items_rest false f (Some y) v none = refl
 no_parts_rest : (c : Context) (raw : Raw) (v : Data) → as_array v ≡ None → as_object v ≡ None → Yes ≡ rest_says c raw v
 no_parts_rest c raw v list map =
     sym (ap (λ x. both x (unevaluated_properties_say c.dialect.reads_unevaluated (λ k. judged_beside c raw (reads c raw) v (key k))
-    (reads c raw (codes "unevaluatedProperties")) v)) (no_items_rest c.dialect.reads_unevaluated _ (reads c raw (codes "unevaluatedItems")) v list)
+    (reads c raw (codes "unevaluatedProperties")) v))
+    (no_items_rest c.dialect.reads_unevaluated _ (reads c raw (codes "unevaluatedItems")) v list)
     ∙ no_members_rest c.dialect.reads_unevaluated _ (reads c raw (codes "unevaluatedProperties")) v map)
 
 in_each : (o : Option Judge) (f g : Judge → Verdict) → ((s : Judge) → f s ≡ g s) → where_some o f ≡ where_some o g
@@ -331,7 +333,10 @@ items_judged true c raw n =
     first : (y : Option Items) → nat_lt n (items_len (items_or_none y)) ≡ listed_at y false n
     first None = nothing_before n
     first (Some ds) = sym (or_false (nat_lt n (items_len ds)))
-items_judged false c raw n = go (schemas_in x) refl ∙ ap (λ b. has_schema (option_map (read_data c) x) || b) (sym (position_judged c x (has_schema (option_map (read_data c) a)) n))
+items_judged false c raw n =
+    go (schemas_in x) refl
+    ∙ ap (λ b. has_schema (option_map (read_data c) x) || b)
+    (sym (position_judged c x (has_schema (option_map (read_data c) a)) n))
   where
     x : Option Data
     x = raw (codes "items")
@@ -358,7 +363,8 @@ abbrev pub contained_by : Context → Raw → Data → Part → Bool
 contained_by c raw v = at_positions (judged_by_contains c.dialect.reads_prefix_items (reads c raw (codes "contains")) v)
 
 abbrev pub taken_by_name : Context → Raw → Part → Bool
-taken_by_name c raw = at_keys (is_taken c.patterns (schemas_by_name (raw (codes "properties"))) (schemas_by_name (raw (codes "patternProperties")))
+taken_by_name c raw =
+    at_keys (is_taken c.patterns (schemas_by_name (raw (codes "properties"))) (schemas_by_name (raw (codes "patternProperties")))
     (schema_at (raw (codes "additionalProperties"))))
 
 itself_judged : (c : Context) (raw : Raw) (v : Data) (p : Part)

@@ -10,7 +10,7 @@ use Rattle.serde_json.specs.declared.value.Value.{Value}
 use Rattle.serde_json.proofs.Views.{Entry}
 use Rattle.schemars_schema.specs.Json.{Text}
 use Rattle.schemars_schema.specs.Verdict.{Verdict, is_yes}
-use Rattle.schemars_schema.specs.Acceptance.{Part, key, position, Judge}
+use Rattle.schemars_schema.specs.Acceptance.{Part, position, Judge}
 use Rattle.schemars_validate.specs.Judged.{marked, unmarked, first_marked, keys_in, positions_in, parts_of, at_keys, at_positions, is_placed, fits_at}
 
 or_off : (b : Bool) → (b || false) ≡ b
@@ -163,7 +163,8 @@ pub placed_marks : (first : Items) (others : Option Data) (v : Data) (ds : Items
     → first_marked n bs ≡ marked (at_positions (is_placed first others)) (parts_of v) bs
 placed_marks first (Some d) (array es) ds bs n is count =
     let same : ds ≡ es = cc in
-    ap (λ m. first_marked m bs) (count ∙ ap items_len same) ∙ all_placed (is_placed first (Some d)) (λ m. sym (or_on (nat_lt m (items_len first)))) 0 es bs
+    ap (λ m. first_marked m bs) (count ∙ ap items_len same)
+    ∙ all_placed (is_placed first (Some d)) (λ m. sym (or_on (nat_lt m (items_len first)))) 0 es bs
 placed_marks first None (array es) ds bs n is count =
     let same : ds ≡ es = cc in
     ap (λ m. first_marked m bs) (count ∙ ap (λ xs. min (items_len first) (items_len xs)) same)

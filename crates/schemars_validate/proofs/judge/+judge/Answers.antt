@@ -1,5 +1,5 @@
 -- Each part says what its contract says; and each call has less work left.
-use Rattle.std.proofs.Common.{◌≡◌, ◌∙◌, ℕ, suc, ◌+◌, ◌<◌, ◌≤◌, ◌++◌, List, Bool, true, false, refl, Option, Some, None, option_map, sym, ap, subst, arith, IfOk, OnOk, take, drop, set}
+use Rattle.std.proofs.Common.{◌≡◌, ◌∙◌, ℕ, suc, ◌+◌, ◌<◌, ◌≤◌, ◌++◌, List, Bool, true, false, refl, Option, None, option_map, sym, ap, subst, arith, IfOk, OnOk, take, drop, set}
 use Rattle.std.specs.Prelude.{◌&&◌, ◌||◌, string_bytes, is_some, unwrap_or, codes, if◌then◌else◌, map}
 use Rattle.serde_json.specs.Data.{Data, object, Items, Members, depth, items_depth, members_depth}
 use Rattle.serde_json.specs.Find.{get_member, as_object}
@@ -344,7 +344,9 @@ pub contains-returns-in_default-as_array-clause-judged : goal.contains-returns-i
 contains-returns-in_default-as_array-clause-judged g t c =
     let x = context c.args.d.now.dialect (view c.args.d.now.whole.now) (g.P.Patterns.reading c.args.d.now.patterns.now) c.args.left in
     let ms = members_view c.args.keywords.now.entries in
-    no_item_marked (judged_by_contains c.args.d.now.dialect.reads_prefix_items (option_map (read_data x) (get_member (codes "contains") ms)) (view c.args.value.now))
+    no_item_marked
+    (judged_by_contains c.args.d.now.dialect.reads_prefix_items (option_map (read_data x) (get_member (codes "contains") ms))
+    (view c.args.value.now))
     (view c.args.value.now) c.args.marks.now.items c.in_default-as_array.ensures
 
 pub contains-count_of_fitting-requires : goal.contains-count_of_fitting-requires
@@ -564,7 +566,8 @@ dependents-loop-name-preserved g t c =
     record {
       deep = omega (arith, deep.1, c.loop-name.invariant.deep);
       rest = one_more_said S _ (meant c.both-says.result) _ _
-          (c.both-says.ensures ∙ ap (both S) (c.in_ok-branch.ensures.verdict ∙ ap (λ (o : Option Data). where_some (judge_at x o) (λ j. j.fits v)) asked))
+          (c.both-says.ensures ∙ ap (both S) (c.in_ok-branch.ensures.verdict
+          ∙ ap (λ (o : Option Data). where_some (judge_at x o) (λ j. j.fits v)) asked))
           (ap (both S) (sym (with_schema_says x ms name d v rest))
           ∙ (sym (ap (λ (es : List Entry). both S (all_of (map (λ j. j.fits v) (beside_members (judges_among x (members_view es)) ms)))) steps)
           ∙ c.loop-name.invariant.rest));
@@ -823,7 +826,8 @@ count_of_fitting-loop-place-preserved g t c =
     let next : i + 1 ≡ suc i = omega arith in
     let here = from_here xs i w c.loop-place-test.true c.index-items-place.is in
     record {
-      counted = ap (λ (n : Option ℕ). added n (count_of_fitting s rest)) (c.one_more-count.ensures ∙ ap (λ (y : Verdict). one_more y N) c.in_ok-says.ensures)
+      counted = ap (λ (n : Option ℕ). added n (count_of_fitting s rest))
+          (c.one_more-count.ensures ∙ ap (λ (y : Verdict). one_more y N) c.in_ok-says.ensures)
           ∙ (added_one (s.fits (view w)) N (count_of_fitting s rest)
           ∙ (sym (ap (λ (ds : Items). added N (count_of_fitting s ds)) here) ∙ c.loop-place.invariant.counted));
       few = subst (λ (n : Option ℕ). IsFew n (i + 1)) (sym c.one_more-count.ensures) (one_few S N i c.loop-place.invariant.few);
@@ -851,7 +855,8 @@ unevaluated_items-loop-item-preserved g t c =
     let d = view c.args.schema.now in
     let S = meant c.loop-item.says in
     one_more_said S _ (meant c.both-says.result) _ _
-    (c.both-says.ensures ∙ ap (both S) (c.in_ok-alone.ensures ∙ ap (λ (o : Option Data). where_some (judge_at x o) (λ j. j.fits w)) c.unless_marked-asked.ensures))
+    (c.both-says.ensures ∙ ap (both S) (c.in_ok-alone.ensures
+    ∙ ap (λ (o : Option Data). where_some (judge_at x o) (λ j. j.fits w)) c.unless_marked-asked.ensures))
     (ap (both S) (sym (unmarked_item_says x d c.next-mark.result c.loop-item.marks c.next-mark.new.self w ws c.next-mark.ensures.steps))
     ∙ (sym (ap (λ (ds : Items). both S (each_unmarked_item (judge x d) ds (iter_rest c.loop-item.marks)))
     (from_here xs c.loop-item.item-index c.item-item.result c.loop-item-test.true c.item-item.is))
@@ -870,8 +875,10 @@ unevaluated_members-loop-member-preserved g t c =
     let d = view c.args.schema.now in
     let S = meant c.loop-member.says in
     one_more_said S _ (meant c.both-says.result) _ _
-    (c.both-says.ensures ∙ ap (both S) (c.in_ok-alone.ensures ∙ ap (λ (o : Option Data). where_some (judge_at x o) (λ j. j.fits w)) c.unless_marked-asked.ensures))
-    (ap (both S) (sym (unmarked_member_says x d c.next-mark.result c.loop-member.marks c.next-mark.new.self (string_bytes c.in-Some.field-0-0.now) w (members_view c.next.new.self) c.next-mark.ensures.steps))
+    (c.both-says.ensures ∙ ap (both S) (c.in_ok-alone.ensures
+    ∙ ap (λ (o : Option Data). where_some (judge_at x o) (λ j. j.fits w)) c.unless_marked-asked.ensures))
+    (ap (both S) (sym (unmarked_member_says x d c.next-mark.result c.loop-member.marks c.next-mark.new.self
+    (string_bytes c.in-Some.field-0-0.now) w (members_view c.next.new.self) c.next-mark.ensures.steps))
     ∙ (sym (ap (λ (es : List Entry). both S (each_unmarked (judge x d) (members_view es) (iter_rest c.loop-member.marks))) c.in-Some.ensures.steps)
     ∙ c.loop-member.invariant))
 

@@ -1,5 +1,5 @@
-use Rattle.std.proofs.Common.{◌∙◌, ap, min, option_map}
-use Rattle.std.specs.Prelude.{is_some, if◌then◌else◌}
+use Rattle.std.proofs.Common.{◌∙◌, min, option_map}
+use Rattle.std.specs.Prelude.{if◌then◌else◌}
 use Rattle.serde_json.specs.Events.{items_len}
 use Rattle.serde_json.specs.View.{view, items_view}
 use Rattle.schemars_validate.specs.Judged.{is_placed}

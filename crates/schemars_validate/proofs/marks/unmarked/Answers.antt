@@ -1,5 +1,5 @@
 -- So many marks that are not set.
-use Rattle.std.proofs.Common.{◌≡◌, ◌∙◌, ap, ℕ, replicate, false, Bool, Vec, Global}
+use Rattle.std.proofs.Common.{◌≡◌, ◌∙◌, ap, ℕ, replicate, false}
 use Rattle.std.proofs.lemmas.Result.{IfOk-weaker}
 use Rattle.serde_json.specs.View.{view}
 use Rattle.schemars_validate.specs.Judged.{unmarked, parts_of}
