@@ -1,5 +1,5 @@
 -- A number that is a count: whole, and not below zero.
-use Rattle.std.proofs.Common.{◌≡◌, ℕ, ℤ, pos, negsuc, ◌+◌, true, refl, sym, ap, ◌∙◌, true≢false, Option, Some, None, nat_le, arith}
+use Rattle.std.proofs.Common.{◌≡◌, ℕ, ℤ, pos, negsuc, true, refl, sym, ap, ◌∙◌, true≢false, Option, Some, None, nat_le, arith}
 use Rattle.std.proofs.lemmas.Bool.Decides.{nat_tests}
 use Rattle.std.specs.Prelude.{is_some, option_map, option_and_then, int_le}
 use Rattle.serde_json.specs.Data.{Num, unsigned}

@@ -9,7 +9,7 @@ use Rattle.serde_json.specs.Find.{get_member, get_item, as_str, as_array, as_obj
 use Rattle.schemars_schema.specs.Json.{Text}
 use Rattle.schemars_schema.specs.Lookup.{resolved}
 use Rattle.schemars_schema.specs.Verdict.{Verdict, Yes, No, Open, both, opposite, all_of, any_of, one_of, is_yes}
-use Rattle.schemars_schema.specs.Acceptance.{Dialect, Patterns, Context, Judge, Part, key, position, Raw, context, judge, all_keywords, reference_alone, is_reference, follow, unanswered, read_data, where_some, each_member, each_item_left, reference_says, judged_by, judged_by_some, judged_by_list, judged_by_position, judged_by_items, judged_by_contains, judged_by_reference, judged_itself, judged_beside, judges_rest, unevaluated_properties_say, unevaluated_items_say, has_schema, schema_named, matches_some, is_covered, named_in, Reading, contains_says, count_of_fitting, condition_says, dependencies_say, reads_dependencies, chosen, schema_says, branch_of, judged_by_schema, judged_by_condition, judged_by_dependents}
+use Rattle.schemars_schema.specs.Acceptance.{Dialect, Patterns, Context, Judge, Part, key, position, Raw, context, judge, all_keywords, reference_alone, is_reference, follow, unanswered, read_data, where_some, each_member, each_item_left, reference_says, judged_by, judged_by_some, judged_by_list, judged_by_position, judged_by_items, judged_by_contains, judged_by_reference, judged_itself, judged_beside, judges_rest, unevaluated_properties_say, unevaluated_items_say, has_schema, schema_named, matches_some, is_covered, named_in, Reading, contains_says, count_of_fitting, condition_says, dependencies_say, reads_dependencies, chosen, schema_says, branch_of, judged_by_schema, judged_by_condition, judged_by_dependents, beside_members}
 use Rattle.schemars_schema.proofs.Verdicts.{both-yes, both-assoc}
 use Rattle.schemars_schema.proofs.Objects.{says, judge-object}
 use Rattle.schemars_validate.specs.Schemas.{schema_at, schemas_in, schemas_by_name, schema_where_read, schemas_where_read, schema_of_rest, judge_at, judges_in, named_judges, named_judges_in, judges_of, judges_among_in}
@@ -153,7 +153,8 @@ items_rest r f c x ds = sym (read_where_read r c x (Some ds) (λ s ds. each_item
 -- a keyword says nothing of a value of another kind
 no_members_rest : (r : Bool) (f : Text → Bool) (x : Option Reading) (v : Data) → as_object v ≡ None → unevaluated_properties_say r f x v ≡ Yes
 no_members_rest true f None v none = refl
-no_members_rest true f (Some y) v none = ap (λ o. where_some o (λ ms. where_some y.schema (λ s. each_member (λ k w. if f k then Yes else s.fits w) ms))) none
+no_members_rest true f (Some y) v none =
+    ap (λ o. where_some o (λ ms. where_some y.schema (λ s. each_member (λ k w. if f k then Yes else s.fits w) ms))) none
 no_members_rest false f x v none = refl
 
 no_items_rest : (r : Bool) (f : ℕ → Bool) (x : Option Reading) (v : Data) → as_array v ≡ None → unevaluated_items_say r f x v ≡ Yes
@@ -164,7 +165,8 @@ no_items_rest false f (Some y) v none = refl
 no_parts_rest : (c : Context) (raw : Raw) (v : Data) → as_array v ≡ None → as_object v ≡ None → Yes ≡ rest_says c raw v
 no_parts_rest c raw v list map =
     sym (ap (λ x. both x (unevaluated_properties_say c.dialect.reads_unevaluated (λ k. judged_beside c raw (reads c raw) v (key k))
-    (reads c raw (codes "unevaluatedProperties")) v)) (no_items_rest c.dialect.reads_unevaluated _ (reads c raw (codes "unevaluatedItems")) v list)
+    (reads c raw (codes "unevaluatedProperties")) v))
+    (no_items_rest c.dialect.reads_unevaluated _ (reads c raw (codes "unevaluatedItems")) v list)
     ∙ no_members_rest c.dialect.reads_unevaluated _ (reads c raw (codes "unevaluatedProperties")) v map)
 
 in_each : (o : Option Judge) (f g : Judge → Verdict) → ((s : Judge) → f s ≡ g s) → where_some o f ≡ where_some o g
@@ -303,15 +305,19 @@ members_judged c raw k = λ i. (names i || patterns i) || rest i
     rest : is_some (schema_at (raw (codes "additionalProperties"))) ≡ has_schema (reads c raw (codes "additionalProperties"))
     rest = some_judge c (schema_at (raw (codes "additionalProperties"))) ∙ ap is_some (sym (read_schema c (raw (codes "additionalProperties"))))
 
--- after the first schemas
+-- at the position of a schema of a list, or past the list
+abbrev listed_at : Option Items → Bool → ℕ → Bool
+listed_at y past n = elim y [ None ↦ false | Some ds ↦ nat_lt n (items_len ds) || past ]
+
+abbrev before_all : Option (List Judge) → Bool → ℕ → Bool
+before_all o past n = elim o [ None ↦ false | Some ss ↦ nat_lt n (length ss) || past ]
+
 position_judged : (c : Context) (x : Option Data) (past : Bool) (n : ℕ)
-    → judged_by_position (option_map (read_data c) x) past n
-    ≡ elim (schemas_in x) [ None ↦ false | Some ds ↦ nat_lt n (items_len ds) || past ]
+    → judged_by_position (option_map (read_data c) x) past n ≡ listed_at (schemas_in x) past n
 position_judged c x past n =
-    ap (λ o. elim o [ None ↦ false | Some ss ↦ nat_lt n (length ss) || past ]) (read_listed c x) ∙ found (schemas_in x)
+    ap (λ o. before_all o past n) (read_listed c x) ∙ found (schemas_in x)
   where
-    found : (y : Option Items) → elim (option_map (judges_of c) y) [ None ↦ false | Some ss ↦ nat_lt n (length ss) || past ]
-        ≡ elim y [ None ↦ false | Some ds ↦ nat_lt n (items_len ds) || past ]
+    found : (y : Option Items) → before_all (option_map (judges_of c) y) past n ≡ listed_at y past n
     found None = refl
     found (Some ds) = ap (λ l. nat_lt n l || past) (judges_length c ds)
 
@@ -324,10 +330,13 @@ items_judged true c raw n =
     λ i. (first (schemas_in (raw (codes "prefixItems"))) ∙ sym (position_judged c (raw (codes "prefixItems")) false n)) i
     || sym (has_read true c (raw (codes "items"))) i
   where
-    first : (y : Option Items) → nat_lt n (items_len (items_or_none y)) ≡ elim y [ None ↦ false | Some ds ↦ nat_lt n (items_len ds) || false ]
+    first : (y : Option Items) → nat_lt n (items_len (items_or_none y)) ≡ listed_at y false n
     first None = nothing_before n
     first (Some ds) = sym (or_false (nat_lt n (items_len ds)))
-items_judged false c raw n = go (schemas_in x) refl ∙ ap (λ b. has_schema (option_map (read_data c) x) || b) (sym (position_judged c x (has_schema (option_map (read_data c) a)) n))
+items_judged false c raw n =
+    go (schemas_in x) refl
+    ∙ ap (λ b. has_schema (option_map (read_data c) x) || b)
+    (sym (position_judged c x (has_schema (option_map (read_data c) a)) n))
   where
     x : Option Data
     x = raw (codes "items")
@@ -337,8 +346,7 @@ items_judged false c raw n = go (schemas_in x) refl ∙ ap (λ b. has_schema (op
 
     go : (ss : Option Items) → schemas_in x ≡ ss
         → (nat_lt n (items_len (items_or_none ss)) || is_some (schema_at (if is_some ss then a else x)))
-        ≡ (has_schema (option_map (read_data c) x)
-        || elim ss [ None ↦ false | Some ds ↦ nat_lt n (items_len ds) || has_schema (option_map (read_data c) a) ])
+        ≡ (has_schema (option_map (read_data c) x) || listed_at ss (has_schema (option_map (read_data c) a)) n)
     go None is =
         ap (λ b. b || is_some (schema_at x)) (nothing_before n)
         ∙ (sym (has_read true c x) ∙ sym (or_false (has_schema (option_map (read_data c) x))))
@@ -355,7 +363,8 @@ abbrev pub contained_by : Context → Raw → Data → Part → Bool
 contained_by c raw v = at_positions (judged_by_contains c.dialect.reads_prefix_items (reads c raw (codes "contains")) v)
 
 abbrev pub taken_by_name : Context → Raw → Part → Bool
-taken_by_name c raw = at_keys (is_taken c.patterns (schemas_by_name (raw (codes "properties"))) (schemas_by_name (raw (codes "patternProperties")))
+taken_by_name c raw =
+    at_keys (is_taken c.patterns (schemas_by_name (raw (codes "properties"))) (schemas_by_name (raw (codes "patternProperties")))
     (schema_at (raw (codes "additionalProperties"))))
 
 itself_judged : (c : Context) (raw : Raw) (v : Data) (p : Part)
@@ -400,6 +409,12 @@ dependents_judged false c x v p =
 
 pub no_beside_marks : (v : Data) (ps : List Part) (bs : List Bool) → bs ≡ marked (judged_beside_members [] v) ps bs
 no_beside_marks v ps bs = sym (marked_same _ _ (λ p. sym (no_one (as_object v))) ps bs ∙ marked_none ps bs)
+
+pub no_object_marks : (ss : List (Text × Judge)) (v : Data) (ps : List Part) (bs : List Bool) → None ≡ as_object v
+    → bs ≡ marked (judged_beside_members ss v) ps bs
+no_object_marks ss v ps bs none =
+    sym (marked_same _ (λ p. false) (λ p. sym (ap (λ o. elim o [ None ↦ false | Some ms ↦ judged_by_some (beside_members ss ms) v p ]) none))
+    ps bs ∙ marked_none ps bs)
 
 -- by its own keywords, by each list, by the condition, by schemas beside members and by the reference
 beside_judged : (c : Context) (raw : Raw) (v : Data) (p : Part)
@@ -462,13 +477,6 @@ no_contains true counts c x least most v is =
     ap (λ o. where_some (judge_at c o) (λ s. where_some (as_array v) (λ vs. counted_says counts least most (count_of_fitting s vs)))) is
     ∙ read_contains true counts c x least most v
 no_contains false counts c x least most v is = read_contains false counts c x least most v
-
-pub no_list_contains : (r counts : Bool) (y : Option Reading) (least most : Option Data) (v : Data) → None ≡ as_array v
-    → Yes ≡ contains_says r counts y least most v
-no_list_contains r counts None least most v none = refl
-no_list_contains true counts (Some y) least most v none =
-    ap (λ o. where_some o (λ vs. where_some y.schema (λ s. counted_says counts least most (count_of_fitting s vs)))) none
-no_list_contains false counts (Some y) least most v none = refl
 
 pub contained : (r counts : Bool) (c : Context) (x least most : Option Data) (d v : Data) (vs : Items) (count : Option ℕ)
     → Some d ≡ schema_at x → Some vs ≡ as_array v → count ≡ count_of_fitting (judge c d) vs

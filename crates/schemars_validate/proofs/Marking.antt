@@ -10,7 +10,7 @@ use Rattle.serde_json.specs.declared.value.Value.{Value}
 use Rattle.serde_json.proofs.Views.{Entry}
 use Rattle.schemars_schema.specs.Json.{Text}
 use Rattle.schemars_schema.specs.Verdict.{Verdict, is_yes}
-use Rattle.schemars_schema.specs.Acceptance.{Part, key, position, Judge}
+use Rattle.schemars_schema.specs.Acceptance.{Part, position, Judge}
 use Rattle.schemars_validate.specs.Judged.{marked, unmarked, first_marked, keys_in, positions_in, parts_of, at_keys, at_positions, is_placed, fits_at}
 
 or_off : (b : Bool) → (b || false) ≡ b
@@ -48,18 +48,6 @@ pub mark_next : (f : Part → Bool) (p : Part) (ps : List Part) (bs cs : List Bo
 mark_next f p ps bs cs i true is e = rw (e, add-one) (set_next f p ps bs i (sym is))
 mark_next f p ps bs cs i false is e = rw (e, add-one) (keep_next f p ps bs i (sym is))
 
-pub marks_end : (f : Part → Bool) (ps : List Part) (bs : List Bool) (i : ℕ) → length bs ≤ i → take i bs ++ marked f ps (drop i bs) ≡ bs
-marks_end f ps [] zero h = no_marks f ps
-marks_end f ps [] (suc i) h = no_marks f ps
-marks_end f ps (b ∷ bs) zero h = absurd (omega arith)
-marks_end f ps (b ∷ bs) (suc i) h = ap (λ cs. b ∷ cs) (marks_end f ps bs i (omega arith))
-
-pub both_parts : (bs : List Bool) (i : ℕ) → take i bs ++ drop i bs ≡ bs
-both_parts [] zero = refl
-both_parts [] (suc i) = refl
-both_parts (b ∷ bs) zero = refl
-both_parts (b ∷ bs) (suc i) = ap (λ cs. b ∷ cs) (both_parts bs i)
-
 -- ---- the first marks
 
 pub first_next : (n : ℕ) (bs : List Bool) → set (first_marked n bs) n true ≡ first_marked (n + 1) bs
@@ -70,11 +58,6 @@ first_next n bs = rw add-one (go n bs)
     go zero (b ∷ bs) = refl
     go (suc n) [] = refl
     go (suc n) (b ∷ bs) = ap (λ cs. true ∷ cs) (go n bs)
-
-pub first_length : (n : ℕ) (bs : List Bool) → length (first_marked n bs) ≡ length bs
-first_length zero bs = refl
-first_length (suc n) [] = refl
-first_length (suc n) (b ∷ bs) = ap suc (first_length n bs)
 
 pub first_enough : (n : ℕ) (bs : List Bool) → first_marked (min n (length bs)) bs ≡ first_marked n bs
 first_enough zero bs = let none : min 0 (length bs) ≡ 0 = omega arith in ap (λ m. first_marked m bs) none
@@ -94,13 +77,34 @@ none_marked (p ∷ ps) = ap (λ cs. false ∷ cs) (none_marked ps)
 
 -- ---- the number of parts
 
-pub items_parts : (n : ℕ) (vs : List Value) → length (positions_in n (items_view vs)) ≡ length vs
+items_parts : (n : ℕ) (vs : List Value) → length (positions_in n (items_view vs)) ≡ length vs
 items_parts n [] = refl
 items_parts n (v ∷ vs) = ap suc (items_parts (suc n) vs)
 
-pub members_parts : (es : List Entry) → length (keys_in (members_view es)) ≡ length es
+members_parts : (es : List Entry) → length (keys_in (members_view es)) ≡ length es
 members_parts [] = refl
 members_parts (e ∷ es) = ap suc (members_parts es)
+
+pub list_parts : (v : Data) (vs : List Value) → Some (items_view vs) ≡ as_array v → length (parts_of v) ≡ length vs
+list_parts (array ds) vs is = let same : items_view vs ≡ ds = cc in sym (ap (λ xs. length (positions_in 0 xs)) same) ∙ items_parts 0 vs
+list_parts null vs is = cc
+list_parts (boolean b) vs is = cc
+list_parts (number n) vs is = cc
+list_parts (string s) vs is = cc
+list_parts (object ms) vs is = cc
+
+pub object_parts : (v : Data) (es : List Entry) → Some (members_view es) ≡ as_object v → length (parts_of v) ≡ length es
+object_parts (object ms) es is = let same : members_view es ≡ ms = cc in sym (ap (λ xs. length (keys_in xs)) same) ∙ members_parts es
+object_parts null es is = cc
+object_parts (boolean b) es is = cc
+object_parts (number n) es is = cc
+object_parts (string s) es is = cc
+object_parts (array ds) es is = cc
+
+pub no_parts : (v : Data) → None ≡ as_array v → None ≡ as_object v → 0 ≡ length (parts_of v)
+no_parts (array ds) list map = cc
+no_parts (object ms) list map = cc
+no_parts _ list map = refl
 
 -- ---- marks of items
 
@@ -159,7 +163,8 @@ pub placed_marks : (first : Items) (others : Option Data) (v : Data) (ds : Items
     → first_marked n bs ≡ marked (at_positions (is_placed first others)) (parts_of v) bs
 placed_marks first (Some d) (array es) ds bs n is count =
     let same : ds ≡ es = cc in
-    ap (λ m. first_marked m bs) (count ∙ ap items_len same) ∙ all_placed (is_placed first (Some d)) (λ m. sym (or_on (nat_lt m (items_len first)))) 0 es bs
+    ap (λ m. first_marked m bs) (count ∙ ap items_len same)
+    ∙ all_placed (is_placed first (Some d)) (λ m. sym (or_on (nat_lt m (items_len first)))) 0 es bs
 placed_marks first None (array es) ds bs n is count =
     let same : ds ≡ es = cc in
     ap (λ m. first_marked m bs) (count ∙ ap (λ xs. min (items_len first) (items_len xs)) same)

@@ -277,13 +277,10 @@ to_top_bound (fin false m e) low = T_from_true _ (grind (arith, nat_tests, down_
 
 -- ---- sizes below 2 ^ 64
 
-top : (k : ℕ) → size_of_whole (with_sign true k) ≡ size_of_whole (pos k)
-top zero = refl
-top (suc k) = refl
-
 size_signed : (s : Bool) (k : ℕ) → size_of_whole (with_sign s k) ≡ (if nat_lt k (2 ^ 64) then Some k else None)
 size_signed false k = refl
-size_signed true k = top k
+size_signed true zero = refl
+size_signed true (suc k) = refl
 
 -- the float without its sign and its fraction
 pub size_below : (x : Float) → Ieee.lt (float_with_sign false x) (two_to 64) ≡ true → is_some (whole_of_float x) ≡ true
@@ -301,13 +298,6 @@ size_below (fin s m e) low some =
     ap Some part
     ∙ (sym (size_signed s (a / down e) ∙ ap (λ (b : Bool). if b then Some (a / down e) else None) fits)
     ∙ sym (ap (λ (b : Bool). option_and_then size_of_whole (if b then Some (with_sign s (a / down e)) else None)) there))
-
-pub size_fraction : (x : Float) → is_some (whole_of_float x) ≡ false → None ≡ option_and_then size_of_whole (whole_of_float x)
-size_fraction x none = go (whole_of_float x) none
-  where
-    go : (z : Option ℤ) → is_some z ≡ false → None ≡ option_and_then size_of_whole z
-    go None none = refl
-    go (Some z) none = absurd (true≢false none)
 
 pub size_above : (x : Float) → Ieee.lt (float_with_sign false x) (two_to 64) ≡ false
     → None ≡ option_and_then size_of_whole (whole_of_float x)
@@ -332,37 +322,6 @@ unfolding Ieee.lt float_with_sign
 from_zero_up nan low = absurd (true≢false (sym low))
 from_zero_up (inf s) low = tt
 from_zero_up (fin s m e) low = T_from_true _ (grind (arith, nat_tests, down_pos e))
-
--- of a number as it is held
-pub size_unsigned : (n : Num) (k : ℕ) → as_u64 n ≡ Some k → k < 2 ^ 64 → Some k ≡ size_in_64_bits n
-size_unsigned (unsigned m) k is fits =
-    let same : m ≡ k = some_same is in
-    let below : nat_lt m (2 ^ 64) ≡ true = grind (arith, nat_tests) in
-    ap Some (sym same) ∙ sym (ap (λ (b : Bool). if b then Some m else None) below)
-size_unsigned (negative z) k is fits = none_some is
-size_unsigned (float x) k is fits = none_some is
-
-pub size_negative : (n : Num) (z : ℤ) (k : ℕ) → as_u64 n ≡ None → as_i64 n ≡ Some z → k ≡ unsigned_abs z → k < 2 ^ 64
-    → Some k ≡ size_in_64_bits n
-size_negative (unsigned m) z k none is size fits = none_some (sym none)
-size_negative (float x) z k none is size fits = none_some is
-size_negative (negative y) z k none is size fits = ap Some (size ∙ ap unsigned_abs (sym same)) ∙ go y (size ∙ ap unsigned_abs (sym same))
-  where
-    same : y ≡ z
-    same = some_same is
-
-    go : (y : ℤ) → k ≡ unsigned_abs y → Some (unsigned_abs y) ≡ size_of_whole y
-    go (pos m) e =
-        let below : nat_lt m (2 ^ 64) ≡ true = grind (arith, nat_tests) in sym (ap (λ (b : Bool). if b then Some m else None) below)
-    go (negsuc m) e =
-        let below : nat_lt (suc m) (2 ^ 64) ≡ true = grind (arith, nat_tests) in
-        sym (ap (λ (b : Bool). if b then Some (suc m) else None) below)
-
-pub size_floating : (n : Num) (x : Float) → as_u64 n ≡ None → as_i64 n ≡ None → to_float n ≡ x
-    → option_and_then size_of_whole (whole_of_float x) ≡ size_in_64_bits n
-size_floating (unsigned m) x none other is = none_some (sym none)
-size_floating (negative z) x none other is = none_some (sym other)
-size_floating (float y) x none other is = ap (λ (w : Float). option_and_then size_of_whole (whole_of_float w)) (sym is)
 
 -- ---- a number above zero has a size above zero
 

@@ -7,7 +7,7 @@ use Rattle.schemars_text.proofs.Members.{get_member-member}
 use Rattle.schemars_schema.specs.Json.{Text}
 use Rattle.schemars_schema.specs.SchemaData.{is_schema}
 use Rattle.schemars_schema.specs.Lookup.{schema_only}
-use Rattle.schemars_schema.specs.Verdict.{Verdict, Yes, Open, both, verdict}
+use Rattle.schemars_schema.specs.Verdict.{Verdict, Yes, both}
 use Rattle.schemars_schema.specs.Acceptance.{Context, Judge, Reading, Patterns, Raw, judge, read_data, read_items, read_members, all_named, both_some, truth_value, where_some, when, by_position, each_past, items_say, positions_say, past_say, past_list_say, count_of_positions, each_says, schema_says, condition_says, chosen, contains_says, count_of_fitting, where_read, property_names_say, dependent_schemas_say, dependencies_say, dependent_required_says, with_schema, some_named, schema_named, matches_some, by_patterns, each_member, named_in, properties_say, pattern_properties_say, additional_properties_say, is_covered, matches}
 use Rattle.schemars_schema.proofs.Verdicts.{both-yes, both-assoc, both-middle}
 use Rattle.schemars_validate.specs.Schemas.{are_schemas, are_named_schemas, schema_at, schemas_in, schemas_by_name, schema_where_read, schemas_where_read, members_where_read, judge_at, judges_of, named_judges, named_judges_in, judges_among, judges_among_in}
@@ -170,15 +170,14 @@ no_dependents v = says_nothing (as_object v)
 -- where all members are schemas, none is left out
 each_among : (c : Context) (ms : Members) → are_named_schemas ms ≡ true → judges_among c ms ≡ named_judges c ms
 each_among c no_members all = refl
-each_among c (member k d ms) all = go (is_schema d) (are_named_schemas ms) refl refl all
+each_among c (member k d ms) all = go (is_schema d) (are_named_schemas ms) refl all (each_among c ms)
   where
-    go : (b e : Bool) → is_schema d ≡ b → are_named_schemas ms ≡ e → (b && e) ≡ true
+    go : (b e : Bool) → is_schema d ≡ b → (b && e) ≡ true → (e ≡ true → judges_among c ms ≡ named_judges c ms)
         → with_schema k (judge_at c (schema_only d)) (judges_among c ms) ≡ (k, judge c d) ∷ named_judges c ms
-    go true true here later all =
+    go true e here all later =
         ap (λ t. with_schema k (judge_at c (if t then Some d else None)) (judges_among c ms)) here
-        ∙ ap (λ ss. (k, judge c d) ∷ ss) (each_among c ms later)
-    go true false here later all = cc
-    go false e here later all = cc
+        ∙ ap (λ ss. (k, judge c d) ∷ ss) (later all)
+    go false e here all later = cc
 
 pub all_among : (r : Bool) (c : Context) (x : Option Data)
     → judges_among_in c (schemas_where_read r x) ≡ named_judges_in c (schemas_where_read r x)

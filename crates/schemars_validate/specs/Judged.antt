@@ -1,5 +1,5 @@
 -- Which parts of a value have been judged: a mark for each, in their order.
-use Rattle.std.specs.Prelude.{◌&&◌, ◌||◌, ℕ, zero, suc, nat_lt, Bool, true, false, is_some, Option, Some, None, if◌then◌else◌, List, [], ◌∷◌, option_and_then}
+use Rattle.std.specs.Prelude.{◌&&◌, ◌||◌, ℕ, zero, suc, nat_lt, Bool, true, false, is_some, Option, Some, None, if◌then◌else◌, List, [], ◌∷◌}
 use Rattle.serde_json.specs.Data.{Data, null, boolean, number, string, array, object, Items, no_items, item, Members, no_members, member}
 use Rattle.serde_json.specs.Events.{items_len}
 use Rattle.schemars_schema.specs.Json.{Text}

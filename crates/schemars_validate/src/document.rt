@@ -3,11 +3,13 @@ ghost use Rattle.std.specs.Prelude.{◌≡◌, IfOk, IfSome};
 ghost use Rattle.serde_json.specs.Data.{depth, items_depth, members_depth};
 ghost use Rattle.serde_json.specs.View.{view, items_view, members_view};
 ghost use Rattle.schemars_schema.specs.Verdict.{is_yes};
-ghost use Rattle.schemars_schema.specs.Acceptance.{accepts, bound, count_of_definitions};
+ghost use Rattle.schemars_schema.specs.Acceptance.{accepts, bound, context, count_of_definitions, judge};
+ghost use Rattle.schemars_validate.specs.Judged.{marked, parts_of, unmarked};
 ghost use Rattle.schemars_validate.specs.Meant.{meant};
 
 use crate::dialect::Dialect;
 use crate::judge::{Document, judge};
+use crate::marks::unmarked;
 use crate::patterns::Patterns;
 use crate::verdict::Verdict;
 use serde_json::{Map, Value};
@@ -35,6 +37,33 @@ pub fn validate<P: Patterns>(
     };
     let mut unwanted = Vec::new(alloc);
     judge(&d, references, schema, value, &mut unwanted)
+}
+
+/// Which parts of a value a schema of a document judges, if at most `references` references within one
+/// another are followed: a mark for each member of an object, or for each item of a list, in their order.
+pub fn judged<P: Patterns>(
+    alloc: Global,
+    dialect: Dialect,
+    document: &Value,
+    patterns: &P,
+    references: u64,
+    schema: &Value,
+    value: &Value,
+) -> Result<Vec<bool>, AllocError>
+    ensures { let c = context dialect (view document.now) (P.reading patterns.now) references in
+        let parts = parts_of (view value.now) in
+        IfOk result (λ marks. marks.items
+        ≡ marked ((judge c (view schema.now)).judges (view value.now)) parts (unmarked parts)) }
+{
+    let d = Document {
+        alloc,
+        dialect,
+        whole: document,
+        patterns,
+    };
+    let mut marks = unmarked(alloc, value)?;
+    judge(&d, references, schema, value, &mut marks)?;
+    Ok(marks)
 }
 
 /// What a document says of a value, with as many references followed as its definitions can need,

@@ -155,12 +155,12 @@ pub fn schema_of_rest<'k>(
     ensures { option_map (λ s. view s.now) result
         ≡ schema_of_rest dialect.reads_unevaluated (λ k. get_member k (members_view keywords.now.entries)) (view value.now) }
 {
-    let keyword = match value {
-        Value::Array(_) => "unevaluatedItems",
-        Value::Object(_) => "unevaluatedProperties",
-        _ => return None,
-    };
-    schema_where_read(dialect.reads_unevaluated(), member(keywords, keyword))
+    let reads = dialect.reads_unevaluated();
+    match value {
+        Value::Array(_) => schema_where_read(reads, member(keywords, "unevaluatedItems")),
+        Value::Object(_) => schema_where_read(reads, member(keywords, "unevaluatedProperties")),
+        _ => None,
+    }
 }
 
 /// The schemas of the first items of a list, and of all others.

@@ -11,6 +11,7 @@ ghost use Rattle.schemars_validate.specs.Joined.{joined_by};
 ghost use Rattle.schemars_validate.specs.Schemas.{judge_at, judges_of, judges_in, named_judges_in, judges_among_in};
 ghost use Rattle.schemars_validate.specs.Parts.{besides, inside, reads, items_by, members_by, member_by, names_by, dependents_by};
 
+use crate::arrays::{contained_says, one_more};
 use crate::dialect::Dialect;
 use crate::found::{
     ItemSchemas, Matched, MemberSchemas, item_schemas, member, member_schemas, members_where_read,
@@ -19,7 +20,6 @@ use crate::found::{
 };
 use crate::joined::{Join, Joined};
 use crate::keys::{by_keys, dependent_required_says};
-use crate::arrays::{contained_says, one_more};
 use crate::marks::{
     copied, keep, mark_all, mark_fitting, mark_items, mark_members, unless_marked, unmarked,
 };

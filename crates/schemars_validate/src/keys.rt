@@ -94,11 +94,7 @@ fn required_says(required: Option<&Value>, value: &Value) -> Verdict
 }
 
 /// The names that are required beside a member, under a keyword that only some drafts read.
-pub fn dependent_required_says(
-    reads: bool,
-    dependent: Option<&Value>,
-    value: &Value,
-) -> Verdict
+pub fn dependent_required_says(reads: bool, dependent: Option<&Value>, value: &Value) -> Verdict
     ensures { meant result ≡ dependent_required_says reads (option_map (λ v. view v.now) dependent.entry)
         (view value.now) }
 {

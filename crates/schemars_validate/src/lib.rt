@@ -17,9 +17,9 @@ mod scalars;
 mod verdict;
 
 pub use dialect::Dialect;
-pub use document::{bound, depth, is_valid, validate, validate_document};
+pub use document::{bound, depth, is_valid, judged, validate, validate_document};
 pub use found::resolved;
 pub use json::look;
-pub use numbers::{is_whole, numbers_le};
+pub use numbers::{is_whole, numbers_le, size_in_64_bits};
 pub use patterns::{PatternList, Patterns};
 pub use verdict::Verdict;

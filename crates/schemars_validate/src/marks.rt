@@ -1,6 +1,6 @@
 //! Marks for the parts of a value that have been judged.
-ghost use Rattle.std.specs.Prelude.{◌≡◌, IfOk, Some, None, option_map, true, is_some, if◌then◌else◌, ◌&&◌, length, slice_set};
-ghost use Rattle.serde_json.specs.Find.{get_member};
+ghost use Rattle.std.specs.Prelude.{◌≡◌, IfOk, Some, None, option_map, true, is_some, if◌then◌else◌, ◌&&◌, length, min, slice_set};
+ghost use Rattle.serde_json.specs.Events.{items_len};
 ghost use Rattle.serde_json.specs.View.{view, items_view, members_view};
 ghost use Rattle.schemars_validate.specs.Judged.{marked, unmarked, first_marked, keys_in, parts_of, at_keys, at_positions, is_placed, is_marked, is_named, matches_one, is_matched, is_taken};
 ghost use Rattle.schemars_schema.specs.Verdict.{is_yes};
@@ -29,10 +29,12 @@ pub fn mark_all(value: &Value, marks: &mut Vec<bool>)
 fn count_of_parts(value: &Value) -> usize
     ensures { result ≡ length (parts_of (view value.now)) }
 {
-    match value {
-        Value::Array(items) => items.len(),
-        Value::Object(members) => members.len(),
-        _ => 0,
+    if let Some(items) = value.as_array() {
+        return items.len();
+    }
+    match value.as_object() {
+        Some(members) => members.len(),
+        None => 0,
     }
 }
 
@@ -53,11 +55,18 @@ pub fn mark_items(schemas: &ItemSchemas<'_>, value: &Value, marks: &mut Vec<bool
     let Some(items) = value.as_array() else {
         return;
     };
-    let count = match schemas.others {
+    mark_first(count_of_placed(schemas, items), marks);
+}
+
+#[tactic(auto, using(crate::proofs::Lists::items_counted))]
+fn count_of_placed(schemas: &ItemSchemas<'_>, items: &[Value]) -> usize
+    ensures { result ≡ (if is_some schemas.now.others then items_len (items_view items.now)
+        else min (items_len (items_view schemas.now.first.now)) (items_len (items_view items.now))) }
+{
+    match schemas.others {
         Some(_) => items.len(),
         None => schemas.first.len().min(items.len()),
-    };
-    mark_first(count, marks);
+    }
 }
 
 /// Marks the item at a place if it fits, where such items are taken as judged.

@@ -10,9 +10,9 @@ ghost use Rattle.schemars_validate.specs.Meant.{meant};
 ghost use Rattle.schemars_validate.specs.Texts.{are_texts, texts_of};
 ghost use Rattle.schemars_validate.specs.Parts.{by_itself};
 
+use crate::arrays::{max_items_says, min_items_says, unique_items_says};
 use crate::dialect::Dialect;
 use crate::found::member;
-use crate::arrays::{max_items_says, min_items_says, unique_items_says};
 use crate::numbers::is_whole;
 use crate::patterns::Patterns;
 use crate::quantities::{

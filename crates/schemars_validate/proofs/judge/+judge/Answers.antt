@@ -1,12 +1,12 @@
 -- Each part says what its contract says; and each call has less work left.
-use Rattle.std.proofs.Common.{◌≡◌, ◌∙◌, ◌+◌, ◌<◌, ◌≤◌, List, Bool, true, false, refl, Option, Some, None, option_map, sym, ap, subst, arith, IfOk, OnOk, drop}
-use Rattle.std.specs.Prelude.{◌||◌, string_bytes, is_some, unwrap_or, codes, if◌then◌else◌, map}
+use Rattle.std.proofs.Common.{◌≡◌, ◌∙◌, ℕ, suc, ◌+◌, ◌<◌, ◌≤◌, ◌++◌, List, Bool, true, false, refl, Option, None, option_map, sym, ap, subst, arith, IfOk, OnOk, take, drop, set}
+use Rattle.std.specs.Prelude.{◌&&◌, ◌||◌, string_bytes, is_some, unwrap_or, codes, if◌then◌else◌, map}
 use Rattle.serde_json.specs.Data.{Data, object, Items, Members, depth, items_depth, members_depth}
 use Rattle.serde_json.specs.Find.{get_member, as_object}
 use Rattle.serde_json.specs.View.{view, items_view, members_view}
 use Rattle.schemars_schema.specs.Json.{Text}
-use Rattle.schemars_schema.specs.Verdict.{Verdict, Yes, No, Open, verdict, all_of, any_of, one_of, both}
-use Rattle.schemars_schema.specs.Acceptance.{read_data, Judge, Raw, context, judge, follow, where_some, count_of_fitting, beside_members, judged_by_some, judged_beside, judged_by_contains, reads_dependencies, dependent_required_says, by_patterns, matches_some, each_member, matches}
+use Rattle.schemars_schema.specs.Verdict.{Verdict, Yes, No, Open, verdict, all_of, any_of, one_of, both, is_yes}
+use Rattle.schemars_schema.specs.Acceptance.{read_data, Judge, Part, position, one_more, Raw, context, judge, follow, where_some, count_of_fitting, beside_members, judged_by_some, judged_beside, judged_by_contains, reads_dependencies, dependent_required_says, by_patterns, matches_some, each_member, matches}
 use Rattle.schemars_schema.proofs.Containers.{object-as_object}
 use Rattle.schemars_validate.specs.Meant.{meant}
 use Rattle.schemars_validate.specs.Judged.{marked, parts_of, positions_in, at_keys, at_positions, is_placed, fits_at, is_taken, unmarked_by, each_unmarked, each_unmarked_item, is_marked, judged_beside_members, judged_by_one}
@@ -14,14 +14,14 @@ use Rattle.schemars_validate.specs.Schemas.{schema_at, schemas_in, schema_where_
 use Rattle.schemars_validate.specs.Parts.{reads, items_by, members_by, each_item, member_by, names_by, dependents_by, counted_says}
 use Rattle.schemars_validate.proofs.Measures.{depth_at, items_depth_at, members_depth_at, schema_under, list_under, map_under, first_under, other_under, read_under, read_map_under, rest_under, among_under, resolved_shallow, reference_less}
 use Rattle.schemars_validate.proofs.Readings.{judge_other, read_one, read_dependencies}
-use Rattle.schemars_validate.proofs.Judging.{object_alone, object_whole, object_with, object_with_marks, object_without, object_without_marks, no_contains, no_list_contains, contained, no_contains_marks, contained_marks, no_condition_says, condition_said, no_condition_marks, condition_marks, no_beside_marks, inside_says, inside_marks, beside_says, beside_marks, negated, mapped_some, marked_none, kept_marks, no_text_says, no_text_marks, unanswered_says, unanswered_marks, answered_says, answered_marks, follow_zero, follow_lost, follow_found, next_marks}
+use Rattle.schemars_validate.proofs.Judging.{object_alone, object_whole, object_with, object_with_marks, object_without, object_without_marks, no_contains, contained, no_contains_marks, contained_marks, no_condition_says, condition_said, no_condition_marks, condition_marks, no_beside_marks, no_object_marks, inside_says, inside_marks, beside_says, beside_marks, negated, mapped_some, marked_none, kept_marks, no_text_says, no_text_marks, unanswered_says, unanswered_marks, answered_says, answered_marks, follow_zero, follow_lost, follow_found, next_marks}
 use Rattle.std.specs.Slice.Iter.{iter_rest}
 use Rattle.serde_json.proofs.Views.{Entry}
 use Rattle.schemars_text.proofs.Lists.{from_here, nothing_left}
 use Rattle.schemars_schema.proofs.Verdicts.{both-yes}
 use Rattle.schemars_validate.specs.Joined.{SoFar, so_far, with_one, with_each, taken_by}
 use Rattle.schemars_validate.proofs.Marking.{no_item_marked, mark_next, fitting_here}
-use Rattle.schemars_validate.proofs.Stepping.{one_more_said, beside_at, beside_deep, with_schema_says, with_schema_judges, item_under, entry_deep, item_says, next_deep, unmarked_member_says, unmarked_item_says, added_one, one_few, asked_deep, named_deep, others_deep, member_parts, one_matches, none_matches, or_no, no_item_says}
+use Rattle.schemars_validate.proofs.Stepping.{one_more_said, beside_at, beside_deep, with_schema_says, with_schema_judges, item_under, entry_deep, item_says, next_deep, unmarked_member_says, unmarked_item_says, added, added_one, IsFew, one_few, asked_deep, named_deep, others_deep, member_parts, one_matches, none_matches, or_no, no_item_says}
 use Rattle.schemars_validate.proofs.judge.+judge.Goals as goal
 
 -- ---- a schema
@@ -340,20 +340,14 @@ contains-returns-in_default-clause-judged g t c =
     no_contains_marks c.args.d.now.dialect.reads_prefix_items x (get_member (codes "contains") ms) (view c.args.value.now)
     c.args.marks.now.items none
 
-pub contains-returns-in_default-2-clause-verdict : goal.contains-returns-in_default-2-clause-verdict
-contains-returns-in_default-2-clause-verdict g t c =
+pub contains-returns-in_default-as_array-clause-judged : goal.contains-returns-in_default-as_array-clause-judged
+contains-returns-in_default-as_array-clause-judged g t c =
     let x = context c.args.d.now.dialect (view c.args.d.now.whole.now) (g.P.Patterns.reading c.args.d.now.patterns.now) c.args.left in
     let ms = members_view c.args.keywords.now.entries in
-    no_list_contains c.args.d.now.dialect.reads_const c.args.d.now.dialect.reads_unevaluated
-    (option_map (read_data x) (get_member (codes "contains") ms)) (get_member (codes "minContains") ms)
-    (get_member (codes "maxContains") ms) (view c.args.value.now) c.in_default-2.ensures
-
-pub contains-returns-in_default-2-clause-judged : goal.contains-returns-in_default-2-clause-judged
-contains-returns-in_default-2-clause-judged g t c =
-    let x = context c.args.d.now.dialect (view c.args.d.now.whole.now) (g.P.Patterns.reading c.args.d.now.patterns.now) c.args.left in
-    let ms = members_view c.args.keywords.now.entries in
-    no_item_marked (judged_by_contains c.args.d.now.dialect.reads_prefix_items (option_map (read_data x) (get_member (codes "contains") ms)) (view c.args.value.now))
-    (view c.args.value.now) c.args.marks.now.items c.in_default-2.ensures
+    no_item_marked
+    (judged_by_contains c.args.d.now.dialect.reads_prefix_items (option_map (read_data x) (get_member (codes "contains") ms))
+    (view c.args.value.now))
+    (view c.args.value.now) c.args.marks.now.items c.in_default-as_array.ensures
 
 pub contains-count_of_fitting-requires : goal.contains-count_of_fitting-requires
 contains-count_of_fitting-requires g t c =
@@ -538,6 +532,12 @@ pub dependents-returns-in_default-clause-judged : goal.dependents-returns-in_def
 dependents-returns-in_default-clause-judged g t c =
     rw c.in_default.is (no_beside_marks (view c.args.value.now) (parts_of (view c.args.value.now)) c.args.marks.now.items)
 
+pub dependents-returns-in_default-as_object-clause-judged : goal.dependents-returns-in_default-as_object-clause-judged
+dependents-returns-in_default-as_object-clause-judged g t c =
+    let x = context c.args.d.now.dialect (view c.args.d.now.whole.now) (g.P.Patterns.reading c.args.d.now.patterns.now) c.args.left in
+    no_object_marks (judges_among_in x (option_map (λ s. members_view s.now.entries) c.args.by_name)) (view c.args.value.now)
+    (parts_of (view c.args.value.now)) c.args.marks.now.items c.in_default-as_object.ensures
+
 pub dependents-branch-d-requires : goal.dependents-branch-d-requires
 dependents-branch-d-requires g t c =
     let name = string_bytes c.in-Some-2.name.now in
@@ -566,7 +566,8 @@ dependents-loop-name-preserved g t c =
     record {
       deep = omega (arith, deep.1, c.loop-name.invariant.deep);
       rest = one_more_said S _ (meant c.both-says.result) _ _
-          (c.both-says.ensures ∙ ap (both S) (c.in_ok-branch.ensures.verdict ∙ ap (λ (o : Option Data). where_some (judge_at x o) (λ j. j.fits v)) asked))
+          (c.both-says.ensures ∙ ap (both S) (c.in_ok-branch.ensures.verdict
+          ∙ ap (λ (o : Option Data). where_some (judge_at x o) (λ j. j.fits v)) asked))
           (ap (both S) (sym (with_schema_says x ms name d v rest))
           ∙ (sym (ap (λ (es : List Entry). both S (all_of (map (λ j. j.fits v) (beside_members (judges_among x (members_view es)) ms)))) steps)
           ∙ c.loop-name.invariant.rest));
@@ -809,7 +810,33 @@ one_member-returns g t c =
 -- ---- how many items fit
 
 pub count_of_fitting-loop-place-preserved : goal.count_of_fitting-loop-place-preserved
-count_of_fitting-loop-place-preserved g t c = ?
+count_of_fitting-loop-place-preserved g t c =
+    let x = context c.args.d.now.dialect (view c.args.d.now.whole.now) (g.P.Patterns.reading c.args.d.now.patterns.now) c.args.left in
+    let r = c.args.d.now.dialect.reads_prefix_items in
+    let xs = c.args.items.now in
+    let i = c.loop-place.place in
+    let w = c.index-items-place.result in
+    let s = judge x (view c.args.schema.now) in
+    let f : Part → Bool = at_positions (fits_at r s (items_view xs)) in
+    let S = meant c.in_ok-says.says in
+    let N = c.loop-place.count in
+    let old = c.loop-place.marks.items in
+    let new = c.mark_fitting.new.marks.items in
+    let rest = items_view (drop (i + 1) xs) in
+    let next : i + 1 ≡ suc i = omega arith in
+    let here = from_here xs i w c.loop-place-test.true c.index-items-place.is in
+    record {
+      counted = ap (λ (n : Option ℕ). added n (count_of_fitting s rest))
+          (c.one_more-count.ensures ∙ ap (λ (y : Verdict). one_more y N) c.in_ok-says.ensures)
+          ∙ (added_one (s.fits (view w)) N (count_of_fitting s rest)
+          ∙ (sym (ap (λ (ds : Items). added N (count_of_fitting s ds)) here) ∙ c.loop-place.invariant.counted));
+      few = subst (λ (n : Option ℕ). IsFew n (i + 1)) (sym c.one_more-count.ensures) (one_few S N i c.loop-place.invariant.few);
+      judged = ap (λ (k : ℕ). take (i + 1) new ++ marked f (positions_in k rest) (drop (i + 1) new)) next
+          ∙ (mark_next f (position i) (positions_in (suc i) rest) old new i (r && is_yes S)
+          (fitting_here r s xs i w S c.loop-place-test.true c.index-items-place.is c.in_ok-says.ensures)
+          (c.mark_fitting.ensures ∙ ap (λ (b : Bool). if b && is_yes S then set old i true else old) c.reads_prefix_items.ensures)
+          ∙ (sym (ap (λ (ds : Items). take i old ++ marked f (positions_in i ds) (drop i old)) here) ∙ c.loop-place.invariant.judged));
+    }
 
 -- ---- the parts without a mark
 
@@ -828,7 +855,8 @@ unevaluated_items-loop-item-preserved g t c =
     let d = view c.args.schema.now in
     let S = meant c.loop-item.says in
     one_more_said S _ (meant c.both-says.result) _ _
-    (c.both-says.ensures ∙ ap (both S) (c.in_ok-alone.ensures ∙ ap (λ (o : Option Data). where_some (judge_at x o) (λ j. j.fits w)) c.unless_marked-asked.ensures))
+    (c.both-says.ensures ∙ ap (both S) (c.in_ok-alone.ensures
+    ∙ ap (λ (o : Option Data). where_some (judge_at x o) (λ j. j.fits w)) c.unless_marked-asked.ensures))
     (ap (both S) (sym (unmarked_item_says x d c.next-mark.result c.loop-item.marks c.next-mark.new.self w ws c.next-mark.ensures.steps))
     ∙ (sym (ap (λ (ds : Items). both S (each_unmarked_item (judge x d) ds (iter_rest c.loop-item.marks)))
     (from_here xs c.loop-item.item-index c.item-item.result c.loop-item-test.true c.item-item.is))
@@ -847,8 +875,10 @@ unevaluated_members-loop-member-preserved g t c =
     let d = view c.args.schema.now in
     let S = meant c.loop-member.says in
     one_more_said S _ (meant c.both-says.result) _ _
-    (c.both-says.ensures ∙ ap (both S) (c.in_ok-alone.ensures ∙ ap (λ (o : Option Data). where_some (judge_at x o) (λ j. j.fits w)) c.unless_marked-asked.ensures))
-    (ap (both S) (sym (unmarked_member_says x d c.next-mark.result c.loop-member.marks c.next-mark.new.self (string_bytes c.in-Some.field-0-0.now) w (members_view c.next.new.self) c.next-mark.ensures.steps))
+    (c.both-says.ensures ∙ ap (both S) (c.in_ok-alone.ensures
+    ∙ ap (λ (o : Option Data). where_some (judge_at x o) (λ j. j.fits w)) c.unless_marked-asked.ensures))
+    (ap (both S) (sym (unmarked_member_says x d c.next-mark.result c.loop-member.marks c.next-mark.new.self
+    (string_bytes c.in-Some.field-0-0.now) w (members_view c.next.new.self) c.next-mark.ensures.steps))
     ∙ (sym (ap (λ (es : List Entry). both S (each_unmarked (judge x d) (members_view es) (iter_rest c.loop-member.marks))) c.in-Some.ensures.steps)
     ∙ c.loop-member.invariant))
 

@@ -2,7 +2,7 @@
 use Rattle.std.proofs.Common.{◌∙◌, ◌∷◌, []}
 use Rattle.serde_json.specs.View.{view}
 use Rattle.schemars_schema.specs.Verdict.{all_of}
-use Rattle.schemars_schema.specs.Acceptance.{type_says, const_says, enum_says, minimum_says, maximum_says, exclusive_minimum_says, exclusive_maximum_says, min_length_says, max_length_says, pattern_says, min_items_says, max_items_says, unique_items_says}
+use Rattle.schemars_schema.specs.Acceptance.{type_says, const_says, enum_says, minimum_says, maximum_says, exclusive_minimum_says, exclusive_maximum_says, multiple_of_says, min_length_says, max_length_says, pattern_says, min_items_says, max_items_says, unique_items_says}
 use Rattle.schemars_validate.proofs.scalars.by_itself.Goals as goal
 
 pub returns : goal.returns
@@ -17,10 +17,11 @@ returns g c =
     ∷ (c.maximum_says.ensures ∙ (λ j. maximum_says (c.member-6.ensures j) v)) i
     ∷ (c.exclusive_minimum_says.ensures ∙ (λ j. exclusive_minimum_says (c.reads_const-2.ensures j) (c.member-7.ensures j) (c.member-8.ensures j) v)) i
     ∷ (c.exclusive_maximum_says.ensures ∙ (λ j. exclusive_maximum_says (c.reads_const-3.ensures j) (c.member-9.ensures j) (c.member-10.ensures j) v)) i
-    ∷ (c.min_length_says.ensures ∙ (λ j. min_length_says (c.member-11.ensures j) v)) i
-    ∷ (c.max_length_says.ensures ∙ (λ j. max_length_says (c.member-12.ensures j) v)) i
-    ∷ (c.pattern_says.ensures ∙ (λ j. pattern_says (g.P.Patterns.reading c.args.patterns.now) (c.member-13.ensures j) v)) i
-    ∷ (c.min_items_says.ensures ∙ (λ j. min_items_says (c.member-14.ensures j) v)) i
-    ∷ (c.max_items_says.ensures ∙ (λ j. max_items_says (c.member-15.ensures j) v)) i
-    ∷ (c.unique_items_says.ensures ∙ (λ j. unique_items_says (c.member-16.ensures j) v)) i
+    ∷ (c.multiple_of_says.ensures ∙ (λ j. multiple_of_says (c.member-11.ensures j) v)) i
+    ∷ (c.min_length_says.ensures ∙ (λ j. min_length_says (c.member-12.ensures j) v)) i
+    ∷ (c.max_length_says.ensures ∙ (λ j. max_length_says (c.member-13.ensures j) v)) i
+    ∷ (c.pattern_says.ensures ∙ (λ j. pattern_says (g.P.Patterns.reading c.args.patterns.now) (c.member-14.ensures j) v)) i
+    ∷ (c.min_items_says.ensures ∙ (λ j. min_items_says (c.member-15.ensures j) v)) i
+    ∷ (c.max_items_says.ensures ∙ (λ j. max_items_says (c.member-16.ensures j) v)) i
+    ∷ (c.unique_items_says.ensures ∙ (λ j. unique_items_says (c.member-17.ensures j) v)) i
     ∷ []))
