@@ -8,8 +8,8 @@ use Rattle.schemars_impls.specs.Describes.{entry_under}
 use Rattle.schemars_impls.specs.Dictionary.{TypeRow, IsIn, IsAdded, KeepsTo, RefusesAs}
 use Rattle.schemars_walk.specs.Walk.{TransformStep}
 use Rattle.schemars_headline.specs.Drafts.{Draft, dialect_of}
-use Rattle.schemars_headline.specs.Headline.{RootHeadline, Headline, IsDraftPath, SubschemaHeadline}
-use Rattle.schemars_headline.specs.State.{State, Settings, HasOwnDefinitions, stripped}
+use Rattle.schemars_headline.specs.Headline.{RootHeadline, Headline, SubschemaHeadline}
+use Rattle.schemars_headline.specs.State.{State, Settings, stripped}
 use Rattle.schemars_generate.specs.Refusals.{error_of}
 use Rattle.schemars_generate.specs.Generator.{Transforms}
 use Rattle.schemars_generate.specs.Settings.{transforms_for}
