@@ -1,0 +1,116 @@
+-- What an empty table holds once a type of each kind was registered in it, whose parts have no parts.
+use Rattle.std.proofs.Common.{◌≡◌, ℕ, List, [], ◌∷◌, Bool, true, false, Option, None, Some, refl, sym, ◌∙◌, subst, option_map, option_and_then, if◌then◌else◌, ◌==◌}
+use Rattle.std.specs.Str.{bytes_eq}
+use Rattle.schemars_schema.specs.Json.{Text}
+use Rattle.schemars_shapes.specs.Shape.{Entry, in_place, array, tuple}
+use Rattle.schemars_types.specs.Names.{array_id, array_name, tuple_id, tuple_name}
+use Rattle.schemars_types.specs.Rows.{Row, place_of}
+use Rattle.schemars_impls.specs.Dictionary.{Dictionary, TypeRow, IsIn, alone, of_one, of_two}
+use Rattle.schemars_impls.specs.Containers.{array_row, tuple_row, and_parts, no_parts, HasItems}
+use Rattle.schemars_registered.specs.Holds.{IsRegistered, HoldsOne, HoldsTwo, HoldsThree}
+use Rattle.schemars_registered.proofs.Holding.{holds_one, holds_two, holds_three, passed}
+
+-- a row that is defined as this, written in place or not
+abbrev row_as : Text → Text → Bool → Entry → Row
+row_as id name inline e = record { id = id; name = name; entry = Some (record e { inline = inline }) }
+
+-- ---- how entries are made
+
+made_of_one : (make : ℕ → Entry) (o : Option ℕ) (e : Entry) → option_map make o ≡ Some e → (m : ℕ) × (o ≡ Some m) × (e ≡ make m)
+made_of_one make None e made = cc
+made_of_one make (Some m) e made = (m, refl, cc)
+
+made_of_two : (make : ℕ → ℕ → Entry) (o p : Option ℕ) (e : Entry) → option_and_then (λ n. option_map (λ m. make n m) p) o ≡ Some e
+    → (n m : ℕ) × (o ≡ Some n) × (p ≡ Some m) × (e ≡ make n m)
+made_of_two make None p e made = cc
+made_of_two make (Some n) None e made = cc
+made_of_two make (Some n) (Some m) e made = (n, m, refl, refl, cc)
+
+made_single : (o : Option ℕ) (e : Entry)
+    → option_map (λ ns. in_place (tuple ns)) (option_and_then (λ n. option_map (λ ns. n ∷ ns) (Some [])) o) ≡ Some e
+    → (m : ℕ) × (o ≡ Some m) × (e ≡ in_place (tuple (m ∷ [])))
+made_single None e made = cc
+made_single (Some m) e made = (m, refl, cc)
+
+made_pair : (o p : Option ℕ) (e : Entry)
+    → option_map (λ ns. in_place (tuple ns))
+    (option_and_then (λ n. option_map (λ ns. n ∷ ns) (option_and_then (λ m. option_map (λ ns. m ∷ ns) (Some [])) p)) o) ≡ Some e
+    → (n m : ℕ) × (o ≡ Some n) × (p ≡ Some m) × (e ≡ in_place (tuple (n ∷ m ∷ [])))
+made_pair None p e made = cc
+made_pair (Some n) None e made = cc
+made_pair (Some n) (Some m) e made = (n, m, refl, refl, cc)
+
+same_entry : (g e : Entry) → Some g ≡ Some e → e ≡ g
+same_entry g e is = cc
+
+-- ---- one row
+
+pub alone_holds : {id name : Text} {inline : Bool} (e : Entry) {rows : List Row} {n : ℕ} → IsRegistered (alone id name inline e) rows n
+    → HoldsOne (row_as id name inline e) rows n
+unfolding alone
+alone_holds {id = id} {name = name} {inline = inline} e {rows = rows} {n = n} r =
+    holds_one (alone id name inline e) e rows n r (λ d. tt) (λ g is. is)
+
+pub empty_holds : (t : TypeRow) {rows : List Row} {n : ℕ} → IsRegistered (array_row t 0) rows n
+    → HoldsOne (row_as (array_id t.id 0) (array_name t.name 0) true (in_place (tuple []))) rows n
+unfolding array_row
+empty_holds t {rows = rows} {n = n} r =
+    holds_one (array_row t 0) (in_place (tuple [])) rows n r (λ d. tt) (λ g is. same_entry (in_place (tuple [])) g is)
+
+-- ---- two rows
+
+module _ {part part_name : Text} {within : Bool} (e : Entry) {rows : List Row} {n : ℕ} where
+  pub one_holds : {id name : Text} {inline : Bool} (make : ℕ → Entry)
+      → IsRegistered (of_one id name inline make (alone part part_name within e)) rows n → bytes_eq part id ≡ false
+      → HoldsTwo (λ m. row_as id name inline (make m)) (row_as part part_name within e) rows n
+  unfolding of_one alone
+  one_holds {id = id} {name = name} {inline = inline} make r apart =
+      holds_two (of_one id name inline make (alone part part_name within e)) (alone part part_name within e) make e rows n r apart
+      (λ d is. is) (λ d. tt) (λ g is. made_of_one make (place_of part rows) g is) (λ g is. is)
+
+  pub array_holds : {len : ℕ} → IsRegistered (array_row (alone part part_name within e) len) rows n → (len == 0) ≡ false
+      → bytes_eq part (array_id part len) ≡ false
+      → HoldsTwo (λ m. row_as (array_id part len) (array_name part_name len) true (in_place (array m len))) (row_as part part_name within e)
+      rows n
+  unfolding array_row alone
+  array_holds {len = len} r some apart =
+      let t : TypeRow = alone part part_name within e in
+      holds_two (array_row t len) t (λ m. in_place (array m len)) e rows n r apart
+      (λ d is. subst (λ b. HasItems b t d) (sym some) is) (λ d. tt)
+      (λ g is. made_of_one (λ m. in_place (array m len)) (place_of part rows) g
+          (sym (passed (len == 0) (Some (in_place (tuple []))) (option_map (λ m. in_place (array m len)) (place_of part rows)) some) ∙ is))
+      (λ g is. is)
+
+  pub single_holds : IsRegistered (tuple_row (and_parts (alone part part_name within e) no_parts)) rows n
+      → bytes_eq part (tuple_id (part ∷ [])) ≡ false
+      → HoldsTwo (λ m. row_as (tuple_id (part ∷ [])) (tuple_name (part_name ∷ [])) true (in_place (tuple (m ∷ []))))
+      (row_as part part_name within e) rows n
+  unfolding tuple_row alone
+  single_holds r apart =
+      let t : TypeRow = alone part part_name within e in
+      holds_two (tuple_row (and_parts t no_parts)) t (λ m. in_place (tuple (m ∷ []))) e rows n r apart (λ d is. (is, tt)) (λ d. tt)
+      (λ g is. made_single (place_of part rows) g is) (λ g is. is)
+
+-- ---- three rows
+
+module _ {a a_name b b_name : Text} {a_within b_within : Bool} (e f : Entry) {rows : List Row} {n : ℕ} where
+  pub two_holds : {id name : Text} {inline : Bool} (make : ℕ → ℕ → Entry)
+      → IsRegistered (of_two id name inline make (alone a a_name a_within e) (alone b b_name b_within f)) rows n
+      → bytes_eq a id ≡ false → bytes_eq b id ≡ false → bytes_eq b a ≡ false
+      → HoldsThree (λ i j. row_as id name inline (make i j)) (row_as a a_name a_within e) (row_as b b_name b_within f) rows n
+  unfolding of_two alone
+  two_holds {id = id} {name = name} {inline = inline} make r at bt ba =
+      holds_three (of_two id name inline make (alone a a_name a_within e) (alone b b_name b_within f))
+      (alone a a_name a_within e) (alone b b_name b_within f) make e f rows n r at bt ba (λ d is js. (is, js)) (λ d. tt) (λ d. tt)
+      (λ g is. made_of_two make (place_of a rows) (place_of b rows) g is) (λ g is. is) (λ g is. is)
+
+  pub pair_holds : IsRegistered (tuple_row (and_parts (alone a a_name a_within e) (and_parts (alone b b_name b_within f) no_parts))) rows n
+      → bytes_eq a (tuple_id (a ∷ b ∷ [])) ≡ false → bytes_eq b (tuple_id (a ∷ b ∷ [])) ≡ false → bytes_eq b a ≡ false
+      → HoldsThree (λ i j. row_as (tuple_id (a ∷ b ∷ [])) (tuple_name (a_name ∷ b_name ∷ [])) true (in_place (tuple (i ∷ j ∷ []))))
+      (row_as a a_name a_within e) (row_as b b_name b_within f) rows n
+  unfolding tuple_row alone
+  pair_holds r at bt ba =
+      let t : TypeRow = alone a a_name a_within e in
+      let u : TypeRow = alone b b_name b_within f in
+      holds_three (tuple_row (and_parts t (and_parts u no_parts))) t u (λ i j. in_place (tuple (i ∷ j ∷ []))) e f rows n r at bt ba
+      (λ d is js. (is, (js, tt))) (λ d. tt) (λ d. tt) (λ g is. made_pair (place_of a rows) (place_of b rows) g is) (λ g is. is) (λ g is. is)

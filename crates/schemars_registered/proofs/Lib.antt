@@ -1,0 +1,4 @@
+pub mod Counting
+pub mod Telling
+pub mod Holding
+pub mod Containers
