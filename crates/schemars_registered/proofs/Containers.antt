@@ -2,17 +2,13 @@
 use Rattle.std.proofs.Common.{◌≡◌, ℕ, List, [], ◌∷◌, Bool, true, false, Option, None, Some, refl, sym, ◌∙◌, subst, option_map, option_and_then, if◌then◌else◌, ◌==◌}
 use Rattle.std.specs.Str.{bytes_eq}
 use Rattle.schemars_schema.specs.Json.{Text}
-use Rattle.schemars_shapes.specs.Shape.{Entry, in_place, array, tuple}
+use Rattle.schemars_shapes.specs.Shape.{Shape, Entry, without_notes, in_place, array, tuple}
 use Rattle.schemars_types.specs.Names.{array_id, array_name, tuple_id, tuple_name}
 use Rattle.schemars_types.specs.Rows.{Row, place_of}
 use Rattle.schemars_impls.specs.Dictionary.{Dictionary, TypeRow, IsIn, alone, of_one, of_two}
 use Rattle.schemars_impls.specs.Containers.{array_row, tuple_row, and_parts, no_parts, HasItems}
-use Rattle.schemars_registered.specs.Holds.{IsRegistered, HoldsOne, HoldsTwo, HoldsThree}
+use Rattle.schemars_registered.specs.Holds.{IsRegistered, HoldsOne, HoldsTwo, HoldsThree, row}
 use Rattle.schemars_registered.proofs.Holding.{holds_one, holds_two, holds_three, passed}
-
--- a row that is defined as this, written in place or not
-abbrev row_as : Text → Text → Bool → Entry → Row
-row_as id name inline e = record { id = id; name = name; entry = Some (record e { inline = inline }) }
 
 -- ---- how entries are made
 
@@ -43,74 +39,81 @@ made_pair (Some n) (Some m) e made = (n, m, refl, refl, cc)
 same_entry : (g e : Entry) → Some g ≡ Some e → e ≡ g
 same_entry g e is = cc
 
+-- a type without parts, whose entry has this shape
+abbrev leaf : Text → Text → Bool → Shape → TypeRow
+leaf id name inline s = alone id name inline (without_notes inline s)
+
 -- ---- one row
 
-pub alone_holds : {id name : Text} {inline : Bool} (e : Entry) {rows : List Row} {n : ℕ} → IsRegistered (alone id name inline e) rows n
-    → HoldsOne (row_as id name inline e) rows n
+pub alone_holds : {id name : Text} {inline : Bool} (s : Shape) {rows : List Row} {n : ℕ} → IsRegistered (leaf id name inline s) rows n
+    → HoldsOne (row id name inline s) rows n
 unfolding alone
-alone_holds {id = id} {name = name} {inline = inline} e {rows = rows} {n = n} r =
-    holds_one (alone id name inline e) e rows n r (λ d. tt) (λ g is. is)
+alone_holds {id = id} {name = name} {inline = inline} s {rows = rows} {n = n} r =
+    holds_one (leaf id name inline s) (without_notes inline s) rows n r (λ d. tt) (λ g is. is)
 
 pub empty_holds : (t : TypeRow) {rows : List Row} {n : ℕ} → IsRegistered (array_row t 0) rows n
-    → HoldsOne (row_as (array_id t.id 0) (array_name t.name 0) true (in_place (tuple []))) rows n
+    → HoldsOne (row (array_id t.id 0) (array_name t.name 0) true (tuple [])) rows n
 unfolding array_row
 empty_holds t {rows = rows} {n = n} r =
     holds_one (array_row t 0) (in_place (tuple [])) rows n r (λ d. tt) (λ g is. same_entry (in_place (tuple [])) g is)
 
 -- ---- two rows
 
-module _ {part part_name : Text} {within : Bool} (e : Entry) {rows : List Row} {n : ℕ} where
-  pub one_holds : {id name : Text} {inline : Bool} (make : ℕ → Entry)
-      → IsRegistered (of_one id name inline make (alone part part_name within e)) rows n → bytes_eq part id ≡ false
-      → HoldsTwo (λ m. row_as id name inline (make m)) (row_as part part_name within e) rows n
+module _ {part part_name : Text} {within : Bool} (s : Shape) {rows : List Row} {n : ℕ} where
+  pub one_holds : {id name : Text} {inline : Bool} (f : ℕ → Shape)
+      → IsRegistered (of_one id name inline (λ m. without_notes inline (f m)) (leaf part part_name within s)) rows n
+      → bytes_eq part id ≡ false → HoldsTwo (λ m. row id name inline (f m)) (row part part_name within s) rows n
   unfolding of_one alone
-  one_holds {id = id} {name = name} {inline = inline} make r apart =
-      holds_two (of_one id name inline make (alone part part_name within e)) (alone part part_name within e) make e rows n r apart
-      (λ d is. is) (λ d. tt) (λ g is. made_of_one make (place_of part rows) g is) (λ g is. is)
+  one_holds {id = id} {name = name} {inline = inline} f r apart =
+      let make : ℕ → Entry = λ m. without_notes inline (f m) in
+      holds_two (of_one id name inline make (leaf part part_name within s)) (leaf part part_name within s) make (without_notes within s)
+      rows n r apart (λ d is. is) (λ d. tt) (λ g is. made_of_one make (place_of part rows) g is) (λ g is. is)
 
-  pub array_holds : {len : ℕ} → IsRegistered (array_row (alone part part_name within e) len) rows n → (len == 0) ≡ false
+  pub array_holds : {len : ℕ} → IsRegistered (array_row (leaf part part_name within s) len) rows n → (len == 0) ≡ false
       → bytes_eq part (array_id part len) ≡ false
-      → HoldsTwo (λ m. row_as (array_id part len) (array_name part_name len) true (in_place (array m len))) (row_as part part_name within e)
-      rows n
+      → HoldsTwo (λ m. row (array_id part len) (array_name part_name len) true (array m len)) (row part part_name within s) rows n
   unfolding array_row alone
   array_holds {len = len} r some apart =
-      let t : TypeRow = alone part part_name within e in
-      holds_two (array_row t len) t (λ m. in_place (array m len)) e rows n r apart
+      let t : TypeRow = leaf part part_name within s in
+      holds_two (array_row t len) t (λ m. in_place (array m len)) (without_notes within s) rows n r apart
       (λ d is. subst (λ b. HasItems b t d) (sym some) is) (λ d. tt)
       (λ g is. made_of_one (λ m. in_place (array m len)) (place_of part rows) g
           (sym (passed (len == 0) (Some (in_place (tuple []))) (option_map (λ m. in_place (array m len)) (place_of part rows)) some) ∙ is))
       (λ g is. is)
 
-  pub single_holds : IsRegistered (tuple_row (and_parts (alone part part_name within e) no_parts)) rows n
+  pub single_holds : IsRegistered (tuple_row (and_parts (leaf part part_name within s) no_parts)) rows n
       → bytes_eq part (tuple_id (part ∷ [])) ≡ false
-      → HoldsTwo (λ m. row_as (tuple_id (part ∷ [])) (tuple_name (part_name ∷ [])) true (in_place (tuple (m ∷ []))))
-      (row_as part part_name within e) rows n
+      → HoldsTwo (λ m. row (tuple_id (part ∷ [])) (tuple_name (part_name ∷ [])) true (tuple (m ∷ []))) (row part part_name within s) rows n
   unfolding tuple_row alone
   single_holds r apart =
-      let t : TypeRow = alone part part_name within e in
-      holds_two (tuple_row (and_parts t no_parts)) t (λ m. in_place (tuple (m ∷ []))) e rows n r apart (λ d is. (is, tt)) (λ d. tt)
-      (λ g is. made_single (place_of part rows) g is) (λ g is. is)
+      let t : TypeRow = leaf part part_name within s in
+      holds_two (tuple_row (and_parts t no_parts)) t (λ m. in_place (tuple (m ∷ []))) (without_notes within s) rows n r apart
+      (λ d is. (is, tt)) (λ d. tt) (λ g is. made_single (place_of part rows) g is) (λ g is. is)
 
 -- ---- three rows
 
-module _ {a a_name b b_name : Text} {a_within b_within : Bool} (e f : Entry) {rows : List Row} {n : ℕ} where
-  pub two_holds : {id name : Text} {inline : Bool} (make : ℕ → ℕ → Entry)
-      → IsRegistered (of_two id name inline make (alone a a_name a_within e) (alone b b_name b_within f)) rows n
+module _ {a a_name b b_name : Text} {a_within b_within : Bool} (s u : Shape) {rows : List Row} {n : ℕ} where
+  pub two_holds : {id name : Text} {inline : Bool} (f : ℕ → ℕ → Shape)
+      → IsRegistered
+      (of_two id name inline (λ i j. without_notes inline (f i j)) (leaf a a_name a_within s) (leaf b b_name b_within u)) rows n
       → bytes_eq a id ≡ false → bytes_eq b id ≡ false → bytes_eq b a ≡ false
-      → HoldsThree (λ i j. row_as id name inline (make i j)) (row_as a a_name a_within e) (row_as b b_name b_within f) rows n
+      → HoldsThree (λ i j. row id name inline (f i j)) (row a a_name a_within s) (row b b_name b_within u) rows n
   unfolding of_two alone
-  two_holds {id = id} {name = name} {inline = inline} make r at bt ba =
-      holds_three (of_two id name inline make (alone a a_name a_within e) (alone b b_name b_within f))
-      (alone a a_name a_within e) (alone b b_name b_within f) make e f rows n r at bt ba (λ d is js. (is, js)) (λ d. tt) (λ d. tt)
-      (λ g is. made_of_two make (place_of a rows) (place_of b rows) g is) (λ g is. is) (λ g is. is)
+  two_holds {id = id} {name = name} {inline = inline} f r at bt ba =
+      let make : ℕ → ℕ → Entry = λ i j. without_notes inline (f i j) in
+      holds_three (of_two id name inline make (leaf a a_name a_within s) (leaf b b_name b_within u))
+      (leaf a a_name a_within s) (leaf b b_name b_within u) make (without_notes a_within s) (without_notes b_within u) rows n r at bt ba
+      (λ d is js. (is, js)) (λ d. tt) (λ d. tt) (λ g is. made_of_two make (place_of a rows) (place_of b rows) g is)
+      (λ g is. is) (λ g is. is)
 
-  pub pair_holds : IsRegistered (tuple_row (and_parts (alone a a_name a_within e) (and_parts (alone b b_name b_within f) no_parts))) rows n
+  pub pair_holds : IsRegistered (tuple_row (and_parts (leaf a a_name a_within s) (and_parts (leaf b b_name b_within u) no_parts))) rows n
       → bytes_eq a (tuple_id (a ∷ b ∷ [])) ≡ false → bytes_eq b (tuple_id (a ∷ b ∷ [])) ≡ false → bytes_eq b a ≡ false
-      → HoldsThree (λ i j. row_as (tuple_id (a ∷ b ∷ [])) (tuple_name (a_name ∷ b_name ∷ [])) true (in_place (tuple (i ∷ j ∷ []))))
-      (row_as a a_name a_within e) (row_as b b_name b_within f) rows n
+      → HoldsThree (λ i j. row (tuple_id (a ∷ b ∷ [])) (tuple_name (a_name ∷ b_name ∷ [])) true (tuple (i ∷ j ∷ [])))
+      (row a a_name a_within s) (row b b_name b_within u) rows n
   unfolding tuple_row alone
   pair_holds r at bt ba =
-      let t : TypeRow = alone a a_name a_within e in
-      let u : TypeRow = alone b b_name b_within f in
-      holds_three (tuple_row (and_parts t (and_parts u no_parts))) t u (λ i j. in_place (tuple (i ∷ j ∷ []))) e f rows n r at bt ba
-      (λ d is js. (is, (js, tt))) (λ d. tt) (λ d. tt) (λ g is. made_pair (place_of a rows) (place_of b rows) g is) (λ g is. is) (λ g is. is)
+      let t : TypeRow = leaf a a_name a_within s in
+      let v : TypeRow = leaf b b_name b_within u in
+      holds_three (tuple_row (and_parts t (and_parts v no_parts))) t v (λ i j. in_place (tuple (i ∷ j ∷ [])))
+      (without_notes a_within s) (without_notes b_within u) rows n r at bt ba (λ d is js. (is, (js, tt))) (λ d. tt) (λ d. tt)
+      (λ g is. made_pair (place_of a rows) (place_of b rows) g is) (λ g is. is) (λ g is. is)

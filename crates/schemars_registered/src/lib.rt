@@ -2,7 +2,11 @@
 //! afterwards.
 #![tactic(auto)]
 
+pub mod alone;
+pub mod arrays;
+pub mod choices;
 mod contract;
+pub mod maps;
 pub mod sequences;
 
 pub use contract::registered;
