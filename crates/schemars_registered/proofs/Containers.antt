@@ -1,14 +1,14 @@
 -- What an empty table holds once a type of each kind was registered in it, whose parts have no parts.
-use Rattle.std.proofs.Common.{◌≡◌, ℕ, List, [], ◌∷◌, Bool, true, false, Option, None, Some, refl, sym, ◌∙◌, subst, option_map, option_and_then, if◌then◌else◌, ◌==◌}
+use Rattle.std.proofs.Common.{◌≡◌, ℕ, List, [], ◌∷◌, Bool, true, false, Option, None, Some, refl, ap, sym, ◌∙◌, subst, option_map, option_and_then, ◌==◌}
 use Rattle.std.specs.Str.{bytes_eq}
 use Rattle.schemars_schema.specs.Json.{Text}
 use Rattle.schemars_shapes.specs.Shape.{Shape, Entry, without_notes, in_place, array, tuple}
 use Rattle.schemars_types.specs.Names.{array_id, array_name, tuple_id, tuple_name}
 use Rattle.schemars_types.specs.Rows.{Row, place_of}
-use Rattle.schemars_impls.specs.Dictionary.{Dictionary, TypeRow, IsIn, alone, of_one, of_two}
+use Rattle.schemars_impls.specs.Dictionary.{TypeRow, alone, of_one, of_two}
 use Rattle.schemars_impls.specs.Containers.{array_row, tuple_row, and_parts, no_parts, HasItems}
-use Rattle.schemars_registered.specs.Holds.{IsRegistered, HoldsOne, HoldsTwo, HoldsThree, row}
-use Rattle.schemars_registered.proofs.Holding.{holds_one, holds_two, holds_three, passed}
+use Rattle.schemars_registered.specs.Holds.{IsRegistered, HoldsOne, HoldsTwo, HoldsThree, HoldsChain, row}
+use Rattle.schemars_registered.proofs.Holding.{holds_one, holds_two, holds_three, holds_chain, passed}
 
 -- ---- how entries are made
 
@@ -35,6 +35,14 @@ made_pair : (o p : Option ℕ) (e : Entry)
 made_pair None p e made = cc
 made_pair (Some n) None e made = cc
 made_pair (Some n) (Some m) e made = (n, m, refl, refl, cc)
+
+-- of the number of one id, which is asked for twice
+made_twice : (make : ℕ → ℕ → Entry) (o : Option ℕ) (e : Entry) → (n m : ℕ) × (o ≡ Some n) × (o ≡ Some m) × (e ≡ make n m)
+    → (m : ℕ) × (o ≡ Some m) × (e ≡ make m m)
+made_twice make o e p =
+    let both : Some p.0 ≡ Some p.1 = sym p.2 ∙ p.3 in
+    let same : p.1 ≡ p.0 = cc in
+    (p.0, p.2, p.4 ∙ ap (make p.0) same)
 
 same_entry : (g e : Entry) → Some g ≡ Some e → e ≡ g
 same_entry g e is = cc
@@ -89,6 +97,44 @@ module _ {part part_name : Text} {within : Bool} (s : Shape) {rows : List Row} {
       let t : TypeRow = leaf part part_name within s in
       holds_two (tuple_row (and_parts t no_parts)) t (λ m. in_place (tuple (m ∷ []))) (without_notes within s) rows n r apart
       (λ d is. (is, tt)) (λ d. tt) (λ g is. made_single (place_of part rows) g is) (λ g is. is)
+
+  pub twice_holds : {id name : Text} {inline : Bool} (f : ℕ → ℕ → Shape)
+      → IsRegistered (of_two id name inline (λ i j. without_notes inline (f i j)) (leaf part part_name within s) (leaf part part_name within s))
+      rows n
+      → bytes_eq part id ≡ false → HoldsTwo (λ m. row id name inline (f m m)) (row part part_name within s) rows n
+  unfolding of_two alone
+  twice_holds {id = id} {name = name} {inline = inline} f r apart =
+      let make : ℕ → ℕ → Entry = λ i j. without_notes inline (f i j) in
+      let t : TypeRow = leaf part part_name within s in
+      holds_two (of_two id name inline make t t) t (λ m. make m m) (without_notes within s) rows n r apart (λ d is. (is, is)) (λ d. tt)
+      (λ g is. made_twice make (place_of part rows) g (made_of_two make (place_of part rows) (place_of part rows) g is)) (λ g is. is)
+
+  pub pair_twice_holds : IsRegistered (tuple_row (and_parts (leaf part part_name within s) (and_parts (leaf part part_name within s) no_parts)))
+      rows n → bytes_eq part (tuple_id (part ∷ part ∷ [])) ≡ false
+      → HoldsTwo (λ m. row (tuple_id (part ∷ part ∷ [])) (tuple_name (part_name ∷ part_name ∷ [])) true (tuple (m ∷ m ∷ [])))
+      (row part part_name within s) rows n
+  unfolding tuple_row alone
+  pair_twice_holds r apart =
+      let make : ℕ → ℕ → Entry = λ i j. in_place (tuple (i ∷ j ∷ [])) in
+      let t : TypeRow = leaf part part_name within s in
+      holds_two (tuple_row (and_parts t (and_parts t no_parts))) t (λ m. make m m) (without_notes within s) rows n r apart
+      (λ d is. (is, (is, tt))) (λ d. tt)
+      (λ g is. made_twice make (place_of part rows) g (made_pair (place_of part rows) (place_of part rows) g is)) (λ g is. is)
+
+  -- a type of one part, which has one part
+  pub chain_holds : {id name mid mid_name : Text} {inline mid_inline : Bool} (f g : ℕ → Shape)
+      → IsRegistered (of_one id name inline (λ m. without_notes inline (f m))
+          (of_one mid mid_name mid_inline (λ m. without_notes mid_inline (g m)) (leaf part part_name within s))) rows n
+      → bytes_eq mid id ≡ false → bytes_eq part id ≡ false → bytes_eq part mid ≡ false
+      → HoldsChain (λ m. row id name inline (f m)) (λ m. row mid mid_name mid_inline (g m)) (row part part_name within s) rows n
+  unfolding of_one alone
+  chain_holds {id = id} {name = name} {mid = mid} {mid_name = mid_name} {inline = inline} {mid_inline = mid_inline} f g r mt pt pm =
+      let make : ℕ → Entry = λ m. without_notes inline (f m) in
+      let make_mid : ℕ → Entry = λ m. without_notes mid_inline (g m) in
+      let t : TypeRow = leaf part part_name within s in
+      let u : TypeRow = of_one mid mid_name mid_inline make_mid t in
+      holds_chain (of_one id name inline make u) u t make make_mid (without_notes within s) rows n r mt pt pm (λ d is. is) (λ d is. is)
+      (λ d. tt) (λ x is. made_of_one make (place_of mid rows) x is) (λ x is. made_of_one make_mid (place_of part rows) x is) (λ x is. is)
 
 -- ---- three rows
 

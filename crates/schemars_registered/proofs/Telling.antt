@@ -8,7 +8,7 @@ use Rattle.schemars_schema.specs.Json.{Text}
 use Rattle.schemars_shapes.specs.Shape.{Entry}
 use Rattle.schemars_types.specs.Rows.{Row, HasDistinctIds, place_of, id_at, name_at, entry_at}
 use Rattle.schemars_impls.specs.Describes.{Unsaid, IsMade}
-use Rattle.schemars_impls.specs.Dictionary.{Told, Dictionary, Defined, Pending, TypeRow, told_of, Follows, IsEntryOf, IsFree, IsIn, IsRowOf, staged}
+use Rattle.schemars_impls.specs.Dictionary.{Told, Dictionary, Defined, TypeRow, told_of, Follows, IsEntryOf}
 use Rattle.schemars_impls.proofs.Following.{id-there}
 use Rattle.schemars_registered.proofs.Counting.{place_of_row, row_below}
 

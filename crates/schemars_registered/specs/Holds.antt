@@ -33,6 +33,15 @@ pub record HoldsThree (whole : ℕ → ℕ → Row) (first second : Row) (rows :
   pub second_is : slice_get rows b ≡ Some second
   pub count : length rows ≡ 3
 
+-- The table has three rows: n, which is made of the number of the second, which is made of that of the last.
+pub record HoldsChain (whole middle : ℕ → Row) (part : Row) (rows : List Row) (n : ℕ) : Type 0 where
+  pub m : ℕ
+  pub k : ℕ
+  pub whole_is : slice_get rows n ≡ Some (whole m)
+  pub middle_is : slice_get rows m ≡ Some (middle k)
+  pub part_is : slice_get rows k ≡ Some part
+  pub count : length rows ≡ 3
+
 -- ---- types without parts
 
 abbrev pub byte : Row

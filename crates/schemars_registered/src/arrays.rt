@@ -67,3 +67,15 @@ pub fn tuple_of_byte_and_truth(alloc: Global) -> Result<(Types, TypeNo), TypesEr
     let r = registered::<(u8, bool)>(alloc)?;
     Ok(r)
 }
+
+/// Registers tuples of two bytes in an empty table.
+///
+/// # Errors
+///
+/// Those of `register`.
+pub fn tuple_of_bytes(alloc: Global) -> Result<(Types, TypeNo), TypesError>
+    ensures { IfOk result (λ r. HoldsTwo (λ m. row (codes "(uint8,uint8)") (codes "Tuple_of_uint8_and_uint8") true (tuple (m ∷ m ∷ []))) byte r.0 r.1) }
+{
+    let r = registered::<(u8, u8)>(alloc)?;
+    Ok(r)
+}

@@ -1,6 +1,6 @@
 //! Results, bounds, ranges, and what is one of two.
 ghost use Rattle.std.specs.Prelude.{IfOk, codes, false, true};
-ghost use Rattle.schemars_shapes.specs.Shape.{result, bound, range, either};
+ghost use Rattle.schemars_shapes.specs.Shape.{Shape as shape, bound, range, either};
 ghost use Rattle.schemars_registered.specs.Holds.{HoldsTwo, HoldsThree, byte, row, string, truth};
 
 use crate::contract::registered;
@@ -15,7 +15,7 @@ use std::ops::{Bound, Range, RangeInclusive};
 ///
 /// Those of `register`.
 pub fn result_of_byte(alloc: Global) -> Result<(Types, TypeNo), TypesError>
-    ensures { IfOk result (λ r. HoldsThree (λ a b. row (codes "Result<uint8, string>") (codes "Result_of_uint8_or_string") false (result a b)) byte string r.0 r.1) }
+    ensures { IfOk result (λ r. HoldsThree (λ a b. row (codes "Result<uint8, string>") (codes "Result_of_uint8_or_string") false (shape.result a b)) byte string r.0 r.1) }
 {
     let r = registered::<Result<u8, String>>(alloc)?;
     Ok(r)

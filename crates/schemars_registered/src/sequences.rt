@@ -1,7 +1,7 @@
 //! Options, lists and sets.
 ghost use Rattle.std.specs.Prelude.{IfOk, codes, true};
 ghost use Rattle.schemars_shapes.specs.Shape.{option, seq, set};
-ghost use Rattle.schemars_registered.specs.Holds.{HoldsTwo, byte, row, string};
+ghost use Rattle.schemars_registered.specs.Holds.{HoldsChain, HoldsTwo, byte, row, string, truth};
 
 use crate::contract::registered;
 use indexmap::IndexSet;
@@ -79,6 +79,30 @@ pub fn short_list_of_bytes(alloc: Global) -> Result<(Types, TypeNo), TypesError>
     ensures { IfOk result (λ r. HoldsTwo (λ m. row (codes "[uint8]") (codes "Array_of_uint8") true (seq m)) byte r.0 r.1) }
 {
     let r = registered::<SmallVec<u8, 4>>(alloc)?;
+    Ok(r)
+}
+
+/// Registers options of lists of bytes in an empty table.
+///
+/// # Errors
+///
+/// Those of `register`.
+pub fn option_of_list(alloc: Global) -> Result<(Types, TypeNo), TypesError>
+    ensures { IfOk result (λ r. HoldsChain (λ m. row (codes "Option<[uint8]>") (codes "Nullable_Array_of_uint8") true (option m)) (λ m. row (codes "[uint8]") (codes "Array_of_uint8") true (seq m)) byte r.0 r.1) }
+{
+    let r = registered::<Option<Vec<u8>>>(alloc)?;
+    Ok(r)
+}
+
+/// Registers lists of options of truth values in an empty table.
+///
+/// # Errors
+///
+/// Those of `register`.
+pub fn list_of_options(alloc: Global) -> Result<(Types, TypeNo), TypesError>
+    ensures { IfOk result (λ r. HoldsChain (λ m. row (codes "[Option<boolean>]") (codes "Array_of_Nullable_boolean") true (seq m)) (λ m. row (codes "Option<boolean>") (codes "Nullable_boolean") true (option m)) truth r.0 r.1) }
+{
+    let r = registered::<Vec<Option<bool>>>(alloc)?;
     Ok(r)
 }
 
