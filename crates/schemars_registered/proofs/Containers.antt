@@ -86,7 +86,7 @@ module _ {part part_name : Text} {within : Bool} (s : Shape) {rows : List Row} {
       holds_two (array_row t len) t (λ m. in_place (array m len)) (without_notes within s) rows n r apart
       (λ d is. subst (λ b. HasItems b t d) (sym some) is) (λ d. tt)
       (λ g is. made_of_one (λ m. in_place (array m len)) (place_of part rows) g
-          (sym (passed (len == 0) (Some (in_place (tuple []))) (option_map (λ m. in_place (array m len)) (place_of part rows)) some) ∙ is))
+      (sym (passed (len == 0) (Some (in_place (tuple []))) (option_map (λ m. in_place (array m len)) (place_of part rows)) some) ∙ is))
       (λ g is. is)
 
   pub single_holds : IsRegistered (tuple_row (and_parts (leaf part part_name within s) no_parts)) rows n
@@ -124,7 +124,7 @@ module _ {part part_name : Text} {within : Bool} (s : Shape) {rows : List Row} {
   -- a type of one part, which has one part
   pub chain_holds : {id name mid mid_name : Text} {inline mid_inline : Bool} (f g : ℕ → Shape)
       → IsRegistered (of_one id name inline (λ m. without_notes inline (f m))
-          (of_one mid mid_name mid_inline (λ m. without_notes mid_inline (g m)) (leaf part part_name within s))) rows n
+      (of_one mid mid_name mid_inline (λ m. without_notes mid_inline (g m)) (leaf part part_name within s))) rows n
       → bytes_eq mid id ≡ false → bytes_eq part id ≡ false → bytes_eq part mid ≡ false
       → HoldsChain (λ m. row id name inline (f m)) (λ m. row mid mid_name mid_inline (g m)) (row part part_name within s) rows n
   unfolding of_one alone

@@ -26,6 +26,7 @@ count_two len n m n_below m_below apart each = by (nat_lt 2 len) refl
   where
     never : (0 ≡ n) ⊎ (0 ≡ m) → (1 ≡ n) ⊎ (1 ≡ m) → (2 ≡ n) ⊎ (2 ≡ m) → ⊥
     never x y z = omega arith
+
     by : (t : Bool) → nat_lt 2 len ≡ t → len ≡ 2
     by true more =
         let above : 2 < len = grind (arith, nat_tests) in
@@ -39,6 +40,7 @@ count_three len n a b n_below a_below b_below na nb ab each = by (nat_lt 3 len) 
     never : (0 ≡ n) ⊎ ((0 ≡ a) ⊎ (0 ≡ b)) → (1 ≡ n) ⊎ ((1 ≡ a) ⊎ (1 ≡ b)) → (2 ≡ n) ⊎ ((2 ≡ a) ⊎ (2 ≡ b))
         → (3 ≡ n) ⊎ ((3 ≡ a) ⊎ (3 ≡ b)) → ⊥
     never w x y z = omega arith
+
     by : (t : Bool) → nat_lt 3 len ≡ t → len ≡ 3
     by true more =
         let above : 3 < len = grind (arith, nat_tests) in

@@ -81,13 +81,13 @@ pub holds_two : (t part : TypeRow) (make : ℕ → Entry) (e : Entry) (rows : Li
 holds_two t part make e rows n r apart parts leaf made made_part =
     let entries : List (Text × Told) = (t.id, told_of t) ∷ (part.id, told_of part) ∷ [] in
     let told : (other : Told) → told_or other entries t.id ≡ told_of t =
-        λ other. first_told other (told_of t) t.id ((part.id, told_of part) ∷ []) in
+    λ other. first_told other (told_of t) t.id ((part.id, told_of part) ∷ []) in
     let told_part : (other : Told) → told_or other entries part.id ≡ told_of part =
-        λ other. later_told other (told_of t) (told_of part) part.id t.id ((part.id, told_of part) ∷ []) apart
-            (first_told other (told_of part) part.id []) in
+    λ other. later_told other (told_of t) (told_of part) part.id t.id ((part.id, told_of part) ∷ []) apart
+    (first_told other (told_of part) part.id []) in
     let follows : FollowsEach entries rows =
-        follows_each t rows n entries r
-        (λ other. type_in t entries other (told other) (parts _ (part_in part t.id entries other apart (told_part other) leaf))) in
+    follows_each t rows n entries r
+    (λ other. type_in t entries other (told other) (parts _ (part_in part t.id entries other apart (told_part other) leaf))) in
     let x = row_told entries nothing t rows n (told nothing) (follows nothing) r.number in
     let p = made x.0 x.1 in
     let y = row_told entries nothing part rows p.0 (told_part nothing) (follows nothing) p.1 in
@@ -104,23 +104,23 @@ pub holds_three : (t a b : TypeRow) (make : ℕ → ℕ → Entry) (e f : Entry)
     → bytes_eq a.id t.id ≡ false → bytes_eq b.id t.id ≡ false → bytes_eq b.id a.id ≡ false
     → ((d : Dictionary) → IsIn a d → IsIn b d → t.parts d) → ((d : Dictionary) → a.parts d) → ((d : Dictionary) → b.parts d)
     → ((g : Entry) → IsMade t.making rows g
-        → (i j : ℕ) × (place_of a.id rows ≡ Some i) × (place_of b.id rows ≡ Some j) × (g ≡ make i j))
+    → (i j : ℕ) × (place_of a.id rows ≡ Some i) × (place_of b.id rows ≡ Some j) × (g ≡ make i j))
     → ((g : Entry) → IsMade a.making rows g → g ≡ e) → ((g : Entry) → IsMade b.making rows g → g ≡ f)
     → HoldsThree (λ i j. row_of t (make i j)) (row_of a e) (row_of b f) rows n
 holds_three t a b make e f rows n r at bt ba parts leaf_a leaf_b made made_a made_b =
     let entries : List (Text × Told) = (t.id, told_of t) ∷ (a.id, told_of a) ∷ (b.id, told_of b) ∷ [] in
     let told : (other : Told) → told_or other entries t.id ≡ told_of t =
-        λ other. first_told other (told_of t) t.id ((a.id, told_of a) ∷ (b.id, told_of b) ∷ []) in
+    λ other. first_told other (told_of t) t.id ((a.id, told_of a) ∷ (b.id, told_of b) ∷ []) in
     let told_a : (other : Told) → told_or other entries a.id ≡ told_of a =
-        λ other. later_told other (told_of t) (told_of a) a.id t.id ((a.id, told_of a) ∷ (b.id, told_of b) ∷ []) at
-            (first_told other (told_of a) a.id ((b.id, told_of b) ∷ [])) in
+    λ other. later_told other (told_of t) (told_of a) a.id t.id ((a.id, told_of a) ∷ (b.id, told_of b) ∷ []) at
+    (first_told other (told_of a) a.id ((b.id, told_of b) ∷ [])) in
     let told_b : (other : Told) → told_or other entries b.id ≡ told_of b =
-        λ other. later_told other (told_of t) (told_of b) b.id t.id ((a.id, told_of a) ∷ (b.id, told_of b) ∷ []) bt
-            (later_told other (told_of a) (told_of b) b.id a.id ((b.id, told_of b) ∷ []) ba (first_told other (told_of b) b.id [])) in
+    λ other. later_told other (told_of t) (told_of b) b.id t.id ((a.id, told_of a) ∷ (b.id, told_of b) ∷ []) bt
+    (later_told other (told_of a) (told_of b) b.id a.id ((b.id, told_of b) ∷ []) ba (first_told other (told_of b) b.id [])) in
     let follows : FollowsEach entries rows =
-        follows_each t rows n entries r
-        (λ other. type_in t entries other (told other)
-            (parts _ (part_in a t.id entries other at (told_a other) leaf_a) (part_in b t.id entries other bt (told_b other) leaf_b))) in
+    follows_each t rows n entries r
+    (λ other. type_in t entries other (told other)
+    (parts _ (part_in a t.id entries other at (told_a other) leaf_a) (part_in b t.id entries other bt (told_b other) leaf_b))) in
     let x = row_told entries nothing t rows n (told nothing) (follows nothing) r.number in
     let p = made x.0 x.1 in
     let y = row_told entries nothing a rows p.0 (told_a nothing) (follows nothing) p.2 in
@@ -135,7 +135,7 @@ holds_three t a b make e f rows n r at bt ba parts leaf_a leaf_b made made_a mad
           (place_of-below b.id rows p.1 p.3) (apart_places t.id a.id rows n p.0 at r.number p.2)
           (apart_places t.id b.id rows n p.1 bt r.number p.3) (apart_places a.id b.id rows p.0 p.1 ba p.2 p.3)
           (λ k below. only_three rows r.distinct k below t.id a.id b.id (told_of t) (told_of a) (told_of b) n p.0 p.1 follows
-              r.number p.2 p.3);
+          r.number p.2 p.3);
     }
 
 -- ---- types of one part, which has one part
@@ -170,18 +170,18 @@ pub holds_chain : (t mid part : TypeRow) (make make_mid : ℕ → Entry) (e : En
 holds_chain t mid part make make_mid e rows n r mt pt pm parts parts_mid leaf made made_mid made_part =
     let entries : List (Text × Told) = (t.id, told_of t) ∷ (mid.id, told_of mid) ∷ (part.id, told_of part) ∷ [] in
     let told : (other : Told) → told_or other entries t.id ≡ told_of t =
-        λ other. first_told other (told_of t) t.id ((mid.id, told_of mid) ∷ (part.id, told_of part) ∷ []) in
+    λ other. first_told other (told_of t) t.id ((mid.id, told_of mid) ∷ (part.id, told_of part) ∷ []) in
     let told_mid : (other : Told) → told_or other entries mid.id ≡ told_of mid =
-        λ other. later_told other (told_of t) (told_of mid) mid.id t.id ((mid.id, told_of mid) ∷ (part.id, told_of part) ∷ []) mt
-            (first_told other (told_of mid) mid.id ((part.id, told_of part) ∷ [])) in
+    λ other. later_told other (told_of t) (told_of mid) mid.id t.id ((mid.id, told_of mid) ∷ (part.id, told_of part) ∷ []) mt
+    (first_told other (told_of mid) mid.id ((part.id, told_of part) ∷ [])) in
     let told_part : (other : Told) → told_or other entries part.id ≡ told_of part =
-        λ other. later_told other (told_of t) (told_of part) part.id t.id ((mid.id, told_of mid) ∷ (part.id, told_of part) ∷ []) pt
-            (later_told other (told_of mid) (told_of part) part.id mid.id ((part.id, told_of part) ∷ []) pm
-                (first_told other (told_of part) part.id [])) in
+    λ other. later_told other (told_of t) (told_of part) part.id t.id ((mid.id, told_of mid) ∷ (part.id, told_of part) ∷ []) pt
+    (later_told other (told_of mid) (told_of part) part.id mid.id ((part.id, told_of part) ∷ []) pm
+    (first_told other (told_of part) part.id [])) in
     let follows : FollowsEach entries rows =
-        follows_each t rows n entries r
-        (λ other. type_in t entries other (told other) (parts _ (middle_in t mid entries other mt (told_mid other)
-            (parts_mid _ (innermost_in t mid part entries other pt pm (told_part other) leaf))))) in
+    follows_each t rows n entries r
+    (λ other. type_in t entries other (told other) (parts _ (middle_in t mid entries other mt (told_mid other)
+    (parts_mid _ (innermost_in t mid part entries other pt pm (told_part other) leaf))))) in
     let x = row_told entries nothing t rows n (told nothing) (follows nothing) r.number in
     let p = made x.0 x.1 in
     let y = row_told entries nothing mid rows p.0 (told_mid nothing) (follows nothing) p.1 in
@@ -197,5 +197,5 @@ holds_chain t mid part make make_mid e rows n r mt pt pm parts parts_mid leaf ma
           (place_of-below part.id rows q.0 q.1) (apart_places t.id mid.id rows n p.0 mt r.number p.1)
           (apart_places t.id part.id rows n q.0 pt r.number q.1) (apart_places mid.id part.id rows p.0 q.0 pm p.1 q.1)
           (λ k below. only_three rows r.distinct k below t.id mid.id part.id (told_of t) (told_of mid) (told_of part) n p.0 q.0 follows
-              r.number p.1 q.1);
+          r.number p.1 q.1);
     }

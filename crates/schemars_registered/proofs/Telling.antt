@@ -149,6 +149,7 @@ row_told entries other t rows n told f there =
   where
     name_is : name_at rows n ≡ t.name
     name_is = (f.each t.id n there).name ∙ ap (λ (x : Told). x.name) told
+
     go : (o : Option Entry) → entry_at rows n ≡ o → is_some o ≡ true → IsEntryOf (Some (told_of t)) rows o
         → (given : Entry) × IsMade t.making rows given × (slice_get rows n ≡ Some (row_of t given))
     go None is some made = cc
@@ -156,5 +157,5 @@ row_told entries other t rows n told f there =
       made.given,
       made.made,
       row_with t.id t.name e (slice_get rows n) (id-there t.id n rows there) name_is is
-      ∙ ap (λ (x : Entry). Some (record { id = t.id; name = t.name; entry = Some x })) made.is,
+          ∙ ap (λ (x : Entry). Some (record { id = t.id; name = t.name; entry = Some x })) made.is,
     )

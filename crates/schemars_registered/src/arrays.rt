@@ -14,7 +14,8 @@ use std::alloc::Global;
 ///
 /// Those of `register`.
 pub fn three_bytes(alloc: Global) -> Result<(Types, TypeNo), TypesError>
-    ensures { IfOk result (λ r. HoldsTwo (λ m. row (codes "[3; uint8]") (codes "Array_size_3_of_uint8") true (array m 3)) byte r.0 r.1) }
+    ensures { IfOk result (λ r. HoldsTwo
+        (λ m. row (codes "[3; uint8]") (codes "Array_size_3_of_uint8") true (array m 3)) byte r.0 r.1) }
 {
     let r = registered::<[u8; 3]>(alloc)?;
     Ok(r)
@@ -38,7 +39,9 @@ pub fn no_bytes(alloc: Global) -> Result<(Types, TypeNo), TypesError>
 ///
 /// Those of `register`.
 pub fn eight_bytes_at_most(alloc: Global) -> Result<(Types, TypeNo), TypesError>
-    ensures { IfOk result (λ r. HoldsTwo (λ m. row (codes "[uint8; up to 8]") (codes "Array_up_to_size_8_of_uint8") true (up_to m 8)) byte r.0 r.1) }
+    ensures { IfOk result (λ r. HoldsTwo
+        (λ m. row (codes "[uint8; up to 8]") (codes "Array_up_to_size_8_of_uint8") true (up_to m 8))
+        byte r.0 r.1) }
 {
     let r = registered::<ArrayVec<u8, 8>>(alloc)?;
     Ok(r)
@@ -50,7 +53,8 @@ pub fn eight_bytes_at_most(alloc: Global) -> Result<(Types, TypeNo), TypesError>
 ///
 /// Those of `register`.
 pub fn tuple_of_byte(alloc: Global) -> Result<(Types, TypeNo), TypesError>
-    ensures { IfOk result (λ r. HoldsTwo (λ m. row (codes "(uint8)") (codes "Tuple_of_uint8") true (tuple (m ∷ []))) byte r.0 r.1) }
+    ensures { IfOk result (λ r. HoldsTwo
+        (λ m. row (codes "(uint8)") (codes "Tuple_of_uint8") true (tuple (m ∷ []))) byte r.0 r.1) }
 {
     let r = registered::<(u8,)>(alloc)?;
     Ok(r)
@@ -62,7 +66,9 @@ pub fn tuple_of_byte(alloc: Global) -> Result<(Types, TypeNo), TypesError>
 ///
 /// Those of `register`.
 pub fn tuple_of_byte_and_truth(alloc: Global) -> Result<(Types, TypeNo), TypesError>
-    ensures { IfOk result (λ r. HoldsThree (λ a b. row (codes "(uint8,boolean)") (codes "Tuple_of_uint8_and_boolean") true (tuple (a ∷ b ∷ []))) byte truth r.0 r.1) }
+    ensures { IfOk result (λ r. HoldsThree
+        (λ a b. row (codes "(uint8,boolean)") (codes "Tuple_of_uint8_and_boolean") true (tuple (a ∷ b ∷ [])))
+        byte truth r.0 r.1) }
 {
     let r = registered::<(u8, bool)>(alloc)?;
     Ok(r)
@@ -74,7 +80,9 @@ pub fn tuple_of_byte_and_truth(alloc: Global) -> Result<(Types, TypeNo), TypesEr
 ///
 /// Those of `register`.
 pub fn tuple_of_bytes(alloc: Global) -> Result<(Types, TypeNo), TypesError>
-    ensures { IfOk result (λ r. HoldsTwo (λ m. row (codes "(uint8,uint8)") (codes "Tuple_of_uint8_and_uint8") true (tuple (m ∷ m ∷ []))) byte r.0 r.1) }
+    ensures { IfOk result (λ r. HoldsTwo
+        (λ m. row (codes "(uint8,uint8)") (codes "Tuple_of_uint8_and_uint8") true (tuple (m ∷ m ∷ [])))
+        byte r.0 r.1) }
 {
     let r = registered::<(u8, u8)>(alloc)?;
     Ok(r)

@@ -15,7 +15,9 @@ use std::collections::{BTreeMap, HashMap};
 ///
 /// Those of `register`.
 pub fn tree_map_of_bytes(alloc: Global) -> Result<(Types, TypeNo), TypesError>
-    ensures { IfOk result (λ r. HoldsThree (λ a b. row (codes "Map<uint8>") (codes "Map_of_uint8") true (map_from a b)) string byte r.0 r.1) }
+    ensures { IfOk result (λ r. HoldsThree
+        (λ a b. row (codes "Map<uint8>") (codes "Map_of_uint8") true (map_from a b))
+        string byte r.0 r.1) }
 {
     let r = registered::<BTreeMap<String, u8>>(alloc)?;
     Ok(r)
@@ -27,7 +29,9 @@ pub fn tree_map_of_bytes(alloc: Global) -> Result<(Types, TypeNo), TypesError>
 ///
 /// Those of `register`.
 pub fn tree_map_from_bytes(alloc: Global) -> Result<(Types, TypeNo), TypesError>
-    ensures { IfOk result (λ r. HoldsThree (λ a b. row (codes "Map<uint8, boolean>") (codes "Map_from_uint8_to_boolean") true (map_from a b)) byte truth r.0 r.1) }
+    ensures { IfOk result (λ r. HoldsThree
+        (λ a b. row (codes "Map<uint8, boolean>") (codes "Map_from_uint8_to_boolean") true (map_from a b))
+        byte truth r.0 r.1) }
 {
     let r = registered::<BTreeMap<u8, bool>>(alloc)?;
     Ok(r)
@@ -39,7 +43,9 @@ pub fn tree_map_from_bytes(alloc: Global) -> Result<(Types, TypeNo), TypesError>
 ///
 /// Those of `register`.
 pub fn tree_map_between_bytes(alloc: Global) -> Result<(Types, TypeNo), TypesError>
-    ensures { IfOk result (λ r. HoldsTwo (λ m. row (codes "Map<uint8, uint8>") (codes "Map_from_uint8_to_uint8") true (map_from m m)) byte r.0 r.1) }
+    ensures { IfOk result (λ r. HoldsTwo
+        (λ m. row (codes "Map<uint8, uint8>") (codes "Map_from_uint8_to_uint8") true (map_from m m))
+        byte r.0 r.1) }
 {
     let r = registered::<BTreeMap<u8, u8>>(alloc)?;
     Ok(r)
@@ -51,7 +57,9 @@ pub fn tree_map_between_bytes(alloc: Global) -> Result<(Types, TypeNo), TypesErr
 ///
 /// Those of `register`.
 pub fn hash_map_of_bytes(alloc: Global) -> Result<(Types, TypeNo), TypesError>
-    ensures { IfOk result (λ r. HoldsThree (λ a b. row (codes "Map<uint8>") (codes "Map_of_uint8") true (map_from a b)) string byte r.0 r.1) }
+    ensures { IfOk result (λ r. HoldsThree
+        (λ a b. row (codes "Map<uint8>") (codes "Map_of_uint8") true (map_from a b))
+        string byte r.0 r.1) }
 {
     let r = registered::<HashMap<String, u8>>(alloc)?;
     Ok(r)
@@ -63,19 +71,23 @@ pub fn hash_map_of_bytes(alloc: Global) -> Result<(Types, TypeNo), TypesError>
 ///
 /// Those of `register`.
 pub fn hash_map_from_bytes(alloc: Global) -> Result<(Types, TypeNo), TypesError>
-    ensures { IfOk result (λ r. HoldsThree (λ a b. row (codes "Map<uint8, boolean>") (codes "Map_from_uint8_to_boolean") true (map_from a b)) byte truth r.0 r.1) }
+    ensures { IfOk result (λ r. HoldsThree
+        (λ a b. row (codes "Map<uint8, boolean>") (codes "Map_from_uint8_to_boolean") true (map_from a b))
+        byte truth r.0 r.1) }
 {
     let r = registered::<HashMap<u8, bool>>(alloc)?;
     Ok(r)
 }
 
-/// Registers maps from bytes to truth values, in the order of insertion in an empty table.
+/// Registers maps from bytes to truth values, in the order of insertion, in an empty table.
 ///
 /// # Errors
 ///
 /// Those of `register`.
 pub fn index_map_from_bytes(alloc: Global) -> Result<(Types, TypeNo), TypesError>
-    ensures { IfOk result (λ r. HoldsThree (λ a b. row (codes "Map<uint8, boolean>") (codes "Map_from_uint8_to_boolean") true (map_from a b)) byte truth r.0 r.1) }
+    ensures { IfOk result (λ r. HoldsThree
+        (λ a b. row (codes "Map<uint8, boolean>") (codes "Map_from_uint8_to_boolean") true (map_from a b))
+        byte truth r.0 r.1) }
 {
     let r = registered::<IndexMap<u8, bool>>(alloc)?;
     Ok(r)

@@ -16,7 +16,8 @@ use std::collections::{BTreeSet, BinaryHeap, HashSet, LinkedList, VecDeque};
 ///
 /// Those of `register`.
 pub fn option_of_bytes(alloc: Global) -> Result<(Types, TypeNo), TypesError>
-    ensures { IfOk result (λ r. HoldsTwo (λ m. row (codes "Option<uint8>") (codes "Nullable_uint8") true (option m)) byte r.0 r.1) }
+    ensures { IfOk result (λ r. HoldsTwo
+        (λ m. row (codes "Option<uint8>") (codes "Nullable_uint8") true (option m)) byte r.0 r.1) }
 {
     let r = registered::<Option<u8>>(alloc)?;
     Ok(r)
@@ -28,7 +29,8 @@ pub fn option_of_bytes(alloc: Global) -> Result<(Types, TypeNo), TypesError>
 ///
 /// Those of `register`.
 pub fn list_of_bytes(alloc: Global) -> Result<(Types, TypeNo), TypesError>
-    ensures { IfOk result (λ r. HoldsTwo (λ m. row (codes "[uint8]") (codes "Array_of_uint8") true (seq m)) byte r.0 r.1) }
+    ensures { IfOk result (λ r. HoldsTwo
+        (λ m. row (codes "[uint8]") (codes "Array_of_uint8") true (seq m)) byte r.0 r.1) }
 {
     let r = registered::<Vec<u8>>(alloc)?;
     Ok(r)
@@ -40,7 +42,8 @@ pub fn list_of_bytes(alloc: Global) -> Result<(Types, TypeNo), TypesError>
 ///
 /// Those of `register`.
 pub fn deque_of_bytes(alloc: Global) -> Result<(Types, TypeNo), TypesError>
-    ensures { IfOk result (λ r. HoldsTwo (λ m. row (codes "[uint8]") (codes "Array_of_uint8") true (seq m)) byte r.0 r.1) }
+    ensures { IfOk result (λ r. HoldsTwo
+        (λ m. row (codes "[uint8]") (codes "Array_of_uint8") true (seq m)) byte r.0 r.1) }
 {
     let r = registered::<VecDeque<u8>>(alloc)?;
     Ok(r)
@@ -52,7 +55,8 @@ pub fn deque_of_bytes(alloc: Global) -> Result<(Types, TypeNo), TypesError>
 ///
 /// Those of `register`.
 pub fn linked_list_of_bytes(alloc: Global) -> Result<(Types, TypeNo), TypesError>
-    ensures { IfOk result (λ r. HoldsTwo (λ m. row (codes "[uint8]") (codes "Array_of_uint8") true (seq m)) byte r.0 r.1) }
+    ensures { IfOk result (λ r. HoldsTwo
+        (λ m. row (codes "[uint8]") (codes "Array_of_uint8") true (seq m)) byte r.0 r.1) }
 {
     let r = registered::<LinkedList<u8>>(alloc)?;
     Ok(r)
@@ -64,7 +68,8 @@ pub fn linked_list_of_bytes(alloc: Global) -> Result<(Types, TypeNo), TypesError
 ///
 /// Those of `register`.
 pub fn heap_of_bytes(alloc: Global) -> Result<(Types, TypeNo), TypesError>
-    ensures { IfOk result (λ r. HoldsTwo (λ m. row (codes "[uint8]") (codes "Array_of_uint8") true (seq m)) byte r.0 r.1) }
+    ensures { IfOk result (λ r. HoldsTwo
+        (λ m. row (codes "[uint8]") (codes "Array_of_uint8") true (seq m)) byte r.0 r.1) }
 {
     let r = registered::<BinaryHeap<u8>>(alloc)?;
     Ok(r)
@@ -76,7 +81,8 @@ pub fn heap_of_bytes(alloc: Global) -> Result<(Types, TypeNo), TypesError>
 ///
 /// Those of `register`.
 pub fn short_list_of_bytes(alloc: Global) -> Result<(Types, TypeNo), TypesError>
-    ensures { IfOk result (λ r. HoldsTwo (λ m. row (codes "[uint8]") (codes "Array_of_uint8") true (seq m)) byte r.0 r.1) }
+    ensures { IfOk result (λ r. HoldsTwo
+        (λ m. row (codes "[uint8]") (codes "Array_of_uint8") true (seq m)) byte r.0 r.1) }
 {
     let r = registered::<SmallVec<u8, 4>>(alloc)?;
     Ok(r)
@@ -88,7 +94,9 @@ pub fn short_list_of_bytes(alloc: Global) -> Result<(Types, TypeNo), TypesError>
 ///
 /// Those of `register`.
 pub fn option_of_list(alloc: Global) -> Result<(Types, TypeNo), TypesError>
-    ensures { IfOk result (λ r. HoldsChain (λ m. row (codes "Option<[uint8]>") (codes "Nullable_Array_of_uint8") true (option m)) (λ m. row (codes "[uint8]") (codes "Array_of_uint8") true (seq m)) byte r.0 r.1) }
+    ensures { IfOk result (λ r. HoldsChain
+        (λ m. row (codes "Option<[uint8]>") (codes "Nullable_Array_of_uint8") true (option m))
+        (λ m. row (codes "[uint8]") (codes "Array_of_uint8") true (seq m)) byte r.0 r.1) }
 {
     let r = registered::<Option<Vec<u8>>>(alloc)?;
     Ok(r)
@@ -100,7 +108,9 @@ pub fn option_of_list(alloc: Global) -> Result<(Types, TypeNo), TypesError>
 ///
 /// Those of `register`.
 pub fn list_of_options(alloc: Global) -> Result<(Types, TypeNo), TypesError>
-    ensures { IfOk result (λ r. HoldsChain (λ m. row (codes "[Option<boolean>]") (codes "Array_of_Nullable_boolean") true (seq m)) (λ m. row (codes "Option<boolean>") (codes "Nullable_boolean") true (option m)) truth r.0 r.1) }
+    ensures { IfOk result (λ r. HoldsChain
+        (λ m. row (codes "[Option<boolean>]") (codes "Array_of_Nullable_boolean") true (seq m))
+        (λ m. row (codes "Option<boolean>") (codes "Nullable_boolean") true (option m)) truth r.0 r.1) }
 {
     let r = registered::<Vec<Option<bool>>>(alloc)?;
     Ok(r)
@@ -112,7 +122,8 @@ pub fn list_of_options(alloc: Global) -> Result<(Types, TypeNo), TypesError>
 ///
 /// Those of `register`.
 pub fn tree_set_of_texts(alloc: Global) -> Result<(Types, TypeNo), TypesError>
-    ensures { IfOk result (λ r. HoldsTwo (λ m. row (codes "Set<string>") (codes "Set_of_string") true (set m)) string r.0 r.1) }
+    ensures { IfOk result (λ r. HoldsTwo
+        (λ m. row (codes "Set<string>") (codes "Set_of_string") true (set m)) string r.0 r.1) }
 {
     let r = registered::<BTreeSet<String>>(alloc)?;
     Ok(r)
@@ -124,7 +135,8 @@ pub fn tree_set_of_texts(alloc: Global) -> Result<(Types, TypeNo), TypesError>
 ///
 /// Those of `register`.
 pub fn hash_set_of_texts(alloc: Global) -> Result<(Types, TypeNo), TypesError>
-    ensures { IfOk result (λ r. HoldsTwo (λ m. row (codes "Set<string>") (codes "Set_of_string") true (set m)) string r.0 r.1) }
+    ensures { IfOk result (λ r. HoldsTwo
+        (λ m. row (codes "Set<string>") (codes "Set_of_string") true (set m)) string r.0 r.1) }
 {
     let r = registered::<HashSet<String>>(alloc)?;
     Ok(r)
@@ -136,7 +148,8 @@ pub fn hash_set_of_texts(alloc: Global) -> Result<(Types, TypeNo), TypesError>
 ///
 /// Those of `register`.
 pub fn index_set_of_texts(alloc: Global) -> Result<(Types, TypeNo), TypesError>
-    ensures { IfOk result (λ r. HoldsTwo (λ m. row (codes "Set<string>") (codes "Set_of_string") true (set m)) string r.0 r.1) }
+    ensures { IfOk result (λ r. HoldsTwo
+        (λ m. row (codes "Set<string>") (codes "Set_of_string") true (set m)) string r.0 r.1) }
 {
     let r = registered::<IndexSet<String>>(alloc)?;
     Ok(r)
