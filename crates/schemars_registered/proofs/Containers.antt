@@ -99,9 +99,9 @@ module _ {part part_name : Text} {within : Bool} (s : Shape) {rows : List Row} {
       (λ d is. (is, tt)) (λ d. tt) (λ g is. made_single (place_of part rows) g is) (λ g is. is)
 
   pub twice_holds : {id name : Text} {inline : Bool} (f : ℕ → ℕ → Shape)
-      → IsRegistered (of_two id name inline (λ i j. without_notes inline (f i j)) (leaf part part_name within s) (leaf part part_name within s))
-      rows n
-      → bytes_eq part id ≡ false → HoldsTwo (λ m. row id name inline (f m m)) (row part part_name within s) rows n
+      → IsRegistered (of_two id name inline (λ i j. without_notes inline (f i j)) (leaf part part_name within s)
+      (leaf part part_name within s)) rows n → bytes_eq part id ≡ false
+      → HoldsTwo (λ m. row id name inline (f m m)) (row part part_name within s) rows n
   unfolding of_two alone
   twice_holds {id = id} {name = name} {inline = inline} f r apart =
       let make : ℕ → ℕ → Entry = λ i j. without_notes inline (f i j) in
@@ -109,8 +109,9 @@ module _ {part part_name : Text} {within : Bool} (s : Shape) {rows : List Row} {
       holds_two (of_two id name inline make t t) t (λ m. make m m) (without_notes within s) rows n r apart (λ d is. (is, is)) (λ d. tt)
       (λ g is. made_twice make (place_of part rows) g (made_of_two make (place_of part rows) (place_of part rows) g is)) (λ g is. is)
 
-  pub pair_twice_holds : IsRegistered (tuple_row (and_parts (leaf part part_name within s) (and_parts (leaf part part_name within s) no_parts)))
-      rows n → bytes_eq part (tuple_id (part ∷ part ∷ [])) ≡ false
+  pub pair_twice_holds : IsRegistered (tuple_row (and_parts (leaf part part_name within s)
+      (and_parts (leaf part part_name within s) no_parts))) rows n
+      → bytes_eq part (tuple_id (part ∷ part ∷ [])) ≡ false
       → HoldsTwo (λ m. row (tuple_id (part ∷ part ∷ [])) (tuple_name (part_name ∷ part_name ∷ [])) true (tuple (m ∷ m ∷ [])))
       (row part part_name within s) rows n
   unfolding tuple_row alone

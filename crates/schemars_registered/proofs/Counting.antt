@@ -49,7 +49,8 @@ count_three len n a b n_below a_below b_below na nb ab each = by (nat_lt 3 len) 
 
 -- ---- where a row is, if no two have one id
 
-others : (p : Text → Type 0) (rows : List Row) (k : ℕ) (r : Row) → AllByRecursion p (map (λ q. q.id) rows) → slice_get rows k ≡ Some r → p r.id
+others : (p : Text → Type 0) (rows : List Row) (k : ℕ) (r : Row) → AllByRecursion p (map (λ q. q.id) rows)
+    → slice_get rows k ≡ Some r → p r.id
 others p [] k r all is = cc
 others p (q ∷ rows) zero r all is = let same : q ≡ r = cc in subst (λ (x : Row). p x.id) same all.0
 others p (q ∷ rows) (suc k) r all is = others p rows k r all.1 is

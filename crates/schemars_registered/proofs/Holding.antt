@@ -42,7 +42,8 @@ type_in t entries other told parts = record { told = told; free = tt; parts = pa
 
 -- the same of a part while the type is being described
 part_in : (part : TypeRow) (id : Text) (entries : List (Text × Told)) (other : Told) → bytes_eq part.id id ≡ false
-    → told_or other entries part.id ≡ told_of part → ((d : Dictionary) → part.parts d) → IsIn part (staged id Pending (listing entries other))
+    → told_or other entries part.id ≡ told_of part → ((d : Dictionary) → part.parts d)
+    → IsIn part (staged id Pending (listing entries other))
 unfolding IsIn
 part_in part id entries other apart told leaf = record {
   told = told;
