@@ -56,8 +56,7 @@ pub fn subschema_behind<A: JsonSchema, B: JsonSchema, C: JsonSchema, O: Transfor
         → IfOk result (MeansTypeIn C.says (state generator.new)) }
 {
     call_before::<A, B, O>(alloc, generator, types)?;
-    let schema = generator.subschema_for::<C>(alloc)?;
-    Ok(schema)
+    generator.subschema_for::<C>(alloc)
 }
 
 /// Generates the root document of a type behind other calls.
@@ -76,6 +75,5 @@ pub fn root_behind<A: JsonSchema, B: JsonSchema, C: JsonSchema, O: Transform + D
         (MeansType draft C.says (state generator.old).settings generator.new.rows) }
 {
     call_before::<A, B, O>(alloc, generator, types)?;
-    let document = generator.root_schema_for::<C>(alloc)?;
-    Ok(document)
+    generator.root_schema_for::<C>(alloc)
 }
