@@ -1,0 +1,10 @@
+-- Lemmas that several proofs share.
+pub mod OfKind
+pub mod Counts
+pub mod Types
+pub mod KeyOptions
+pub mod EnumsWithin
+pub mod FieldMembers
+pub mod Members
+pub mod Offers
+pub mod Rows
