@@ -110,3 +110,8 @@ no_struct rows steps below n one is =
 -- nothing is added
 pub adds_none : (g : Field → Given) (found : List Given) (fs : List Field) → fs ≡ [] → found ≡ found ++ map g fs
 adds_none g found fs none = sym (ap (λ xs. found ++ map g xs) none ∙ append-nil found)
+
+-- their names are those of the fields
+pub names_given : (contract : Contract) (fs : List Field) → map (λ g. g.name) (map (field_given true contract) fs) ≡ map (λ f. f.name) fs
+names_given contract [] = refl
+names_given contract (f ∷ fs) = ap (λ ts. f.name ∷ ts) (names_given contract fs)

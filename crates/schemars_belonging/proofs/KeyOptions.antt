@@ -1,20 +1,24 @@
 -- What the options of a row say of a key.
 use Rattle.std.proofs.Common.{◌≡◌, ℕ, suc, List, [], ◌∷◌, ◌++◌, Option, Some, None, Bool, true, false, refl, sym, ap, ◌∙◌, option_map, length, true≢false}
-use Rattle.std.specs.Prelude.{◌||◌, not, filter, bytes_eq, option_and_then}
+use Rattle.std.specs.Prelude.{◌||◌, not, filter, bytes_eq, option_and_then, is_some, if◌then◌else◌}
 use Rattle.std.specs.List.{list_any}
 use Rattle.std.specs.Option.{option_map_or}
 use Rattle.std.proofs.lemmas.List.Folds.{list_any-append}
 use Rattle.std.proofs.lemmas.Slice.Eq.{bytes_eq-Decides}
+use Rattle.serde_json.specs.Data.{Items}
 use Rattle.schemars_text.specs.OrderedText.{is_listed}
 use Rattle.schemars_text.proofs.FixedMembers.{is_listed-append}
 use Rattle.schemars_schema.specs.Json.{Text}
-use Rattle.schemars_schema.specs.Acceptance.{Patterns, matches}
+use Rattle.schemars_schema.specs.Edits.{holds_text}
+use Rattle.schemars_schema.specs.Acceptance.{Patterns, matches, texts_in, when}
+use Rattle.schemars_validate.specs.Texts.{are_texts, texts_of}
+use Rattle.schemars_validate.proofs.Texts.{texts_found, holds_listed}
 use Rattle.schemars_shapes.specs.Shape.{Entry}
 use Rattle.schemars_shapes.specs.IntegerKeys.{pattern_of}
 use Rattle.schemars_shapes.specs.declared.shape.IntegerKeys.{IntegerKeys}
 use Rattle.schemars_shapes.specs.declared.shape.IntegerKeys.TheVariants.{Unsigned, Signed}
 use Rattle.schemars_types.specs.Rows.{Row, entry_at}
-use Rattle.schemars_types.specs.KeyOptions.{KeyOptions, keys, any_text, either_options, either_integers, is_key_allowed, key_options, all_options, options_within, shape_options, once, distinct_options, or_any_text}
+use Rattle.schemars_types.specs.KeyOptions.{KeyOptions, keys, any_text, either_options, either_integers, is_key_allowed, key_options, all_options, options_within, shape_options, once, distinct_options, or_any_text, texts_options}
 use Rattle.schemars_belonging.specs.Keys.{Said, said, said_by, either_said, any_said, nothing_said, allowed}
 
 -- ---- rows
@@ -121,19 +125,24 @@ none_joined patterns key a (Some o) rest is = cc
 any_filter : (f : Text → Bool) (t : Text) (us : List Text) → f t ≡ false
     → list_any f (filter (λ u. not (bytes_eq u t)) us) ≡ list_any f us
 any_filter f t [] none = refl
-any_filter f t (u ∷ us) none = go (bytes_eq u t) refl
+any_filter f t (u ∷ us) none = go (bytes_eq u t) refl (any_filter f t us none)
   where
-    go : (b : Bool) → bytes_eq u t ≡ b → list_any f (filter (λ u. not (bytes_eq u t)) (u ∷ us)) ≡ f u || list_any f us
-    go true is = rw (is, ap f ((bytes_eq-Decides u t).0 is) ∙ none) (any_filter f t us none)
-    go false is = rw is (ap (λ b. f u || b) (any_filter f t us none))
+    rest : List Text
+    rest = filter (λ x. not (bytes_eq x t)) us
+
+    go : (b : Bool) → bytes_eq u t ≡ b → list_any f rest ≡ list_any f us
+        → list_any f (if not b then u ∷ rest else rest) ≡ f u || list_any f us
+    go true is later = later ∙ sym (ap (λ b. b || list_any f us) (ap f ((bytes_eq-Decides u t).0 is) ∙ none))
+    go false is later = ap (λ b. f u || b) later
 
 any_once : (f : Text → Bool) (ts : List Text) → list_any f (once ts) ≡ list_any f ts
 any_once f [] = refl
-any_once f (t ∷ ts) = go (f t) refl
+any_once f (t ∷ ts) = go (f t) refl (any_once f ts)
   where
-    go : (b : Bool) → f t ≡ b → f t || list_any f (filter (λ u. not (bytes_eq u t)) (once ts)) ≡ f t || list_any f ts
-    go true is = rw is
-    go false is = ap (λ b. f t || b) (any_filter f t (once ts) is ∙ any_once f ts)
+    go : (b : Bool) → f t ≡ b → list_any f (once ts) ≡ list_any f ts
+        → b || list_any f (filter (λ u. not (bytes_eq u t)) (once ts)) ≡ b || list_any f ts
+    go true is later = refl
+    go false is later = any_filter f t (once ts) is ∙ later
 
 listed_any : (k : Text) (ts : List Text) → is_listed k ts ≡ list_any (bytes_eq k) ts
 listed_any k [] = refl
@@ -180,3 +189,17 @@ any_key rows patterns n key is = go (options_within rows (length rows) n) is
         → true ≡ is_key_allowed patterns (distinct_options (or_any_text o)) key
     go None h = refl
     go (Some o) h = cc
+
+-- ---- texts of a literal
+
+pub listed_says : (patterns : Patterns) (key : Text) (ds : Items) → is_some (texts_in ds) ≡ true
+    → record { found = holds_text key ds; integers = None } ≡ said patterns key (texts_options ds)
+listed_says patterns key ds texts = go (are_texts ds) refl
+  where
+    options : Option (List Text) → KeyOptions
+    options o = elim o [ Some ts ↦ keys false ts None [] | None ↦ any_text ]
+
+    go : (b : Bool) → are_texts ds ≡ b → record { found = holds_text key ds; integers = None } ≡ said patterns key (texts_options ds)
+    go true is = ap (λ (b : Bool). record { found = b; integers = None }) (holds_listed key ds ∙ sym (or_false (is_listed key (texts_of ds))))
+        ∙ sym (ap (λ (o : Option (List Text)). said patterns key (options o)) (texts_found ds ∙ ap (λ b. when b (texts_of ds)) is))
+    go false is = absurd (true≢false (sym texts ∙ ap is_some (texts_found ds ∙ ap (λ b. when b (texts_of ds)) is)))

@@ -8,3 +8,5 @@ pub mod FieldMembers
 pub mod Members
 pub mod Offers
 pub mod Rows
+pub mod Fitting
+pub mod Variants

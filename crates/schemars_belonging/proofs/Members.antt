@@ -60,7 +60,7 @@ last_named (x ∷ xs) m k = go (bytes_eq x.name k) (last_named xs m k)
     go false later = later
 
 module _ (a : Asked) (steps : ℕ) (gs : List Given) (m : Member) (others : Text → Bool) (k : Text) (w : Data) where
-  found : Option Given → Option Member
+  abbrev found : Option Given → Option Member
   found o = elim (option_map (member_of a steps) o) [ None ↦ if bytes_eq m.name k then Some m else None | Some x ↦ Some x ]
 
   beside : (o : Option Given) → o ≡ given_named gs k → member_named (map (member_of a steps) gs ++ m ∷ []) k ≡ found o
@@ -72,15 +72,15 @@ module _ (a : Asked) (steps : ℕ) (gs : List Given) (m : Member) (others : Text
       → has_values a steps g.values w ≡ member_says (map (member_of a steps) gs ++ m ∷ []) others k w
   beside_given g is = sym (ap (λ (o : Option Member). option_map_or (λ x. x.has w) o (others k)) (beside (Some g) is))
 
-  pub beside_last : None ≡ given_named gs k → bytes_eq m.name k ≡ true
-      → m.has w ≡ member_says (map (member_of a steps) gs ++ m ∷ []) others k w
-  beside_last is same = sym (ap (λ (o : Option Member). option_map_or (λ x. x.has w) o (others k))
-      (beside None is ∙ ap (λ (b : Bool). if b then Some m else None) same))
-
-  pub beside_other : None ≡ given_named gs k → bytes_eq m.name k ≡ false
-      → others k ≡ member_says (map (member_of a steps) gs ++ m ∷ []) others k w
-  beside_other is apart = sym (ap (λ (o : Option Member). option_map_or (λ x. x.has w) o (others k))
-      (beside None is ∙ ap (λ (b : Bool). if b then Some m else None) apart))
+  pub beside_none : None ≡ given_named gs k
+      → (if bytes_eq m.name k then m.has w else others k) ≡ member_says (map (member_of a steps) gs ++ m ∷ []) others k w
+  beside_none is = go (bytes_eq m.name k)
+      ∙ sym (ap (λ (o : Option Member). option_map_or (λ x. x.has w) o (others k)) (beside None is))
+    where
+      go : (b : Bool) → (if b then m.has w else others k)
+          ≡ option_map_or (λ (x : Member). x.has w) (if b then Some m else None) (others k)
+      go true = refl
+      go false = refl
 
 and_true : (b : Bool) → b && true ≡ b
 and_true true = refl

@@ -1,5 +1,5 @@
 -- The keys that variants claim which fit.
-use Rattle.std.proofs.Common.{◌≡◌, ℕ, zero, suc, List, [], ◌∷◌, ◌++◌, Option, Some, None, Bool, true, false, refl, sym, ap, ◌∙◌, map}
+use Rattle.std.proofs.Common.{◌≡◌, ℕ, zero, suc, List, [], ◌∷◌, ◌++◌, Option, Some, None, Bool, true, false, refl, sym, ap, ◌∙◌, map, append_assoc}
 use Rattle.std.specs.Prelude.{◌&&◌, ◌||◌, is_some, bytes_eq, if◌then◌else◌, find}
 use Rattle.std.specs.List.{list_any}
 use Rattle.serde_json.specs.Data.{Data}
@@ -63,3 +63,19 @@ pub all_listed : (a : Asked) (steps : ℕ) (ns : List ℕ) (v : Data) (k : Text)
 all_listed a steps [] v k = refl
 all_listed a steps (n ∷ ns) v k =
     is_listed-append k (claims a steps n v) (all_claims a steps ns v) ∙ (λ i. row_listed a steps n v k i || all_listed a steps ns v k i)
+
+-- ---- one variant more
+
+pub next_claims : (old new names rest whole : List Text) (b fits : Bool) → new ≡ old ++ (if b then names else []) → b ≡ fits
+    → old ++ ((if fits then names else []) ++ rest) ≡ whole → new ++ rest ≡ whole
+next_claims old new names rest whole b fits is same before =
+    ap (λ ts. ts ++ rest) (is ∙ ap (λ k. old ++ (if k then names else [])) same)
+    ∙ (append_assoc old (if fits then names else []) rest ∙ before)
+
+pub next_part : (all new x one rest whole : Bool) → new ≡ all && x → x ≡ one → all && (one && rest) ≡ whole → new && rest ≡ whole
+next_part all new x one rest whole is same before =
+    ap (λ b. b && rest) (is ∙ ap (λ k. all && k) same) ∙ (sym (and_assoc all one rest) ∙ before)
+  where
+    and_assoc : (a b c : Bool) → a && (b && c) ≡ (a && b) && c
+    and_assoc true b c = refl
+    and_assoc false b c = refl

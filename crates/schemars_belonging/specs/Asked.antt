@@ -2,18 +2,18 @@
 use Rattle.std.specs.Prelude.{ℕ, zero, suc, List, [], ◌∷◌, ◌++◌, map, find, Bool, true, false, not, ◌&&◌, ◌||◌, ◌==◌, nat_le, Option, Some, None, is_some, bytes_eq, if◌then◌else◌, string_bytes}
 use Rattle.std.specs.List.{list_all, list_any}
 use Rattle.std.specs.Option.{option_map_or}
-use Rattle.serde_json.specs.Data.{Data, Items, Members}
+use Rattle.serde_json.specs.Data.{Data, Items, Members, no_members}
 use Rattle.serde_json.specs.Events.{items_len}
 use Rattle.serde_json.specs.Find.{get_member}
 use Rattle.schemars_text.specs.OrderedText.{is_listed}
 use Rattle.schemars_schema.specs.Json.{Text, are_distinct}
 use Rattle.schemars_schema.specs.Acceptance.{Patterns}
-use Rattle.schemars_shapes.specs.Shape.{Required, Field, Fields, Flattened, Shape, Variant, Payload, Tagging, struct, enum, by_name, by_nothing, by_tag, by_tag_and_content}
+use Rattle.schemars_shapes.specs.Shape.{Required, Field, Fields, Flattened, Shape, Variant, Payload, Tagging, no_payload, newtype_payload, tuple_payload, struct_payload, struct, enum, by_name, by_nothing, by_tag, by_tag_and_content}
 use Rattle.schemars_types.specs.Rows.{Row, entry_at}
 use Rattle.schemars_types.specs.Edges.{option_at}
 use Rattle.schemars_types.specs.Effective.{flattened_in, part_enums, flattened_enums, enum_at, effective, expanded_payload, expanded_variant, expanded_shape_in}
 use Rattle.schemars_types.specs.KeyOptions.{key_options}
-use Rattle.schemars_types.specs.Meaning.{VariantMatch, Member, is_required, is_text, must_have, has_members, has_payload, has_variant, has_shape, external_choice, is_tagged_map, tagged_fields, member_named, has_members_with, matches_of, none, exactly_one, belongs_within, choices_within}
+use Rattle.schemars_types.specs.Meaning.{VariantMatch, Member, is_required, is_text, must_have, has_members, has_payload, has_variant, has_shape, external_choice, is_tagged_map, tagged_fields, member_named, has_members_with, has_tagged, matches_of, none, exactly_one, belongs_within, choices_within}
 use Rattle.schemars_types.specs.declared.contract.Contract.{Contract}
 use Rattle.schemars_belonging.specs.declared.given.Given as src
 use Rattle.schemars_belonging.specs.declared.given.Values as src-values
@@ -61,6 +61,16 @@ has_payload_of a steps p v = has_payload a.contract (has a steps) (offers a step
 
 abbrev pub has_variant_of : Asked → ℕ → Tagging → Data → Variant → Bool
 has_variant_of a steps tagging v x = has_variant a.contract (has a steps) (offers a steps) tagging v (variant_in a x)
+
+abbrev pub is_unit : Payload → Bool
+is_unit no_payload = true
+is_unit (newtype_payload n) = false
+is_unit (tuple_payload ns) = false
+is_unit (struct_payload x) = false
+
+-- a variant whose notes do not count
+abbrev pub bare : Text → Payload → Variant
+bare name p = record { name = name; payload = p; notes = no_members }
 
 -- ---- members
 
@@ -129,6 +139,12 @@ abbrev pub has_fields_of : Asked → ℕ → List Given → Fields → Data → 
 has_fields_of a steps tags x v =
     has_members_with (matches_of (offers a steps) (map enum_at (flattened_enums (part_enums a.rows) x.flatten)) v)
     (map (member_of a steps) (tags ++ map (field_given true a.contract) (effective (flattened_in a.rows) x))) x.closed v
+
+-- a map with a name under the tag, and with fields and enums beside it
+abbrev pub has_tagged_of : Asked → ℕ → Text → Text → Fields → Data → Bool
+has_tagged_of a steps tag name x v = has_tagged a.contract (has a steps)
+    (matches_of (offers a steps) (map enum_at (flattened_enums (part_enums a.rows) x.flatten)) v) tag (effective (flattened_in a.rows) x)
+    x.closed name v
 
 -- a map of members, and of a payload under a name of its own
 abbrev pub has_beside_of : Asked → ℕ → List Given → Text → Payload → Bool → Data → Bool

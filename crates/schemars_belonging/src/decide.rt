@@ -1,27 +1,27 @@
 //! Whether a value belongs to a row, by the shape of the row.
-ghost use Rattle.std.specs.Prelude.{◌≡◌, ◌++◌, ◌∷◌, ◌&&◌, ◌||◌, [], IfOk, OnOk, map, not};
+ghost use Rattle.std.specs.Prelude.{◌≡◌, ◌++◌, ◌∷◌, ◌&&◌, ◌||◌, [], bytes_eq, if◌then◌else◌, IfOk, OnOk, map, not};
 ghost use Rattle.std.specs.List.{list_any};
 ghost use Rattle.serde_json.specs.Find.{as_array, as_object};
 ghost use Rattle.serde_json.specs.View.{view, items_view, members_view};
 ghost use Rattle.schemars_shapes.specs.Shape as shape;
-ghost use Rattle.schemars_shapes.specs.Shape.{by_tag, by_tag_and_content, adjacent_view, shape_of, fields_of, payload_of, variant_of, internal_variant_of, internal_view};
+ghost use Rattle.schemars_shapes.specs.Shape.{by_tag, by_tag_and_content, adjacent_view, shape_of, fields_of, payload_of, variant_of, internal_variant_of, internal_payload_of, internal_view};
 ghost use Rattle.schemars_schema.specs.Acceptance.{is_null};
-ghost use Rattle.schemars_types.specs.Effective.{enum_at, expanded_shape_in};
+ghost use Rattle.schemars_types.specs.Effective.{enum_at, effective, expanded_shape_in, flattened_in};
 ghost use Rattle.schemars_types.specs.KeyOptions.{key_options};
-ghost use Rattle.schemars_types.specs.Meaning.{holds, every_item, each_of, exactly_one, every_part, matches_of, are_members, has_members, has_keys, has_content, has_external, has_variant, must_have, external_choice, internal_choice, is_tagged_map, shape_choices};
-ghost use Rattle.schemars_belonging.specs.Asked.{asked, has, offers, has_shape_of, has_payload_of, has_variant_of, variant_in, variants_in, given_of, values_of, has_values, member_of, member_says, allows, has_beside_of, has_fields_of, within, claims, shape_claims, external_claims, internal_claims, all_claims, fits_of, tagging_of};
+ghost use Rattle.schemars_types.specs.Meaning.{holds, every_item, each_of, exactly_one, every_part, matches_of, are_members, has_members, has_keys, has_content, has_external, has_internal, has_adjacent, has_tagged, has_member, has_variant, must_have, is_text, external_choice, internal_choice, is_tagged_map, shape_choices};
+ghost use Rattle.schemars_belonging.specs.Asked.{asked, bare, has_tagged_of, tag_given, has, offers, has_shape_of, has_payload_of, has_variant_of, variant_in, variants_in, given_of, values_of, has_values, member_of, member_says, allows, has_beside_of, has_fields_of, within, claims, shape_claims, external_claims, internal_claims, all_claims, fits_of, tagging_of};
 
-use crate::claims::{Seen, claim_internal};
+use crate::claims::{Seen, both, claim, claim_internal, is_unit, one_of_three, one_of_two};
 use crate::enums::flattened_enums;
 use crate::fields::field_members;
 use crate::given::{
-    Given, Values, given_named, has_each, has_tag, is_there, needed, tag_given, without,
+    Given, Values, given_named, has_each, has_each_with, has_tag, is_allowed, is_same, needed,
+    tag_given, without,
 };
 use crate::keys::is_key_allowed;
 use crate::literal::has_literal;
-use crate::scalars::{Limit, is_bytes, is_char, is_int, is_non_zero, is_text, is_within};
+use crate::scalars::{Limit, is_bytes, is_char, is_int, is_non_zero, is_null, is_text, is_within};
 use schemars_schema::Schema;
-use schemars_schema::edits::is_listed;
 use schemars_types::{
     Adjacent, Contract, Fields, Internal, InternalPayload, InternalVariant, Payload, Shape, TypeNo,
     Types, Variant,
@@ -81,7 +81,7 @@ fn shape<P: Patterns>(
         IfOk result (λ is. is ≡ has_shape_of a left (shape_of shape.now) (view value.now)) }
 {
     match shape {
-        Shape::Null => Ok(value.is_null()),
+        Shape::Null => Ok(is_null(value)),
         Shape::Bool => Ok(value.is_boolean()),
         Shape::Int(kind) => Ok(is_int(*kind, value)),
         Shape::NonZero(kind) => Ok(is_non_zero(*kind, value)),
@@ -100,30 +100,10 @@ fn shape<P: Patterns>(
         Shape::Tuple(rows) => tuple(t, left, rows, value),
         Shape::Struct(fields) => has_fields(t, left, &[], fields, value),
         Shape::Newtype(n) => row(t, left, *n, value),
-        Shape::Result(a, b) => one_of(
-            t,
-            left,
-            &[needed("Ok", *a)],
-            &[needed("Err", *b)],
-            false,
-            value,
-        ),
+        Shape::Result(a, b) => one_of(t, left, "Ok", *a, "Err", *b, false, value),
         Shape::Bound(n) => bound(t, left, *n, value),
-        Shape::Range(n) => is_map_of(
-            t,
-            left,
-            &[needed("start", *n), needed("end", *n)],
-            false,
-            value,
-        ),
-        Shape::Either(a, b) => one_of(
-            t,
-            left,
-            &[needed("Left", *a)],
-            &[needed("Right", *b)],
-            true,
-            value,
-        ),
+        Shape::Range(n) => range(t, left, *n, value),
+        Shape::Either(a, b) => one_of(t, left, "Left", *a, "Right", *b, true, value),
         Shape::Map(key, n) => has_keys(t, left, *key, *n, value),
         Shape::External(variants) => any_variant(t, left, By::Name, variants, value),
         Shape::Untagged(variants) => any_variant(t, left, By::Nothing, variants, value),
@@ -143,7 +123,7 @@ fn or_null<P: Patterns>(
     ensures { let a = asked t.now.types.now t.now.contract (P.reading t.now.patterns.now) in
         IfOk result (λ is. is ≡ (is_null (view value.now) || has a left n (view value.now))) }
 {
-    if value.is_null() {
+    if is_null(value) {
         return Ok(true);
     }
     row(t, left, n, value)
@@ -265,7 +245,7 @@ fn one_member<P: Patterns>(
 {
     match given_named(list, key) {
         Some(given) => values(t, left, &given.values, value),
-        None => Ok(is_listed(key, claimed) || !closed),
+        None => Ok(is_allowed(closed, claimed, key)),
     }
 }
 
@@ -310,28 +290,41 @@ fn is_map_of<P: Patterns>(
     }
 }
 
-// Whether a value is a map of the first members or of the second, and not of both.
+// Whether a value is a map of a member with a value of row `n`.
 #[cycle(belongs)]
-fn one_of<P: Patterns>(
+fn has_member<P: Patterns>(
     t: &Table<'_, P>,
     left: u64,
-    first: &[Given<'_>],
-    second: &[Given<'_>],
+    name: &str,
+    n: TypeNo,
     closed: bool,
     value: &Value,
 ) -> Result<bool, AllocError>
     ensures { let a = asked t.now.types.now t.now.contract (P.reading t.now.patterns.now) in
-        IfOk result (λ is. is ≡ exactly_one (
-        has_members (map (member_of a left) (map given_of first.now)) (λ k. not closed) (view value.now)
-        ∷ has_members (map (member_of a left) (map given_of second.now)) (λ k. not closed) (view value.now)
-        ∷ [])) }
+        IfOk result (λ is. is ≡ has_member name.now (has a left n) closed (view value.now)) }
 {
-    let is_first = is_map_of(t, left, first, closed, value)?;
-    let is_second = is_map_of(t, left, second, closed, value)?;
-    if is_first {
-        return Ok(!is_second);
-    }
-    Ok(is_second)
+    is_map_of(t, left, &[needed(name, n)], closed, value)
+}
+
+// Whether a value is a map of the first member or of the second, and not of both.
+#[cycle(belongs)]
+fn one_of<P: Patterns>(
+    t: &Table<'_, P>,
+    left: u64,
+    first: &str,
+    one: TypeNo,
+    second: &str,
+    two: TypeNo,
+    closed: bool,
+    value: &Value,
+) -> Result<bool, AllocError>
+    ensures { let a = asked t.now.types.now t.now.contract (P.reading t.now.patterns.now) in
+        IfOk result (λ is. is ≡ exactly_one (has_member first.now (has a left one) closed (view value.now)
+        ∷ has_member second.now (has a left two) closed (view value.now) ∷ [])) }
+{
+    let is_first = has_member(t, left, first, one, closed, value)?;
+    let is_second = has_member(t, left, second, two, closed, value)?;
+    Ok(one_of_two(is_first, is_second))
 }
 
 #[cycle(belongs)]
@@ -344,16 +337,24 @@ fn bound<P: Patterns>(
     ensures { let a = asked t.now.types.now t.now.contract (P.reading t.now.patterns.now) in
         IfOk result (λ is. is ≡ has_shape_of a left (shape.bound n) (view value.now)) }
 {
+    let is_included = has_member(t, left, "Included", n, false, value)?;
+    let is_excluded = has_member(t, left, "Excluded", n, false, value)?;
     let is_unbounded = is_text("Unbounded", value);
-    let is_included = is_map_of(t, left, &[needed("Included", n)], false, value)?;
-    let is_excluded = is_map_of(t, left, &[needed("Excluded", n)], false, value)?;
-    if is_included {
-        return Ok(!is_excluded && !is_unbounded);
-    }
-    if is_excluded {
-        return Ok(!is_unbounded);
-    }
-    Ok(is_unbounded)
+    Ok(one_of_three(is_included, is_excluded, is_unbounded))
+}
+
+#[cycle(belongs)]
+fn range<P: Patterns>(
+    t: &Table<'_, P>,
+    left: u64,
+    n: TypeNo,
+    value: &Value,
+) -> Result<bool, AllocError>
+    ensures { let a = asked t.now.types.now t.now.contract (P.reading t.now.patterns.now) in
+        IfOk result (λ is. is ≡ has_shape_of a left (shape.range n) (view value.now)) }
+{
+    let list = &[needed("start", n), needed("end", n)];
+    is_map_of(t, left, list, false, value)
 }
 
 // Whether a value is a map of keys that row `key` allows, with values of row `n`.
@@ -399,10 +400,11 @@ fn has_fields<P: Patterns>(
     };
     let mut claimed = Vec::new(t.alloc);
     let enums = flattened_enums(t.alloc, t.types, &fields.flatten)?;
-    if !each_enum(t, left, &enums, value, &mut claimed)? {
+    let fits = each_enum(t, left, &enums, value, &mut claimed)?;
+    if !fits {
         return Ok(false);
     }
-    let list = field_members(t.alloc, t.types, t.contract, tags, fields)?;
+    let list = field_members(t.alloc, t.types, t.contract, &*tags, &*fields)?;
     are_members(t, left, &list, fields.closed, &claimed, members)
 }
 
@@ -419,11 +421,31 @@ fn payload<P: Patterns>(
         IfOk result (λ is. is ≡ has_payload_of a left (payload_of payload.now) (view value.now)) }
 {
     match payload {
-        Payload::Unit => Ok(value.is_null()),
+        Payload::Unit => Ok(is_null(value)),
         Payload::Newtype(n) => row(t, left, *n, value),
         Payload::Tuple(rows) => tuple(t, left, rows, value),
         Payload::Struct(fields) => has_fields(t, left, &[], fields, value),
     }
+}
+
+#[cycle(belongs)]
+fn last<P: Patterns>(
+    t: &Table<'_, P>,
+    left: u64,
+    name: &str,
+    payload: &Payload,
+    closed: bool,
+    key: &str,
+    value: &Value,
+) -> Result<bool, AllocError>
+    ensures { let a = asked t.now.types.now t.now.contract (P.reading t.now.patterns.now) in
+        IfOk result (λ is. is ≡ (if bytes_eq name.now key.now then has_payload_of a left (payload_of payload.now) (view value.now)
+        else not closed)) }
+{
+    if is_same(name, key) {
+        return self::payload(t, left, payload, value);
+    }
+    Ok(!closed)
 }
 
 #[cycle(belongs)]
@@ -442,13 +464,10 @@ fn one_beside<P: Patterns>(
         ++ must_have name.now (has_payload_of a left (payload_of payload.now)) ∷ [])
         (λ k. not closed) key.now (view value.now)) }
 {
-    if let Some(given) = given_named(list, key) {
-        return values(t, left, &given.values, value);
+    match given_named(list, key) {
+        Some(given) => values(t, left, &given.values, value),
+        None => last(t, left, name, payload, closed, key, value),
     }
-    if name == key {
-        return self::payload(t, left, payload, value);
-    }
-    Ok(!closed)
 }
 
 // Whether a value is a map of the given members, and of what a variant has under a name.
@@ -474,7 +493,7 @@ fn beside<P: Patterns>(
             return Ok(false);
         }
     }
-    Ok(has_each(list, members) && is_there(members, name))
+    Ok(has_each_with(list, members, name))
 }
 
 #[cycle(belongs)]
@@ -482,12 +501,12 @@ fn any_variant<P: Patterns>(
     t: &Table<'_, P>,
     left: u64,
     by: By<'_>,
-    variants: &[Variant],
+    variants: &Vec<Variant>,
     value: &Value,
 ) -> Result<bool, AllocError>
     ensures { let a = asked t.now.types.now t.now.contract (P.reading t.now.patterns.now) in
-        IfOk result (λ is. is ≡ list_any (has_variant a.contract (has a left) (offers a left) (tagging_of by) (view value.now))
-        (variants_in a (map variant_of variants.now))) }
+        IfOk result (λ is. is ≡ list_any (has_variant a.contract (has a left) (offers a left) (tagging_of by.entry) (view value.now))
+        (variants_in a (map variant_of variants.now.items))) }
 {
     for variant in variants {
         if self::variant(t, left, by, variant, value)? {
@@ -506,12 +525,13 @@ fn variant<P: Patterns>(
     value: &Value,
 ) -> Result<bool, AllocError>
     ensures { let a = asked t.now.types.now t.now.contract (P.reading t.now.patterns.now) in
-        IfOk result (λ is. is ≡ has_variant_of a left (tagging_of by) (view value.now) (variant_of variant.now)) }
+        IfOk result (λ is. is ≡ has_variant_of a left (tagging_of by.entry) (view value.now) (variant_of variant.now)) }
 {
+    let name = variant.name.as_str();
     match by {
-        By::Name => external(t, left, variant, value),
+        By::Name => external(t, left, name, &variant.payload, value),
         By::Nothing => payload(t, left, &variant.payload, value),
-        By::Content(adjacent) => self::adjacent(t, left, adjacent, variant, value),
+        By::Content(x) => adjacent(t, left, x, name, &variant.payload, value),
     }
 }
 
@@ -519,43 +539,75 @@ fn variant<P: Patterns>(
 fn external<P: Patterns>(
     t: &Table<'_, P>,
     left: u64,
-    variant: &Variant,
+    name: &str,
+    payload: &Payload,
     value: &Value,
 ) -> Result<bool, AllocError>
     ensures { let a = asked t.now.types.now t.now.contract (P.reading t.now.patterns.now) in
         IfOk result (λ is. is ≡ has_external a.contract (has a left) (offers a left) (view value.now)
-        (variant_in a (variant_of variant.now))) }
+        (variant_in a (bare name.now (payload_of payload.now)))) }
 {
-    let name = variant.name.as_str();
-    match &variant.payload {
-        Payload::Unit => Ok(is_text(name, value)),
-        Payload::Newtype(_) => beside(t, left, &[], name, &variant.payload, true, value),
-        Payload::Tuple(_) => beside(t, left, &[], name, &variant.payload, true, value),
-        Payload::Struct(_) => beside(t, left, &[], name, &variant.payload, true, value),
+    if is_unit(payload) {
+        return Ok(is_text(name, value));
     }
+    beside(t, left, &[], name, payload, true, value)
 }
 
 #[cycle(belongs)]
 fn adjacent<P: Patterns>(
     t: &Table<'_, P>,
     left: u64,
-    adjacent: &Adjacent,
-    variant: &Variant,
+    x: &Adjacent,
+    name: &str,
+    payload: &Payload,
     value: &Value,
 ) -> Result<bool, AllocError>
     ensures { let a = asked t.now.types.now t.now.contract (P.reading t.now.patterns.now) in
-        IfOk result (λ is. is ≡ has_variant_of a left (by_tag_and_content (adjacent_view adjacent.now).0
-        (adjacent_view adjacent.now).1 (adjacent_view adjacent.now).2) (view value.now) (variant_of variant.now)) }
+        IfOk result (λ is. is ≡ has_adjacent a.contract (has a left) (offers a left) (adjacent_view x.now).0 (adjacent_view x.now).1
+        (adjacent_view x.now).2 (view value.now) (variant_in a (bare name.now (payload_of payload.now)))) }
 {
-    let tags = &[tag_given(adjacent.tag.as_str(), variant.name.as_str())];
-    let content = adjacent.content.as_str();
-    let closed = adjacent.closed;
-    match &variant.payload {
-        Payload::Unit => is_map_of(t, left, tags, closed, value),
-        Payload::Newtype(_) => beside(t, left, tags, content, &variant.payload, closed, value),
-        Payload::Tuple(_) => beside(t, left, tags, content, &variant.payload, closed, value),
-        Payload::Struct(_) => beside(t, left, tags, content, &variant.payload, closed, value),
+    let tag = x.tag.as_str();
+    let content = x.content.as_str();
+    if is_unit(payload) {
+        return tag_alone(t, left, tag, name, x.closed, value);
     }
+    tag_beside(t, left, tag, name, content, payload, x.closed, value)
+}
+
+// Whether a value is a map with a name under the tag.
+#[cycle(belongs)]
+fn tag_alone<P: Patterns>(
+    t: &Table<'_, P>,
+    left: u64,
+    tag: &str,
+    name: &str,
+    closed: bool,
+    value: &Value,
+) -> Result<bool, AllocError>
+    ensures { let a = asked t.now.types.now t.now.contract (P.reading t.now.patterns.now) in
+        IfOk result (λ is. is ≡ has_member tag.now (is_text name.now) closed (view value.now)) }
+{
+    is_map_of(t, left, &[tag_given(tag, name)], closed, value)
+}
+
+// The same, with what a variant has under another key.
+#[cycle(belongs)]
+fn tag_beside<P: Patterns>(
+    t: &Table<'_, P>,
+    left: u64,
+    tag: &str,
+    name: &str,
+    content: &str,
+    payload: &Payload,
+    closed: bool,
+    value: &Value,
+) -> Result<bool, AllocError>
+    ensures { let a = asked t.now.types.now t.now.contract (P.reading t.now.patterns.now) in
+        IfOk result (λ is. is ≡ has_beside_of a left (tag_given tag.now name.now ∷ []) content.now (payload_of payload.now) closed
+        (view value.now)) }
+{
+    let tags = &[tag_given(tag, name)];
+    beside(t, left, tags, content, payload, closed, value)
 }
 
 #[cycle(belongs)]
@@ -571,14 +623,7 @@ fn any_internal<P: Patterns>(
         (variants_in a (internal_view internal.now).2)) }
 {
     for variant in &internal.variants {
-        if self::internal(
-            t,
-            left,
-            internal.tag.as_str(),
-            internal.closed,
-            variant,
-            value,
-        )? {
+        if tagged_inside(t, left, internal, variant, value)? {
             return Ok(true);
         }
     }
@@ -586,26 +631,58 @@ fn any_internal<P: Patterns>(
 }
 
 #[cycle(belongs)]
-fn internal<P: Patterns>(
+fn tagged_inside<P: Patterns>(
     t: &Table<'_, P>,
     left: u64,
-    tag: &str,
-    closed: bool,
+    internal: &Internal,
     variant: &InternalVariant,
     value: &Value,
 ) -> Result<bool, AllocError>
     ensures { let a = asked t.now.types.now t.now.contract (P.reading t.now.patterns.now) in
-        IfOk result (λ is. is ≡ has_variant_of a left (by_tag tag.now closed) (view value.now)
-        (internal_variant_of variant.now)) }
+        IfOk result (λ is. is ≡ has_variant_of a left (by_tag (internal_view internal.now).0 (internal_view internal.now).1)
+        (view value.now) (internal_variant_of variant.now)) }
 {
+    let tag = internal.tag.as_str();
     let name = variant.name.as_str();
-    match &variant.payload {
-        InternalPayload::Unit => is_map_of(t, left, &[tag_given(tag, name)], closed, value),
+    inside(t, left, tag, internal.closed, name, &variant.payload, value)
+}
+
+#[cycle(belongs)]
+fn inside<P: Patterns>(
+    t: &Table<'_, P>,
+    left: u64,
+    tag: &str,
+    closed: bool,
+    name: &str,
+    payload: &InternalPayload,
+    value: &Value,
+) -> Result<bool, AllocError>
+    ensures { let a = asked t.now.types.now t.now.contract (P.reading t.now.patterns.now) in
+        IfOk result (λ is. is ≡ has_internal a.contract (has a left) (offers a left) tag.now closed (view value.now)
+        (variant_in a (bare name.now (internal_payload_of payload.now)))) }
+{
+    match payload {
+        InternalPayload::Unit => tag_alone(t, left, tag, name, closed, value),
         InternalPayload::Newtype(n) => content(t, left, tag, name, *n, value),
-        InternalPayload::Struct(fields) => {
-            has_fields(t, left, &[tag_given(tag, name)], fields, value)
-        }
+        InternalPayload::Struct(fields) => has_tagged(t, left, tag, name, fields, value),
     }
+}
+
+// Whether a value is a map with a name under the tag, and with fields and enums beside it.
+#[cycle(belongs)]
+fn has_tagged<P: Patterns>(
+    t: &Table<'_, P>,
+    left: u64,
+    tag: &str,
+    name: &str,
+    fields: &Fields,
+    value: &Value,
+) -> Result<bool, AllocError>
+    ensures { let a = asked t.now.types.now t.now.contract (P.reading t.now.patterns.now) in
+        IfOk result (λ is. is ≡ has_tagged_of a left tag.now name.now (fields_of fields.now) (view value.now)) }
+{
+    let tags = &[tag_given(tag, name)];
+    has_fields(t, left, tags, fields, value)
 }
 
 // Whether a value is a map with a name under the tag, whose other members are a value of row `n`.
@@ -638,21 +715,20 @@ fn content<P: Patterns>(
 fn each_enum<'t, P: Patterns>(
     t: &Table<'t, P>,
     left: u64,
-    enums: &[TypeNo],
+    enums: &Vec<TypeNo>,
     value: &Value,
     claimed: &mut Vec<&'t str>,
 ) -> Result<bool, AllocError>
     ensures one { let a = asked t.now.types.now t.now.contract (P.reading t.now.patterns.now) in
-        IfOk result (λ is. is ≡ every_part (matches_of (offers a left) (map enum_at enums.now) (view value.now))) }
+        IfOk result (λ is. is ≡ every_part (matches_of (offers a left) (map enum_at enums.now.items) (view value.now))) }
     ensures claimed { let a = asked t.now.types.now t.now.contract (P.reading t.now.patterns.now) in
         OnOk result (map (λ k. k.now) claimed.new.items ≡ map (λ k. k.now) claimed.old.items
-        ++ all_claims a left enums.now (view value.now)) }
+        ++ all_claims a left enums.now.items (view value.now)) }
 {
     let mut all = true;
     for n in enums {
-        if !choices(t, left, *n, value, claimed)? {
-            all = false;
-        }
+        let one = choices(t, left, *n, value, claimed)?;
+        all = both(all, one);
     }
     Ok(all)
 }
@@ -714,25 +790,23 @@ fn shape_choices<'t, P: Patterns>(
 fn external_choices<'t, P: Patterns>(
     t: &Table<'t, P>,
     left: u64,
-    variants: &'t [Variant],
+    variants: &'t Vec<Variant>,
     value: &Value,
     claimed: &mut Vec<&'t str>,
 ) -> Result<bool, AllocError>
     ensures one { let a = asked t.now.types.now t.now.contract (P.reading t.now.patterns.now) in
         IfOk result (λ is. is ≡ exactly_one (fits_of (map (external_choice a.contract (has a left) (offers a left) (view value.now))
-        (variants_in a (map variant_of variants.now))))) }
+        (variants_in a (map variant_of variants.now.items))))) }
     ensures claimed { let a = asked t.now.types.now t.now.contract (P.reading t.now.patterns.now) in
         OnOk result (map (λ k. k.now) claimed.new.items ≡ map (λ k. k.now) claimed.old.items
-        ++ external_claims a left (view value.now) (variants_in a (map variant_of variants.now))) }
+        ++ external_claims a left (view value.now) (variants_in a (map variant_of variants.now.items))) }
 {
     let mut seen = Seen::nothing();
     for variant in variants {
         let name = variant.name.as_str();
         let fits = beside(t, left, &[], name, &variant.payload, false, value)?;
         seen = seen.with(fits);
-        if fits {
-            claimed.push(name)?;
-        }
+        claim(fits, name, claimed)?;
     }
     Ok(seen.is_one())
 }
@@ -756,11 +830,11 @@ fn internal_choices<'t, P: Patterns>(
     let mut seen = Seen::nothing();
     let tag = internal.tag.as_str();
     for variant in &internal.variants {
-        let fits = tagged(t, left, tag, variant, value)?;
+        let name = variant.name.as_str();
+        let payload = &variant.payload;
+        let fits = tagged(t, left, tag, name, payload, value)?;
         seen = seen.with(fits);
-        if fits {
-            claim_internal(t.alloc, t.types, t.contract, tag, variant, claimed)?;
-        }
+        claim_internal(t.alloc, t.types, t.contract, fits, tag, payload, claimed)?;
     }
     Ok(seen.is_one())
 }
@@ -771,20 +845,35 @@ fn tagged<P: Patterns>(
     t: &Table<'_, P>,
     left: u64,
     tag: &str,
-    variant: &InternalVariant,
+    name: &str,
+    payload: &InternalPayload,
     value: &Value,
 ) -> Result<bool, AllocError>
     ensures { let a = asked t.now.types.now t.now.contract (P.reading t.now.patterns.now) in
         IfOk result (λ is. is ≡ is_tagged_map a.contract (has a left) tag.now (view value.now)
-        (variant_in a (internal_variant_of variant.now))) }
+        (variant_in a (bare name.now (internal_payload_of payload.now)))) }
 {
-    let tags = &[tag_given(tag, variant.name.as_str())];
-    match &variant.payload {
-        InternalPayload::Unit => is_map_of(t, left, tags, false, value),
+    match payload {
+        InternalPayload::Unit => tag_alone(t, left, tag, name, false, value),
         InternalPayload::Newtype(_) => Ok(false),
-        InternalPayload::Struct(fields) => {
-            let list = field_members(t.alloc, t.types, t.contract, tags, fields)?;
-            is_map_of(t, left, &list, false, value)
-        }
+        InternalPayload::Struct(fields) => tagged_fields(t, left, tag, name, fields, value),
     }
+}
+
+#[cycle(belongs)]
+fn tagged_fields<P: Patterns>(
+    t: &Table<'_, P>,
+    left: u64,
+    tag: &str,
+    name: &str,
+    fields: &Fields,
+    value: &Value,
+) -> Result<bool, AllocError>
+    ensures { let a = asked t.now.types.now t.now.contract (P.reading t.now.patterns.now) in
+        IfOk result (λ is. is ≡ has_tagged a.contract (has a left) [] tag.now
+        (effective (flattened_in a.rows) (fields_of fields.now)) false name.now (view value.now)) }
+{
+    let tags = &[tag_given(tag, name)];
+    let list = field_members(t.alloc, t.types, t.contract, tags, fields)?;
+    is_map_of(t, left, &list, false, value)
 }

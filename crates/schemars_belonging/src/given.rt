@@ -1,13 +1,14 @@
 //! The members that a map may have.
-ghost use Rattle.std.specs.Prelude.{◌≡◌, map, option_map, is_some, IfOk};
+ghost use Rattle.std.specs.Prelude.{◌≡◌, ◌&&◌, bytes_eq, map, option_map, is_some, IfOk};
 ghost use Rattle.serde_json.specs.Data.{object};
 ghost use Rattle.serde_json.specs.Find.{get_member};
 ghost use Rattle.schemars_types.specs.Meaning.{holds, is_text};
 ghost use Rattle.serde_json.specs.View.{view, members_view};
 ghost use Rattle.schemars_schema.specs.Edits.{without};
-ghost use Rattle.schemars_belonging.specs.Asked.{given_of, given_named, has_each_given, tag_given, needed};
+ghost use Rattle.schemars_belonging.specs.Asked.{given_of, given_named, has_each_given, tag_given, needed, allows};
 
 use crate::scalars::is_text;
+use schemars_schema::edits::is_listed;
 use schemars_types::TypeNo;
 use serde_json::{Map, Value};
 use std::alloc::AllocError;
@@ -63,6 +64,20 @@ pub fn given_named<'g, 't>(list: &'g [Given<'t>], key: &str) -> Option<&'g Given
     None
 }
 
+/// Whether a member may have a key that is not given.
+pub fn is_allowed(closed: bool, claimed: &[&str], key: &str) -> bool
+    ensures { result ≡ allows closed (map (λ k. k.now) claimed.now) key.now }
+{
+    is_listed(key, claimed) || !closed
+}
+
+/// Whether two texts are the same.
+pub fn is_same(a: &str, b: &str) -> bool
+    ensures { result ≡ bytes_eq a.now b.now }
+{
+    a == b
+}
+
 /// Whether each member is there that has to be.
 pub fn has_each(list: &[Given<'_>], members: &Map<String, Value>) -> bool
     ensures { result ≡ has_each_given (map given_of list.now) (members_view members.now.entries) }
@@ -75,8 +90,16 @@ pub fn has_each(list: &[Given<'_>], members: &Map<String, Value>) -> bool
     true
 }
 
-/// Whether a map has a key.
-pub fn is_there(members: &Map<String, Value>, key: &str) -> bool
+/// The same, with one more member that has to be there.
+pub fn has_each_with(list: &[Given<'_>], members: &Map<String, Value>, name: &str) -> bool
+    ensures { result ≡ (has_each_given (map given_of list.now) (members_view members.now.entries)
+        && is_some (get_member name.now (members_view members.now.entries))) }
+{
+    has_each(list, members) && is_there(members, name)
+}
+
+// Whether a map has a key.
+fn is_there(members: &Map<String, Value>, key: &str) -> bool
     ensures { result ≡ is_some (get_member key.now (members_view members.now.entries)) }
 {
     member(members, key).is_some()

@@ -78,7 +78,7 @@ fn either_integers(a: Option<IntegerKeys>, b: Option<IntegerKeys>) -> Option<Int
 }
 
 /// Whether a map may have a key whose keys are of row `n`.
-#[tactic(auto, using(crate::proofs::KeyOptions::allowed_key))]
+#[tactic(auto, using(crate::proofs::KeyOptions::any_key))]
 pub fn is_key_allowed<P: Patterns>(types: &Types, patterns: &P, n: TypeNo, key: &str) -> bool
     ensures { result ≡ is_key_allowed (P.reading patterns.now) (key_options types.now n) key.now }
 {

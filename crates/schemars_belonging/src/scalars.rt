@@ -4,7 +4,7 @@ ghost use Rattle.serde_json.specs.Data.{unsigned};
 ghost use Rattle.serde_json.specs.Find.{as_str, as_array};
 ghost use Rattle.serde_json.specs.View.{view, number_view, items_view};
 ghost use Rattle.schemars_schema.specs.Json.{is_among, are_distinct};
-ghost use Rattle.schemars_schema.specs.Acceptance.{code_points, whole_number};
+ghost use Rattle.schemars_schema.specs.Acceptance.{code_points, is_null, whole_number};
 ghost use Rattle.schemars_types.specs.Meaning.{holds, every_item, is_byte, is_byte_text, is_of_kind, is_text, is_zero, least_of, greatest_of};
 ghost use Rattle.schemars_schema.specs.Numbers.{number_eq};
 ghost use Rattle.schemars_belonging.specs.Asked.{within};
@@ -14,6 +14,13 @@ use schemars_schema::{json_eq, numbers_eq};
 use schemars_types::{Contract, IntKind};
 use schemars_validate::{is_whole, numbers_le};
 use serde_json::{Number, Value};
+
+/// Whether a value is null.
+pub fn is_null(value: &Value) -> bool
+    ensures { result ≡ is_null (view value.now) }
+{
+    value.is_null()
+}
 
 /// Whether a value is a whole number of a kind.
 #[tactic(auto, using(crate::proofs::OfKind::of_kind))]
@@ -33,9 +40,16 @@ pub fn is_non_zero(kind: IntKind, value: &Value) -> bool
         (λ z. is_of_kind kind z && not (is_zero z)) }
 {
     match value.as_number() {
-        Some(number) => is_number_of_kind(kind, *number) && !is_zero(*number),
+        Some(number) => is_number_not_zero(kind, *number),
         None => false,
     }
+}
+
+fn is_number_not_zero(kind: IntKind, number: Number) -> bool
+    ensures { result ≡ (is_number_of_kind kind (number_view number)
+        && not (number_eq (unsigned 0) (number_view number))) }
+{
+    is_number_of_kind(kind, number) && !is_zero(number)
 }
 
 fn is_number_of_kind(kind: IntKind, number: Number) -> bool

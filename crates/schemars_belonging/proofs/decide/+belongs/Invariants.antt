@@ -1,6 +1,8 @@
 -- What is left of a list decides, with what is known so far. At each step fewer functions can be called before the next row is asked.
 use Rattle.std.proofs.Common.{◌≡◌, ◌+◌, ◌*◌, ◌++◌, ◌∷◌, [], map, drop}
-use Rattle.std.specs.Prelude.{◌&&◌, not}
+use Rattle.std.specs.Prelude.{◌&&◌, not, Bool}
+use Rattle.serde_json.specs.Data.{Data}
+use Rattle.schemars_schema.specs.Json.{Text}
 use Rattle.std.specs.List.{list_any}
 use Rattle.std.specs.Slice.Iter.{iter_rest}
 use Rattle.serde_json.specs.View.{view, items_view, members_view}
@@ -50,11 +52,17 @@ decreases-are_members g l = 30 * l.left + 3
 abbrev pub decreases-is_map_of : goal.decreases-is_map_of
 decreases-is_map_of g l = 30 * l.left + 4
 
+abbrev pub decreases-has_member : goal.decreases-has_member
+decreases-has_member g l = 30 * l.left + 5
+
 abbrev pub decreases-one_of : goal.decreases-one_of
-decreases-one_of g l = 30 * l.left + 5
+decreases-one_of g l = 30 * l.left + 6
 
 abbrev pub decreases-bound : goal.decreases-bound
-decreases-bound g l = 30 * l.left + 5
+decreases-bound g l = 30 * l.left + 6
+
+abbrev pub decreases-range : goal.decreases-range
+decreases-range g l = 30 * l.left + 5
 
 abbrev pub decreases-each_enum : goal.decreases-each_enum
 decreases-each_enum g l = 30 * l.left + 1
@@ -62,44 +70,62 @@ decreases-each_enum g l = 30 * l.left + 1
 abbrev pub decreases-has_fields : goal.decreases-has_fields
 decreases-has_fields g l = 30 * l.left + 4
 
+abbrev pub decreases-tag_alone : goal.decreases-tag_alone
+decreases-tag_alone g l = 30 * l.left + 5
+
+abbrev pub decreases-has_tagged : goal.decreases-has_tagged
+decreases-has_tagged g l = 30 * l.left + 5
+
+abbrev pub decreases-tagged_fields : goal.decreases-tagged_fields
+decreases-tagged_fields g l = 30 * l.left + 5
+
 abbrev pub decreases-payload : goal.decreases-payload
 decreases-payload g l = 30 * l.left + 5
 
+abbrev pub decreases-last : goal.decreases-last
+decreases-last g l = 30 * l.left + 6
+
 abbrev pub decreases-one_beside : goal.decreases-one_beside
-decreases-one_beside g l = 30 * l.left + 6
+decreases-one_beside g l = 30 * l.left + 7
 
 abbrev pub decreases-beside : goal.decreases-beside
-decreases-beside g l = 30 * l.left + 7
+decreases-beside g l = 30 * l.left + 8
+
+abbrev pub decreases-tag_beside : goal.decreases-tag_beside
+decreases-tag_beside g l = 30 * l.left + 9
 
 abbrev pub decreases-external : goal.decreases-external
-decreases-external g l = 30 * l.left + 8
+decreases-external g l = 30 * l.left + 9
 
 abbrev pub decreases-adjacent : goal.decreases-adjacent
-decreases-adjacent g l = 30 * l.left + 8
+decreases-adjacent g l = 30 * l.left + 10
 
 abbrev pub decreases-variant : goal.decreases-variant
-decreases-variant g l = 30 * l.left + 9
+decreases-variant g l = 30 * l.left + 11
 
 abbrev pub decreases-any_variant : goal.decreases-any_variant
-decreases-any_variant g l = 30 * l.left + 10
+decreases-any_variant g l = 30 * l.left + 12
 
-abbrev pub decreases-tagged : goal.decreases-tagged
-decreases-tagged g l = 30 * l.left + 5
+abbrev pub decreases-inside : goal.decreases-inside
+decreases-inside g l = 30 * l.left + 6
 
-abbrev pub decreases-internal_choices : goal.decreases-internal_choices
-decreases-internal_choices g l = 30 * l.left + 6
-
-abbrev pub decreases-external_choices : goal.decreases-external_choices
-decreases-external_choices g l = 30 * l.left + 8
-
-abbrev pub decreases-shape_choices : goal.decreases-shape_choices
-decreases-shape_choices g l = 30 * l.left + 9
-
-abbrev pub decreases-internal : goal.decreases-internal
-decreases-internal g l = 30 * l.left + 5
+abbrev pub decreases-tagged_inside : goal.decreases-tagged_inside
+decreases-tagged_inside g l = 30 * l.left + 7
 
 abbrev pub decreases-any_internal : goal.decreases-any_internal
-decreases-any_internal g l = 30 * l.left + 6
+decreases-any_internal g l = 30 * l.left + 8
+
+abbrev pub decreases-tagged : goal.decreases-tagged
+decreases-tagged g l = 30 * l.left + 6
+
+abbrev pub decreases-internal_choices : goal.decreases-internal_choices
+decreases-internal_choices g l = 30 * l.left + 7
+
+abbrev pub decreases-external_choices : goal.decreases-external_choices
+decreases-external_choices g l = 30 * l.left + 9
+
+abbrev pub decreases-shape_choices : goal.decreases-shape_choices
+decreases-shape_choices g l = 30 * l.left + 10
 
 abbrev pub decreases-shape : goal.decreases-shape
 decreases-shape g l = 30 * l.left + 29
@@ -123,7 +149,7 @@ invariant-are_members-loop-key g l =
 abbrev pub invariant-has_keys-loop-name : goal.invariant-has_keys-loop-name
 invariant-has_keys-loop-name g l =
     let a = asked l.t.types.now l.t.contract (g.P.Patterns.reading l.t.patterns.now) in
-    let says = λ k w. is_key_allowed a.patterns (key_options a.rows l.key) k && has a l.left l.n w in
+    let says : Text → Data → Bool = λ k w. is_key_allowed a.patterns (key_options a.rows l.key) k && has a l.left l.n w in
     every_member says (members_view l.name-iterator) ≡ every_member says (members_view l.members.entries)
 
 abbrev pub invariant-beside-loop-key : goal.invariant-beside-loop-key
@@ -137,8 +163,8 @@ abbrev pub invariant-any_variant-loop-variant : goal.invariant-any_variant-loop-
 invariant-any_variant-loop-variant g l =
     let a = asked l.t.types.now l.t.contract (g.P.Patterns.reading l.t.patterns.now) in
     let passes = has_variant a.contract (has a l.left) (offers a l.left) (tagging_of l.by) (view l.value) in
-    list_any passes (variants_in a (map variant_of (drop l.variant-index l.variants)))
-    ≡ list_any passes (variants_in a (map variant_of l.variants))
+    list_any passes (variants_in a (map variant_of (drop l.variant-index l.variant-items)))
+    ≡ list_any passes (variants_in a (map variant_of l.variants.items))
 
 abbrev pub invariant-any_internal-loop-variant : goal.invariant-any_internal-loop-variant
 invariant-any_internal-loop-variant g l =
@@ -152,10 +178,10 @@ abbrev pub invariant-each_enum-loop-n : goal.invariant-each_enum-loop-n
 invariant-each_enum-loop-n g l =
     let a = asked l.t.types.now l.t.contract (g.P.Patterns.reading l.t.patterns.now) in
     let v = view l.value in record {
-      one : (l.all && every_part (matches_of (offers a l.left) (map enum_at (drop l.n-index l.enums)) v))
-          ≡ every_part (matches_of (offers a l.left) (map enum_at l.enums) v);
-      claims : map (λ k. k.now) l.claimed.items ++ all_claims a l.left (drop l.n-index l.enums) v
-          ≡ map (λ k. k.now) l.fn.claimed.items ++ all_claims a l.left l.enums v;
+      one : (l.all && every_part (matches_of (offers a l.left) (map enum_at (drop l.n-index l.n-items)) v))
+          ≡ every_part (matches_of (offers a l.left) (map enum_at l.enums.items) v);
+      claims : map (λ k. k.now) l.claimed.items ++ all_claims a l.left (drop l.n-index l.n-items) v
+          ≡ map (λ k. k.now) l.fn.claimed.items ++ all_claims a l.left l.enums.items v;
     }
 
 abbrev pub invariant-external_choices-loop-variant : goal.invariant-external_choices-loop-variant
@@ -163,10 +189,10 @@ invariant-external_choices-loop-variant g l =
     let a = asked l.t.types.now l.t.contract (g.P.Patterns.reading l.t.patterns.now) in
     let v = view l.value in
     let choice = external_choice a.contract (has a l.left) (offers a l.left) v in record {
-      one : one_of_seen l.seen.one l.seen.more (fits_of (map choice (variants_in a (map variant_of (drop l.variant-index l.variants)))))
-          ≡ exactly_one (fits_of (map choice (variants_in a (map variant_of l.variants))));
-      claims : map (λ k. k.now) l.claimed.items ++ external_claims a l.left v (variants_in a (map variant_of (drop l.variant-index l.variants)))
-          ≡ map (λ k. k.now) l.fn.claimed.items ++ external_claims a l.left v (variants_in a (map variant_of l.variants));
+      one : one_of_seen l.seen.one l.seen.more (fits_of (map choice (variants_in a (map variant_of (drop l.variant-index l.variant-items)))))
+          ≡ exactly_one (fits_of (map choice (variants_in a (map variant_of l.variants.items))));
+      claims : map (λ k. k.now) l.claimed.items ++ external_claims a l.left v (variants_in a (map variant_of (drop l.variant-index l.variant-items)))
+          ≡ map (λ k. k.now) l.fn.claimed.items ++ external_claims a l.left v (variants_in a (map variant_of l.variants.items));
     }
 
 abbrev pub invariant-internal_choices-loop-variant : goal.invariant-internal_choices-loop-variant

@@ -5,4 +5,4 @@ use Rattle.schemars_schema.proofs.MapEdits.{members_view-remove_entry}
 use Rattle.schemars_belonging.proofs.given.remove.Goals as goal
 
 pub returns : goal.returns
-returns c = ap members_view c.remove.ensures.entries ∙ members_view-remove_entry c.args.key.now c.args.members.now.entries
+returns c = ap members_view c.remove-removed.ensures.entries ∙ members_view-remove_entry c.args.key.now c.args.members.now.entries
