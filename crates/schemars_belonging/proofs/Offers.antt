@@ -1,5 +1,6 @@
 -- The keys that variants claim which fit.
-use Rattle.std.proofs.Common.{◌≡◌, ℕ, zero, suc, List, [], ◌∷◌, ◌++◌, Option, Some, None, Bool, true, false, refl, sym, ap, ◌∙◌, map, append_assoc}
+use Rattle.std.proofs.Common.{◌≡◌, ℕ, zero, suc, List, [], ◌∷◌, ◌++◌, Option, Some, None, Bool, true, false, refl, sym, ap, ◌∙◌, map, append_assoc, drop, get_or, length, ◌<◌, ◌+◌}
+use Rattle.std.proofs.lemmas.List.{drop_more}
 use Rattle.std.specs.Prelude.{◌&&◌, ◌||◌, is_some, bytes_eq, if◌then◌else◌, find}
 use Rattle.std.specs.List.{list_any}
 use Rattle.serde_json.specs.Data.{Data}
@@ -10,8 +11,8 @@ use Rattle.schemars_schema.specs.Json.{Text}
 use Rattle.schemars_shapes.specs.Shape.{Shape, Entry, Field, Variant, enum, by_name, by_tag}
 use Rattle.schemars_types.specs.Rows.{entry_at}
 use Rattle.schemars_types.specs.Effective.{enum_at, expanded_shape_in}
-use Rattle.schemars_types.specs.Meaning.{VariantMatch, field_named, tagged_fields, claimed_by, is_key_of_match, matches_of, external_choice, internal_choice, shape_choices, choices_within}
-use Rattle.schemars_belonging.specs.Asked.{Asked, has, offers, claimed, shape_claims, claims, all_claims}
+use Rattle.schemars_types.specs.Meaning.{VariantMatch, exactly_one, every_part, field_named, tagged_fields, claimed_by, is_key_of_match, matches_of, external_choice, internal_choice, shape_choices, choices_within}
+use Rattle.schemars_belonging.specs.Asked.{Asked, has, offers, claimed, shape_claims, claims, all_claims, fits_of}
 
 or_false : (b : Bool) → b || false ≡ b
 or_false true = refl
@@ -79,3 +80,20 @@ next_part all new x one rest whole is same before =
     and_assoc : (a b c : Bool) → a && (b && c) ≡ (a && b) && c
     and_assoc true b c = refl
     and_assoc false b c = refl
+
+module _ (a : Asked) (steps : ℕ) (v : Data) (ns : List ℕ) (i d : ℕ) (below : i < length ns) where
+  abbrev parts : List ℕ → Bool
+  parts ms = every_part (matches_of (offers a steps) (map enum_at ms) v)
+
+  pub next_enum : (all new x whole : Bool) → new ≡ all && x → x ≡ exactly_one (fits_of (offers a steps (get_or ns i d) v))
+      → all && parts (drop i ns) ≡ whole → new && parts (drop (i + 1) ns) ≡ whole
+  next_enum all new x whole is same before =
+      next_part all new x (exactly_one (fits_of (offers a steps (get_or ns i d) v))) (parts (drop (i + 1) ns)) whole is same
+      (sym (ap (λ (ms : List ℕ). all && parts ms) (drop_more ns i d below)) ∙ before)
+
+  pub next_enum_claims : (found grown whole : List Text) → grown ≡ found ++ claims a steps (get_or ns i d) v
+      → found ++ all_claims a steps (drop i ns) v ≡ whole → grown ++ all_claims a steps (drop (i + 1) ns) v ≡ whole
+  next_enum_claims found grown whole is before =
+      ap (λ ts. ts ++ all_claims a steps (drop (i + 1) ns) v) is
+      ∙ (append_assoc found (claims a steps (get_or ns i d) v) (all_claims a steps (drop (i + 1) ns) v)
+      ∙ (sym (ap (λ (ms : List ℕ). found ++ all_claims a steps ms v) (drop_more ns i d below)) ∙ before))

@@ -1,5 +1,5 @@
 -- Each part answers what its contract says.
-use Rattle.std.proofs.Common.{◌≡◌, ◌∙◌, ◌+◌, ◌-◌, ◌++◌, ◌∷◌, [], ℕ, suc, drop, append_assoc, List, Bool, true, false, refl, sym, ap, map, arith, Option}
+use Rattle.std.proofs.Common.{◌≡◌, ◌∙◌, ◌+◌, ◌-◌, ◌++◌, ◌∷◌, [], ℕ, suc, drop, get_or, List, Bool, true, false, refl, sym, ap, map, arith, Option}
 use Rattle.std.specs.Prelude.{◌&&◌, ◌||◌, not, if◌then◌else◌}
 use Rattle.std.proofs.lemmas.Result.{on_ok_weaker}
 use Rattle.std.proofs.lemmas.List.{drop_more}
@@ -13,13 +13,13 @@ use Rattle.schemars_shapes.specs.Shape.{Variant, fields_of, flattened_of, payloa
 use Rattle.schemars_shapes.specs.declared.variant.Variant as src
 use Rattle.schemars_shapes.specs.declared.variant.InternalVariant as inside
 use Rattle.schemars_types.specs.Effective.{enum_at, effective, flattened_in, flattened_enums, part_enums}
-use Rattle.schemars_types.specs.Meaning.{VariantMatch, every_member, exactly_one, has_each, must_have, holds, are_members, every_part, matches_of, external_choice, internal_choice, is_tagged_map, tagged_fields, has_member, has_members, is_text, each_of}
+use Rattle.schemars_types.specs.Meaning.{VariantMatch, every_member, exactly_one, has_each, must_have, holds, are_members, every_part, matches_of, external_choice, internal_choice, is_tagged_map, tagged_fields, has_member, has_members, is_text, each_of, has_external, has_adjacent}
 use Rattle.schemars_belonging.specs.Asked.{Given, asked, bare, payload_in, variant_in, field_given, tag_given, has_beside_of, has_fields_of, has, offers, has_payload_of, given_of, member_of, member_says, allows, variants_in, claims, all_claims, external_claims, internal_claims, fits_of, one_of_seen}
 use Rattle.schemars_belonging.proofs.Rows.{has_none, has_row, has_no_row, offers_none, offers_row, offers_no_row, claims_row, claims_no_row, adds_nothing, answered}
 use Rattle.schemars_belonging.proofs.Members.{says_given, says_other, each_given, beside_given, beside_none, each_beside}
 use Rattle.schemars_belonging.proofs.Variants.{external_unit, external_other, adjacent_unit, adjacent_other}
 use Rattle.schemars_validate.proofs.Stepping.{no_items_there}
-use Rattle.schemars_belonging.proofs.Offers.{next_part, next_claims}
+use Rattle.schemars_belonging.proofs.Offers.{next_enum, next_enum_claims, next_claims}
 use Rattle.schemars_belonging.proofs.Fitting.{fields_mean, tagged_mean, alone_mean, fields_fit}
 use Rattle.schemars_belonging.proofs.decide.+belongs.Goals as goal
 
@@ -274,7 +274,8 @@ has_fields-returns g t c =
     c.in_ok-enums.enums.items c.in-Some.ensures enums
     (map given_of c.deref-2.result.now) (map (λ k. k.now) c.deref-3.result.now)
     (sym c.if-not-fits.false ∙ c.in_ok-fits.ensures.one)
-    (ap (λ ks. map (λ k. k.now) ks) c.deref-3.ensures.value ∙ c.in_ok-fits.ensures.claimed)
+    (ap (λ ks. map (λ k. k.now) ks) c.deref-3.ensures.value ∙ (c.in_ok-fits.ensures.claimed
+    ∙ ap (λ ks. map (λ k. k.now) ks ++ all_claims a c.args.left c.in_ok-enums.enums.items v) c.new-claimed.ensures.items))
     (ap (λ gs. map given_of gs) c.deref-2.ensures.value ∙ c.in_ok-list.ensures)) c.are_members.ensures
 
 pub each_of-returns-in_default : goal.each_of-returns-in_default
@@ -284,10 +285,29 @@ each_of-returns-in_default g t c =
     let ns = c.args.rows.now in
     let i = c.loop-n.n-index in
     let rest = drop (i + 1) ns in
-    let here = drop_more ns i c.n-item.result c.loop-n-test.true ∙ ap (λ n. n ∷ rest) (sym c.n-item.is) in
+    let here = drop_more ns i 0 c.loop-n-test.true in
     let none = no_items_there (iter_rest c.loop-n.others) c.in_default.ensures.steps.0 in
-    sym (ap (λ (xs : List Value). each_of P (c.n-item.result ∷ rest) (items_view xs)) none)
+    sym (ap (λ (xs : List Value). each_of P (get_or ns i 0 ∷ rest) (items_view xs)) none)
     ∙ (sym (ap (λ ms. each_of P ms (items_view (iter_rest c.loop-n.others))) here) ∙ c.loop-n.invariant)
+
+pub variant-returns-in-Name : goal.variant-returns-in-Name
+variant-returns-in-Name g t c =
+    let a = asked c.args.t.now.types.now c.args.t.now.contract (g.P.Patterns.reading c.args.t.now.patterns.now) in
+    let v = view c.args.value.now in
+    let p = payload_of c.args.variant.now.payload in
+    rw c.in-Name.is (answered c.external.result _ _
+    (ap (λ (k : Text). has_external a.contract (has a c.args.left) (offers a c.args.left) v (variant_in a (bare k p))) c.as_str-name.ensures.value)
+    c.external.ensures)
+
+pub variant-returns-in-Content : goal.variant-returns-in-Content
+variant-returns-in-Content g t c =
+    let a = asked c.args.t.now.types.now c.args.t.now.contract (g.P.Patterns.reading c.args.t.now.patterns.now) in
+    let v = view c.args.value.now in
+    let p = payload_of c.args.variant.now.payload in
+    let x = adjacent_view c.in-Content.x.now in
+    rw c.in-Content.is (answered c.adjacent.result _ _
+    (ap (λ (k : Text). has_adjacent a.contract (has a c.args.left) (offers a c.args.left) x.0 x.1 x.2 v (variant_in a (bare k p)))
+    c.as_str-name.ensures.value) c.adjacent.ensures)
 
 -- ---- one variant more
 
@@ -296,17 +316,11 @@ each_enum-loop-n-preserved g t c =
     let a = asked c.args.t.now.types.now c.args.t.now.contract (g.P.Patterns.reading c.args.t.now.patterns.now) in
     let v = view c.args.value.now in
     let ns = c.deref-n-items.result.now in
-    let i = c.loop-n.n-index in
-    let rest = drop (i + 1) ns in
-    let here = drop_more ns i c.n-item.result c.loop-n-test.true ∙ ap (λ n. n ∷ rest) (sym c.n-item.is) in
-    let parts : List ℕ → Bool = λ ms. every_part (matches_of (offers a c.args.left) (map enum_at ms) v) in
-    let found = map (λ k. k.now) c.loop-n.claimed.items in
     record {
-      one = next_part c.loop-n.all c.both-all.result _ _ (parts rest) _ c.both-all.ensures c.in_ok-one.ensures.one
-          (sym (ap (λ (ms : List ℕ). c.loop-n.all && parts ms) here) ∙ c.loop-n.invariant.one);
-      claims = ap (λ ts. ts ++ all_claims a c.args.left rest v) c.in_ok-one.ensures.claimed
-          ∙ (append_assoc found (claims a c.args.left c.n-item.result v) (all_claims a c.args.left rest v)
-          ∙ (sym (ap (λ (ms : List ℕ). found ++ all_claims a c.args.left ms v) here) ∙ c.loop-n.invariant.claims));
+      one = next_enum a c.args.left v ns c.loop-n.n-index _ c.loop-n-test.true c.loop-n.all c.both-all.result _ _ c.both-all.ensures
+          c.in_ok-one.ensures.one c.loop-n.invariant.one;
+      claims = next_enum_claims a c.args.left v ns c.loop-n.n-index _ c.loop-n-test.true (map (λ k. k.now) c.loop-n.claimed.items) _ _
+          c.in_ok-one.ensures.claimed c.loop-n.invariant.claims;
     }
 
 pub external_choices-loop-variant-preserved : goal.external_choices-loop-variant-preserved

@@ -9,7 +9,7 @@ use Rattle.serde_json.specs.View.{view, items_view, members_view}
 use Rattle.schemars_shapes.specs.Shape.{by_tag, payload_of, variant_of, internal_variant_of, internal_view}
 use Rattle.schemars_types.specs.KeyOptions.{key_options, is_key_allowed}
 use Rattle.schemars_types.specs.Effective.{enum_at}
-use Rattle.schemars_types.specs.Meaning.{every_item, each_of, every_member, every_part, matches_of, has_variant, external_choice, internal_choice, exactly_one, must_have}
+use Rattle.schemars_types.specs.Meaning.{every_item, each_of, every_member, every_part, has_keys, matches_of, has_variant, external_choice, internal_choice, exactly_one, must_have}
 use Rattle.schemars_belonging.specs.Asked.{asked, has, offers, has_payload_of, variants_in, given_of, member_of, member_says, allows, all_claims, external_claims, internal_claims, fits_of, one_of_seen, tagging_of}
 use Rattle.schemars_belonging.proofs.decide.+belongs.Given as goal
 
@@ -150,7 +150,7 @@ abbrev pub invariant-has_keys-loop-name : goal.invariant-has_keys-loop-name
 invariant-has_keys-loop-name g l =
     let a = asked l.t.types.now l.t.contract (g.P.Patterns.reading l.t.patterns.now) in
     let says : Text → Data → Bool = λ k w. is_key_allowed a.patterns (key_options a.rows l.key) k && has a l.left l.n w in
-    every_member says (members_view l.name-iterator) ≡ every_member says (members_view l.members.entries)
+    every_member says (members_view l.name-iterator) ≡ has_keys a.patterns (key_options a.rows l.key) (has a l.left l.n) (view l.value)
 
 abbrev pub invariant-beside-loop-key : goal.invariant-beside-loop-key
 invariant-beside-loop-key g l =
