@@ -1,5 +1,5 @@
 -- A number that is a count, compared with another.
-use Rattle.std.proofs.Common.{◌≡◌, ℕ, ℤ, pos, negsuc, true, false, refl, sym, true≢false, Option, Some, None, nat_le}
+use Rattle.std.proofs.Common.{◌≡◌, ℕ, ℤ, pos, negsuc, true, refl, sym, true≢false, Option, Some, None, nat_le}
 use Rattle.std.specs.Prelude.{is_some, option_and_then}
 use Rattle.serde_json.specs.Data.{Num, unsigned}
 use Rattle.schemars_schema.specs.Numbers.{number_le, whole_of}

@@ -1,13 +1,13 @@
 -- Maps with fields, and with enums among their members.
-use Rattle.std.proofs.Common.{◌≡◌, ℕ, List, [], ◌∷◌, ◌++◌, Option, Some, None, Bool, true, false, refl, sym, ap, ◌∙◌, map}
+use Rattle.std.proofs.Common.{◌≡◌, ℕ, List, [], ◌∷◌, ◌++◌, Option, Some, Bool, true, false, ap, ◌∙◌, map}
 use Rattle.std.specs.Prelude.{◌&&◌, not}
 use Rattle.serde_json.specs.Data.{Data, Members}
 use Rattle.serde_json.specs.Find.{as_object}
 use Rattle.schemars_text.specs.OrderedText.{is_listed}
 use Rattle.schemars_schema.specs.Json.{Text}
-use Rattle.schemars_shapes.specs.Shape.{Fields, Flattened}
+use Rattle.schemars_shapes.specs.Shape.{Fields}
 use Rattle.schemars_types.specs.Effective.{effective, flattened_in, flattened_enums, part_enums, enum_at}
-use Rattle.schemars_types.specs.Meaning.{Member, VariantMatch, holds, every_part, matches_of, are_members, has_members, has_members_with, has_fields, has_tagged, tag_member, field_member, excludes_key, is_key_of_match}
+use Rattle.schemars_types.specs.Meaning.{Member, VariantMatch, holds, every_part, matches_of, are_members, has_members, has_members_with, has_fields, has_tagged, tag_member, excludes_key, is_key_of_match}
 use Rattle.schemars_belonging.specs.Asked.{Asked, Given, has, offers, member_of, field_given, tag_given, allows, all_claims, has_fields_of}
 use Rattle.schemars_belonging.proofs.Members.{field_members}
 use Rattle.schemars_belonging.proofs.Offers.{all_listed}
@@ -41,17 +41,6 @@ module _ (a : Asked) (steps : ℕ) (x : Fields) (v : Data) where
     parts_are : matches_of (offers a steps) (map enum_at ns) v ≡ offered a steps x v
     parts_are = ap (λ (ms : List ℕ). matches_of (offers a steps) (map enum_at ms) v) enums
 
-    pub fields_unfit : false ≡ every_part (matches_of (offers a steps) (map enum_at ns) v) → false ≡ has_fields_of a steps tags x v
-    fields_unfit none =
-        ap (λ b. b && are_members members others ms) (none ∙ ap every_part parts_are)
-        ∙ ap (λ (o : Option Members). holds o (λ ws. every_part (offered a steps x v) && are_members members others ws)) object
-      where
-        members : List Member
-        members = map (member_of a steps) (tags ++ map (field_given true a.contract) (effective (flattened_in a.rows) x))
-
-        others : Text → Bool
-        others k = not (excludes_key x.closed (offered a steps x v) k)
-
     pub fields_fit : (gs : List Given) (ks : List Text) → true ≡ every_part (matches_of (offers a steps) (map enum_at ns) v)
         → ks ≡ all_claims a steps ns v → gs ≡ tags ++ map (field_given true a.contract) (effective (flattened_in a.rows) x)
         → are_members (map (member_of a steps) gs) (allows x.closed ks) ms ≡ has_fields_of a steps tags x v
@@ -67,4 +56,5 @@ module _ (a : Asked) (steps : ℕ) (x : Fields) (v : Data) where
         others k = not (excludes_key x.closed (offered a steps x v) k)
 
         listed : (k : Text) → is_listed k ks ≡ is_key_of_match (offered a steps x v) k
-        listed k = ap (is_listed k) claimed ∙ (all_listed a steps ns v k ∙ ap (λ (cs : List (List VariantMatch)). is_key_of_match cs k) parts_are)
+        listed k = ap (is_listed k) claimed ∙ (all_listed a steps ns v k
+            ∙ ap (λ (cs : List (List VariantMatch)). is_key_of_match cs k) parts_are)

@@ -1,5 +1,5 @@
 -- What the options of a row say of a key.
-use Rattle.std.proofs.Common.{◌≡◌, ℕ, suc, List, [], ◌∷◌, ◌++◌, Option, Some, None, Bool, true, false, refl, sym, ap, ◌∙◌, option_map, length, true≢false}
+use Rattle.std.proofs.Common.{◌≡◌, ℕ, suc, List, [], ◌∷◌, Option, Some, None, Bool, true, false, refl, sym, ap, ◌∙◌, option_map, length, true≢false}
 use Rattle.std.specs.Prelude.{◌||◌, not, filter, bytes_eq, option_and_then, is_some, if◌then◌else◌}
 use Rattle.std.specs.List.{list_any}
 use Rattle.std.specs.Option.{option_map_or}
@@ -18,8 +18,8 @@ use Rattle.schemars_shapes.specs.IntegerKeys.{pattern_of}
 use Rattle.schemars_shapes.specs.declared.shape.IntegerKeys.{IntegerKeys}
 use Rattle.schemars_shapes.specs.declared.shape.IntegerKeys.TheVariants.{Unsigned, Signed}
 use Rattle.schemars_types.specs.Rows.{Row, entry_at}
-use Rattle.schemars_types.specs.KeyOptions.{KeyOptions, keys, any_text, either_options, either_integers, is_key_allowed, key_options, all_options, options_within, shape_options, once, distinct_options, or_any_text, texts_options}
-use Rattle.schemars_belonging.specs.Keys.{Said, said, said_by, either_said, any_said, nothing_said, allowed}
+use Rattle.schemars_types.specs.KeyOptions.{KeyOptions, keys, any_text, either_options, either_integers, is_key_allowed, key_options, options_within, shape_options, once, distinct_options, or_any_text, texts_options}
+use Rattle.schemars_belonging.specs.Keys.{Said, said, said_by, either_said, nothing_said, allowed}
 
 -- ---- rows
 
@@ -37,13 +37,15 @@ pub some_row : (rows : List Row) (steps below n : ℕ) (e : Entry) → suc below
     → options_within rows steps n ≡ shape_options (options_within rows below) e.shape
 some_row rows steps below n e one is =
     ap (λ k. options_within rows k n) (sym one)
-    ∙ (within_row rows below n ∙ ap (λ o. option_map_or (λ f. shape_options (options_within rows below) f.shape) o (Some any_text)) (sym is))
+    ∙ (within_row rows below n ∙ ap (λ o. option_map_or (λ f. shape_options (options_within rows below) f.shape) o
+    (Some any_text)) (sym is))
 
 pub no_row : (rows : List Row) (steps below n : ℕ) → suc below ≡ steps → None ≡ entry_at rows n
     → options_within rows steps n ≡ Some any_text
 no_row rows steps below n one is =
     ap (λ k. options_within rows k n) (sym one)
-    ∙ (within_row rows below n ∙ ap (λ o. option_map_or (λ f. shape_options (options_within rows below) f.shape) o (Some any_text)) (sym is))
+    ∙ (within_row rows below n ∙ ap (λ o. option_map_or (λ f. shape_options (options_within rows below) f.shape) o
+    (Some any_text)) (sym is))
 
 -- ---- either of two options
 
@@ -103,14 +105,16 @@ nothing_joined (Some s) = refl
 pub all_joined : (a : Said) → joined a (Some nothing_said) ≡ Some a
 all_joined a = λ k. Some (record { found = or_false a.found k; integers = integers_none a.integers k })
 
-pub one_joined : (patterns : Patterns) (key : Text) (a more : Said) (first rest : Option KeyOptions) → Some more ≡ said_by patterns key first
+pub one_joined : (patterns : Patterns) (key : Text) (a more : Said) (first rest : Option KeyOptions)
+    → Some more ≡ said_by patterns key first
     → joined (either_said a more) (said_by patterns key rest)
     ≡ joined a (said_by patterns key (option_and_then (λ o. option_map (either_options o) rest) first))
 one_joined patterns key a more None rest is = cc
 one_joined patterns key a more (Some o) None is = refl
 one_joined patterns key a more (Some o) (Some p) is =
     ap Some (said_assoc a more (said patterns key p)
-    ∙ ap (either_said a) (ap (λ s. either_said s (said patterns key p)) (some_same more (said patterns key o) is) ∙ sym (either_says patterns key o p)))
+    ∙ ap (either_said a) (ap (λ s. either_said s (said patterns key p)) (some_same more (said patterns key o) is)
+    ∙ sym (either_says patterns key o p)))
   where
     some_same : (x y : Said) → Some x ≡ Some y → x ≡ y
     some_same x y h = cc
@@ -200,6 +204,7 @@ listed_says patterns key ds texts = go (are_texts ds) refl
     options o = elim o [ Some ts ↦ keys false ts None [] | None ↦ any_text ]
 
     go : (b : Bool) → are_texts ds ≡ b → record { found = holds_text key ds; integers = None } ≡ said patterns key (texts_options ds)
-    go true is = ap (λ (b : Bool). record { found = b; integers = None }) (holds_listed key ds ∙ sym (or_false (is_listed key (texts_of ds))))
+    go true is = ap (λ (b : Bool). record { found = b; integers = None })
+        (holds_listed key ds ∙ sym (or_false (is_listed key (texts_of ds))))
         ∙ sym (ap (λ (o : Option (List Text)). said patterns key (options o)) (texts_found ds ∙ ap (λ b. when b (texts_of ds)) is))
     go false is = absurd (true≢false (sym texts ∙ ap is_some (texts_found ds ∙ ap (λ b. when b (texts_of ds)) is)))

@@ -1,12 +1,12 @@
 -- Members as they are given, in the words of the meaning.
 use Rattle.std.proofs.Common.{◌≡◌, ℕ, List, [], ◌∷◌, ◌++◌, Option, Some, None, Bool, true, false, refl, sym, ap, ◌∙◌, map, option_map}
-use Rattle.std.specs.Prelude.{◌&&◌, ◌||◌, not, is_some, bytes_eq, if◌then◌else◌, find}
+use Rattle.std.specs.Prelude.{◌&&◌, ◌||◌, not, is_some, bytes_eq, if◌then◌else◌}
 use Rattle.std.specs.Option.{option_map_or}
-use Rattle.serde_json.specs.Data.{Data, object, Members}
-use Rattle.serde_json.specs.Find.{get_member, as_object}
+use Rattle.serde_json.specs.Data.{Data, Members}
+use Rattle.serde_json.specs.Find.{get_member}
 use Rattle.schemars_schema.specs.Json.{Text}
-use Rattle.schemars_shapes.specs.Shape.{Field, Fields}
-use Rattle.schemars_types.specs.Meaning.{Member, member_named, has_each, field_member, must_have, holds, are_members}
+use Rattle.schemars_shapes.specs.Shape.{Field}
+use Rattle.schemars_types.specs.Meaning.{Member, member_named, has_each, field_member, must_have}
 use Rattle.schemars_belonging.specs.Asked.{Asked, Given, has, has_values, member_of, member_says, given_named, has_each_given, field_given}
 
 -- ---- those that fields are
@@ -29,15 +29,18 @@ first_named a steps (g ∷ gs) k = go (bytes_eq g.name k) (first_named a steps g
     go true later = refl
     go false later = later
 
-pub says_given : (a : Asked) (steps : ℕ) (gs : List Given) (others : Text → Bool) (k : Text) (w : Data) (g : Given) → Some g ≡ given_named gs k
+pub says_given : (a : Asked) (steps : ℕ) (gs : List Given) (others : Text → Bool) (k : Text) (w : Data) (g : Given)
+    → Some g ≡ given_named gs k
     → has_values a steps g.values w ≡ member_says (map (member_of a steps) gs) others k w
 says_given a steps gs others k w g is =
-    sym (ap (λ (o : Option Member). option_map_or (λ m. m.has w) o (others k)) (first_named a steps gs k ∙ ap (option_map (member_of a steps)) (sym is)))
+    sym (ap (λ (o : Option Member). option_map_or (λ m. m.has w) o (others k)) (first_named a steps gs k
+    ∙ ap (option_map (member_of a steps)) (sym is)))
 
 pub says_other : (a : Asked) (steps : ℕ) (gs : List Given) (others : Text → Bool) (k : Text) (w : Data) → None ≡ given_named gs k
     → others k ≡ member_says (map (member_of a steps) gs) others k w
 says_other a steps gs others k w is =
-    sym (ap (λ (o : Option Member). option_map_or (λ m. m.has w) o (others k)) (first_named a steps gs k ∙ ap (option_map (member_of a steps)) (sym is)))
+    sym (ap (λ (o : Option Member). option_map_or (λ m. m.has w) o (others k)) (first_named a steps gs k
+    ∙ ap (option_map (member_of a steps)) (sym is)))
 
 pub each_given : (a : Asked) (steps : ℕ) (gs : List Given) (ms : Members) → has_each (map (member_of a steps) gs) ms ≡ has_each_given gs ms
 each_given a steps [] ms = refl

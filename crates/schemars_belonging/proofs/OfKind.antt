@@ -1,6 +1,6 @@
 -- Numbers of a kind: their order is that of whole numbers.
-use Rattle.std.proofs.Common.{◌≡◌, ℤ, pos, negsuc, Bool, true, false, refl, sym, ap, ◌∙◌, Option, Some, None, arith}
-use Rattle.std.specs.Prelude.{◌&&◌, not, is_some, int_le}
+use Rattle.std.proofs.Common.{◌≡◌, ℤ, pos, negsuc, refl, ap, ◌∙◌, Option, Some, None, arith}
+use Rattle.std.specs.Prelude.{◌&&◌, not, is_some}
 use Rattle.std.specs.Ordering.{int_eq}
 use Rattle.std.proofs.lemmas.Bool.Decides.{nat_tests}
 use Rattle.serde_json.specs.Data.{Num, unsigned}

@@ -1,8 +1,7 @@
 -- The keys that variants claim which fit.
 use Rattle.std.proofs.Common.{◌≡◌, ℕ, zero, suc, List, [], ◌∷◌, ◌++◌, Option, Some, None, Bool, true, false, refl, sym, ap, ◌∙◌, map, append_assoc, drop, get_or, length, ◌<◌, ◌+◌}
 use Rattle.std.proofs.lemmas.List.{drop_more}
-use Rattle.std.specs.Prelude.{◌&&◌, ◌||◌, is_some, bytes_eq, if◌then◌else◌, find}
-use Rattle.std.specs.List.{list_any}
+use Rattle.std.specs.Prelude.{◌&&◌, ◌||◌, is_some, bytes_eq, if◌then◌else◌}
 use Rattle.serde_json.specs.Data.{Data}
 use Rattle.schemars_text.specs.OrderedText.{is_listed}
 use Rattle.schemars_text.proofs.FixedMembers.{is_listed-append}
@@ -32,7 +31,8 @@ claimed_listed choice names k same (x ∷ xs) =
 
 fields_listed : (k : Text) (fs : List Field) → is_listed k (map (λ f. f.name) fs) ≡ is_some (field_named fs k)
 fields_listed k [] = refl
-fields_listed k (f ∷ fs) = ap (λ b. b || is_listed k (map (λ g. g.name) fs)) (bytes_eq_comm k f.name) ∙ go (bytes_eq f.name k) (fields_listed k fs)
+fields_listed k (f ∷ fs) = ap (λ b. b || is_listed k (map (λ g. g.name) fs)) (bytes_eq_comm k f.name)
+    ∙ go (bytes_eq f.name k) (fields_listed k fs)
   where
     go : (b : Bool) → is_listed k (map (λ g. g.name) fs) ≡ is_some (field_named fs k)
         → b || is_listed k (map (λ g. g.name) fs) ≡ is_some (if b then Some f else field_named fs k)
@@ -41,7 +41,8 @@ fields_listed k (f ∷ fs) = ap (λ b. b || is_listed k (map (λ g. g.name) fs))
 
 shape_listed : (a : Asked) (steps : ℕ) (s : Shape) (v : Data) (k : Text)
     → is_listed k (shape_claims a steps s v) ≡ claimed_by (shape_choices a.contract (has a steps) (offers a steps) s v) k
-shape_listed a steps (enum by_name xs) v k = claimed_listed (external_choice a.contract (has a steps) (offers a steps) v) (λ x. x.name ∷ []) k
+shape_listed a steps (enum by_name xs) v k = claimed_listed (external_choice a.contract (has a steps) (offers a steps) v)
+    (λ x. x.name ∷ []) k
     (λ x. or_false (bytes_eq k x.name) ∙ bytes_eq_comm k x.name) xs
 shape_listed a steps (enum (by_tag tag closed) xs) v k = claimed_listed (internal_choice a.contract (has a steps) tag v)
     (λ x. tag ∷ map (λ f. f.name) (tagged_fields x.payload)) k
@@ -55,7 +56,8 @@ row_listed a (suc steps) n v k = go (entry_at a.rows n)
   where
     go : (o : Option Entry)
         → is_listed k (elim o [ None ↦ [] | Some e ↦ shape_claims a steps (expanded_shape_in a.rows e.shape) v ])
-        ≡ claimed_by (elim o [ None ↦ [] | Some e ↦ shape_choices a.contract (has a steps) (offers a steps) (expanded_shape_in a.rows e.shape) v ]) k
+        ≡ claimed_by
+        (elim o [ None ↦ [] | Some e ↦ shape_choices a.contract (has a steps) (offers a steps) (expanded_shape_in a.rows e.shape) v ]) k
     go None = refl
     go (Some e) = shape_listed a steps (expanded_shape_in a.rows e.shape) v k
 

@@ -21,7 +21,8 @@ module _ (a : Asked) (n : ℕ) (v : Data) where
   unfolding belongs_within
   has_none = refl
 
-  pub has_row : (steps below : ℕ) (e : Entry) → suc below ≡ steps → Some e ≡ entry_at a.rows n → has a steps n v ≡ has_shape_of a below e.shape v
+  pub has_row : (steps below : ℕ) (e : Entry) → suc below ≡ steps → Some e ≡ entry_at a.rows n
+      → has a steps n v ≡ has_shape_of a below e.shape v
   has_row steps below e one is = ap (λ k. has a k n v) (sym one) ∙ (has_next below ∙ ap (has_of below) (sym is))
 
   pub has_no_row : (steps below : ℕ) → suc below ≡ steps → None ≡ entry_at a.rows n → has a steps n v ≡ false

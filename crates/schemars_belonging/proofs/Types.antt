@@ -1,5 +1,5 @@
 -- The types that a literal names.
-use Rattle.std.proofs.Common.{◌≡◌, List, true, false, ap, Bool}
+use Rattle.std.proofs.Common.{◌≡◌, true, false, ap}
 use Rattle.std.specs.Prelude.{option_and_then}
 use Rattle.serde_json.specs.Data.{Data, array, Items}
 use Rattle.schemars_schema.specs.Acceptance.{is_of_some_type, are_type_names, types_in, when}

@@ -1,6 +1,6 @@
 -- The parts of the meaning of a type, as they are decided one by one.
 use Rattle.std.specs.Prelude.{ℕ, zero, suc, List, [], ◌∷◌, ◌++◌, map, find, Bool, true, false, not, ◌&&◌, ◌||◌, ◌==◌, nat_le, Option, Some, None, is_some, bytes_eq, if◌then◌else◌, string_bytes}
-use Rattle.std.specs.List.{list_all, list_any}
+use Rattle.std.specs.List.{list_all}
 use Rattle.std.specs.Option.{option_map_or}
 use Rattle.serde_json.specs.Data.{Data, Items, Members, no_members}
 use Rattle.serde_json.specs.Events.{items_len}
@@ -8,7 +8,7 @@ use Rattle.serde_json.specs.Find.{get_member}
 use Rattle.schemars_text.specs.OrderedText.{is_listed}
 use Rattle.schemars_schema.specs.Json.{Text, are_distinct}
 use Rattle.schemars_schema.specs.Acceptance.{Patterns}
-use Rattle.schemars_shapes.specs.Shape.{Required, Field, Fields, Flattened, Shape, Variant, Payload, Tagging, no_payload, newtype_payload, tuple_payload, struct_payload, struct, enum, by_name, by_nothing, by_tag, by_tag_and_content}
+use Rattle.schemars_shapes.specs.Shape.{Field, Fields, Flattened, Shape, Variant, Payload, Tagging, no_payload, newtype_payload, tuple_payload, struct_payload, struct, enum, by_name, by_nothing, by_tag, by_tag_and_content}
 use Rattle.schemars_types.specs.Rows.{Row, entry_at}
 use Rattle.schemars_types.specs.Edges.{option_at}
 use Rattle.schemars_types.specs.Effective.{flattened_in, part_enums, flattened_enums, enum_at, effective, expanded_payload, expanded_variant, expanded_shape_in}

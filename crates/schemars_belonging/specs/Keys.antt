@@ -1,5 +1,5 @@
 -- What the options of keys say of one key.
-use Rattle.std.specs.Prelude.{◌||◌, ℕ, List, [], ◌∷◌, map, Bool, true, false, Option, Some, None, option_map, option_and_then}
+use Rattle.std.specs.Prelude.{◌||◌, Bool, true, false, Option, None, option_map}
 use Rattle.std.specs.List.{list_any}
 use Rattle.std.specs.Option.{option_map_or}
 use Rattle.schemars_text.specs.OrderedText.{is_listed}
@@ -8,7 +8,7 @@ use Rattle.schemars_schema.specs.Acceptance.{Patterns, matches}
 use Rattle.schemars_shapes.specs.IntegerKeys.{pattern_of}
 use Rattle.schemars_shapes.specs.declared.shape.IntegerKeys.{IntegerKeys}
 use Rattle.schemars_types.specs.KeyOptions.{KeyOptions, keys, either_integers}
-use Rattle.schemars_belonging.specs.declared.keys.Said as src
+use Rattle.schemars_belonging.specs.declared.said.Said as src
 
 -- whether the key is one of the texts, matches one of the patterns or is any other; and which whole numbers are keys
 pub record Said : Type 0 where

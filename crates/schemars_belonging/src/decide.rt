@@ -4,7 +4,7 @@ ghost use Rattle.std.specs.List.{list_any};
 ghost use Rattle.serde_json.specs.Find.{as_array, as_object};
 ghost use Rattle.serde_json.specs.View.{view, items_view, members_view};
 ghost use Rattle.schemars_shapes.specs.Shape as shape;
-ghost use Rattle.schemars_shapes.specs.Shape.{by_tag, by_tag_and_content, adjacent_view, shape_of, fields_of, payload_of, variant_of, internal_variant_of, internal_payload_of, internal_view};
+ghost use Rattle.schemars_shapes.specs.Shape.{by_tag, adjacent_view, shape_of, fields_of, payload_of, variant_of, internal_variant_of, internal_payload_of, internal_view};
 ghost use Rattle.schemars_schema.specs.Acceptance.{is_null};
 ghost use Rattle.schemars_types.specs.Effective.{enum_at, effective, expanded_shape_in, flattened_in};
 ghost use Rattle.schemars_types.specs.KeyOptions.{key_options};

@@ -8,6 +8,9 @@ mod fields;
 mod given;
 mod keys;
 mod literal;
+mod literal_keys;
+mod named_types;
+mod said;
 mod scalars;
 mod steps;
 

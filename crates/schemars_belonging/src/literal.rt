@@ -1,25 +1,19 @@
 //! The values that a literal has.
 ghost use Rattle.std.specs.Prelude.{◌≡◌, Some, option_map, option_and_then, is_some, nat_le};
-ghost use Rattle.serde_json.specs.Data.{string, array};
 ghost use Rattle.serde_json.specs.Find.{get_member};
-ghost use Rattle.serde_json.specs.View.{view, number_view, items_view, members_view};
+ghost use Rattle.serde_json.specs.View.{view, number_view, members_view};
 ghost use Rattle.schemars_schema.specs.Json.{json_eq};
 ghost use Rattle.schemars_schema.specs.Numbers.{whole_of};
-ghost use Rattle.schemars_schema.specs.Acceptance.{is_of_type, is_of_some_type, are_type_names, from_zero, count_of_number};
+ghost use Rattle.schemars_schema.specs.Acceptance.{from_zero, count_of_number};
 ghost use Rattle.schemars_schema.specs.Literal.{where_given, has_literal, meets_each, is_of_types, is_in_list, is_from, is_up_to, is_as_long, is_no_longer, is_matched, has_as_many, has_no_more};
-ghost use Rattle.schemars_validate.specs.Texts.{are_texts, texts_of};
 ghost use Rattle.schemars_belonging.specs.Literals.{meets_numbers, meets_texts, meets_lists};
 
 use crate::given::member;
+use crate::named_types::is_of_types;
 use crate::scalars::{code_points, is_among};
-use schemars_schema::edits::is_listed;
 use schemars_schema::json_eq;
 use schemars_validate::{Patterns, is_whole, numbers_le};
 use serde_json::{Map, Number, Value};
-
-const TYPES: [&str; 7] = [
-    "null", "boolean", "object", "array", "number", "string", "integer",
-];
 
 /// Whether a literal, given as a schema, has a value.
 pub fn has_literal<P: Patterns>(patterns: &P, schema: &Value, value: &Value) -> bool
@@ -67,89 +61,6 @@ fn meets_lists(keywords: &Map<String, Value>, value: &Value) -> bool
 {
     has_as_many(member(keywords, "minItems"), value)
         && has_no_more(member(keywords, "maxItems"), value)
-}
-
-// ---- types
-
-fn is_of_types(types: Option<&Value>, value: &Value) -> bool
-    ensures { result ≡ where_given (option_map (λ v. view v.now) types.entry)
-        (λ types. is_of_types types (view value.now)) }
-{
-    match types {
-        Some(Value::String(name)) => is_of_named(name.as_str(), value),
-        Some(Value::Array(names)) => is_of_listed(names, value),
-        _ => true,
-    }
-}
-
-fn is_of_named(name: &str, value: &Value) -> bool
-    ensures { result ≡ is_of_types (string name.now) (view value.now) }
-{
-    !is_listed(name, &TYPES) || is_of_type(name, value)
-}
-
-#[tactic(auto, using(crate::proofs::Types::no_texts, crate::proofs::Types::no_types, crate::proofs::Types::types_there))]
-fn is_of_listed(names: &[Value], value: &Value) -> bool
-    ensures { result ≡ is_of_types (array (items_view names.now)) (view value.now) }
-{
-    if !are_texts(names) {
-        return true;
-    }
-    if !are_type_names(names) {
-        return true;
-    }
-    is_of_some_type(names, value)
-}
-
-fn is_of_type(name: &str, value: &Value) -> bool
-    ensures { result ≡ is_of_type name.now (view value.now) }
-{
-    match value {
-        Value::Null => name == "null",
-        Value::Bool(_) => name == "boolean",
-        Value::Number(n) => name == "number" || (name == "integer" && is_whole(*n)),
-        Value::String(_) => name == "string",
-        Value::Array(_) => name == "array",
-        Value::Object(_) => name == "object",
-    }
-}
-
-fn are_texts(values: &[Value]) -> bool
-    ensures { result ≡ are_texts (items_view values.now) }
-{
-    for value in values {
-        if !value.is_string() {
-            return false;
-        }
-    }
-    true
-}
-
-// Whether each of the texts is the name of a type.
-fn are_type_names(values: &[Value]) -> bool
-    ensures { result ≡ are_type_names (texts_of (items_view values.now)) }
-{
-    for value in values {
-        if let Some(name) = value.as_str()
-            && !is_listed(name, &TYPES)
-        {
-            return false;
-        }
-    }
-    true
-}
-
-fn is_of_some_type(names: &[Value], value: &Value) -> bool
-    ensures { result ≡ is_of_some_type (texts_of (items_view names.now)) (view value.now) }
-{
-    for listed in names {
-        if let Some(name) = listed.as_str()
-            && is_of_type(name, value)
-        {
-            return true;
-        }
-    }
-    false
 }
 
 // ---- equality

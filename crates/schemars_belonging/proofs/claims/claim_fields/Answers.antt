@@ -1,4 +1,4 @@
-use Rattle.std.proofs.Common.{◌≡◌, ◌∙◌, ◌++◌, ap, map, List}
+use Rattle.std.proofs.Common.{◌∙◌, ◌++◌, ap, map, List}
 use Rattle.std.proofs.lemmas.Result.{on_ok_weaker}
 use Rattle.schemars_schema.specs.Json.{Text}
 use Rattle.schemars_shapes.specs.Shape.{fields_of}

@@ -1,6 +1,6 @@
 -- Each part answers what its contract says.
-use Rattle.std.proofs.Common.{◌≡◌, ◌∙◌, ◌+◌, ◌-◌, ◌++◌, ◌∷◌, [], ℕ, suc, drop, get_or, List, Bool, true, false, refl, sym, ap, map, arith, Option}
-use Rattle.std.specs.Prelude.{◌&&◌, ◌||◌, not, if◌then◌else◌}
+use Rattle.std.proofs.Common.{◌≡◌, ◌∙◌, ◌+◌, ◌-◌, ◌++◌, ◌∷◌, [], suc, drop, get_or, List, Bool, true, false, sym, ap, map, arith, Option}
+use Rattle.std.specs.Prelude.{◌&&◌, not, if◌then◌else◌}
 use Rattle.std.proofs.lemmas.Result.{on_ok_weaker}
 use Rattle.std.proofs.lemmas.List.{drop_more}
 use Rattle.serde_json.specs.Data.{Members}
@@ -12,8 +12,8 @@ use Rattle.schemars_schema.specs.Json.{Text}
 use Rattle.schemars_shapes.specs.Shape.{Variant, fields_of, flattened_of, payload_of, variant_of, internal_payload_of, internal_variant_of, internal_view, adjacent_view}
 use Rattle.schemars_shapes.specs.declared.variant.Variant as src
 use Rattle.schemars_shapes.specs.declared.variant.InternalVariant as inside
-use Rattle.schemars_types.specs.Effective.{enum_at, effective, flattened_in, flattened_enums, part_enums}
-use Rattle.schemars_types.specs.Meaning.{VariantMatch, every_member, exactly_one, has_each, must_have, holds, are_members, every_part, matches_of, external_choice, internal_choice, is_tagged_map, tagged_fields, has_member, has_members, is_text, each_of, has_external, has_adjacent}
+use Rattle.schemars_types.specs.Effective.{effective, flattened_in, flattened_enums, part_enums}
+use Rattle.schemars_types.specs.Meaning.{VariantMatch, every_member, exactly_one, has_each, must_have, holds, are_members, external_choice, internal_choice, is_tagged_map, tagged_fields, has_member, has_members, is_text, each_of, has_external, has_adjacent}
 use Rattle.schemars_belonging.specs.Asked.{Given, asked, bare, payload_in, variant_in, field_given, tag_given, has_beside_of, has_fields_of, has, offers, has_payload_of, given_of, member_of, member_says, allows, variants_in, claims, all_claims, external_claims, internal_claims, fits_of, one_of_seen}
 use Rattle.schemars_belonging.proofs.Rows.{has_none, has_row, has_no_row, offers_none, offers_row, offers_no_row, claims_row, claims_no_row, adds_nothing, answered}
 use Rattle.schemars_belonging.proofs.Members.{says_given, says_other, each_given, beside_given, beside_none, each_beside}
@@ -49,7 +49,8 @@ one_member-returns-in-Some g t c =
     let v = view c.args.value.now in
     let gs = map given_of c.args.list.now in
     let others = allows c.args.closed (map (λ k. k.now) c.args.claimed.now) in
-    answered c.values.result _ _ (says_given a c.args.left gs others c.args.key.now v (given_of c.in-Some.given.now) c.in-Some.ensures) c.values.ensures
+    answered c.values.result _ _ (says_given a c.args.left gs others c.args.key.now v (given_of c.in-Some.given.now)
+    c.in-Some.ensures) c.values.ensures
 
 pub one_member-returns-in-None : goal.one_member-returns-in-None
 one_member-returns-in-None g t c =
@@ -75,7 +76,8 @@ one_beside-returns-in-Some g t c =
     let v = view c.args.value.now in
     let gs = map given_of c.args.list.now in
     let m = must_have c.args.name.now (has_payload_of a c.args.left (payload_of c.args.payload.now)) in
-    answered c.values.result _ _ (beside_given a c.args.left gs m (λ k. not c.args.closed) c.args.key.now v (given_of c.in-Some.given.now) c.in-Some.ensures) c.values.ensures
+    answered c.values.result _ _ (beside_given a c.args.left gs m (λ k. not c.args.closed)
+    c.args.key.now v (given_of c.in-Some.given.now) c.in-Some.ensures) c.values.ensures
 
 pub beside-returns : goal.beside-returns
 beside-returns g t c =
@@ -86,7 +88,8 @@ beside-returns g t c =
     let others : Text → Bool = λ k. not c.args.closed in
     let ms = members_view c.in-Some.members.now.entries in
     let all : true ≡ every_member (member_says list others) ms =
-    sym (ap (λ (es : List Entry). every_member (member_says list others) (members_view es)) c.in-None.ensures.steps.0) ∙ c.loop-key.invariant in
+    sym (ap (λ (es : List Entry). every_member (member_says list others) (members_view es)) c.in-None.ensures.steps.0)
+    ∙ c.loop-key.invariant in
     c.has_each_with.ensures ∙ (sym (each_beside a c.args.left gs c.args.name.now f ms)
     ∙ (ap (λ b. b && has_each list ms) all ∙ ap (λ (o : Option Members). holds o (are_members list others)) c.in-Some.ensures))
 
@@ -125,7 +128,8 @@ choices-returns-in-None-clause-one g t c =
     let a = asked c.args.t.now.types.now c.args.t.now.contract (g.P.Patterns.reading c.args.t.now.patterns.now) in
     let v = view c.args.value.now in
     let one : suc (c.args.left - 1) ≡ c.args.left = omega arith in
-    sym (ap (λ (cs : List VariantMatch). exactly_one (fits_of cs)) (offers_no_row a c.args.n v c.args.left (c.args.left - 1) one c.in-None.ensures))
+    sym (ap (λ (cs : List VariantMatch). exactly_one (fits_of cs)) (offers_no_row a c.args.n v c.args.left
+    (c.args.left - 1) one c.in-None.ensures))
 
 pub choices-returns-in-None-clause-claimed : goal.choices-returns-in-None-clause-claimed
 choices-returns-in-None-clause-claimed g t c =
@@ -182,7 +186,8 @@ tag_beside-returns g t c =
     let a = asked c.args.t.now.types.now c.args.t.now.contract (g.P.Patterns.reading c.args.t.now.patterns.now) in
     let v = view c.args.value.now in
     answered c.beside.result _ _
-    (ap (λ (x : Given). has_beside_of a c.args.left (x ∷ []) c.args.content.now (payload_of c.args.payload.now) c.args.closed v) c.tag_given.ensures)
+    (ap (λ (x : Given). has_beside_of a c.args.left (x ∷ []) c.args.content.now (payload_of c.args.payload.now)
+    c.args.closed v) c.tag_given.ensures)
     c.beside.ensures
 
 pub has_tagged-returns : goal.has_tagged-returns
@@ -209,13 +214,15 @@ pub external-returns-then-is_unit : goal.external-returns-then-is_unit
 external-returns-then-is_unit g t c =
     let a = asked c.args.t.now.types.now c.args.t.now.contract (g.P.Patterns.reading c.args.t.now.patterns.now) in
     let v = view c.args.value.now in
-    c.is_text.ensures ∙ external_unit a c.args.left c.args.name.now (payload_of c.args.payload.now) v (sym c.is_unit.ensures ∙ c.if-is_unit.true)
+    c.is_text.ensures ∙ external_unit a c.args.left c.args.name.now (payload_of c.args.payload.now) v (sym c.is_unit.ensures
+    ∙ c.if-is_unit.true)
 
 pub external-returns : goal.external-returns
 external-returns g t c =
     let a = asked c.args.t.now.types.now c.args.t.now.contract (g.P.Patterns.reading c.args.t.now.patterns.now) in
     let v = view c.args.value.now in
-    answered c.beside.result _ _ (external_other a c.args.left c.args.name.now (payload_of c.args.payload.now) v (sym c.is_unit.ensures ∙ c.if-is_unit.false))
+    answered c.beside.result _ _ (external_other a c.args.left c.args.name.now (payload_of c.args.payload.now) v
+    (sym c.is_unit.ensures ∙ c.if-is_unit.false))
     c.beside.ensures
 
 pub adjacent-returns-then-is_unit : goal.adjacent-returns-then-is_unit
@@ -237,7 +244,8 @@ adjacent-returns g t c =
     let p = payload_of c.args.payload.now in
     let name = c.args.name.now in
     answered c.tag_beside.result _ _
-    ((λ i. has_beside_of a c.args.left (tag_given (c.as_str-tag.ensures.value i) name ∷ []) (c.as_str-content.ensures.value i) p view_of.2 v)
+    ((λ i. has_beside_of a c.args.left (tag_given (c.as_str-tag.ensures.value i) name ∷ [])
+    (c.as_str-content.ensures.value i) p view_of.2 v)
     ∙ adjacent_other a c.args.left view_of.0 view_of.1 view_of.2 name p v (sym c.is_unit.ensures ∙ c.if-is_unit.false)) c.tag_beside.ensures
 
 pub one_beside-returns-in-None : goal.one_beside-returns-in-None
@@ -253,7 +261,8 @@ last-returns-then-is_same g t c =
     let a = asked c.args.t.now.types.now c.args.t.now.contract (g.P.Patterns.reading c.args.t.now.patterns.now) in
     let v = view c.args.value.now in
     let p = has_payload_of a c.args.left (payload_of c.args.payload.now) v in
-    answered c.payload.result _ _ (sym (ap (λ b. if b then p else not c.args.closed) (sym c.is_same.ensures ∙ c.if-is_same.true))) c.payload.ensures
+    answered c.payload.result _ _ (sym (ap (λ b. if b then p else not c.args.closed) (sym c.is_same.ensures
+    ∙ c.if-is_same.true))) c.payload.ensures
 
 pub last-returns : goal.last-returns
 last-returns g t c =
@@ -296,7 +305,8 @@ variant-returns-in-Name g t c =
     let v = view c.args.value.now in
     let p = payload_of c.args.variant.now.payload in
     rw c.in-Name.is (answered c.external.result _ _
-    (ap (λ (k : Text). has_external a.contract (has a c.args.left) (offers a c.args.left) v (variant_in a (bare k p))) c.as_str-name.ensures.value)
+    (ap (λ (k : Text). has_external a.contract (has a c.args.left) (offers a c.args.left) v (variant_in a (bare k p)))
+    c.as_str-name.ensures.value)
     c.external.ensures)
 
 pub variant-returns-in-Content : goal.variant-returns-in-Content
@@ -342,7 +352,8 @@ external_choices-loop-variant-preserved g t c =
     record {
       one = c.with-seen.ensures (fits_of (map choice (left rest)))
           ∙ (ap (λ b. one_of_seen S.one S.more (b ∷ fits_of (map choice (left rest)))) fits
-          ∙ (sym (ap (λ (ys : List src.Variant). one_of_seen S.one S.more (fits_of (map choice (left ys)))) here) ∙ c.loop-variant.invariant.one));
+          ∙ (sym (ap (λ (ys : List src.Variant). one_of_seen S.one S.more (fits_of (map choice (left ys)))) here)
+          ∙ c.loop-variant.invariant.one));
       claims = next_claims found _ _ (external_claims a c.args.left v (left rest)) _ c.in_ok-fits.fits _ grown fits
           (sym (ap (λ (ys : List src.Variant). found ++ external_claims a c.args.left v (left ys)) here) ∙ c.loop-variant.invariant.claims);
     }
@@ -354,7 +365,8 @@ internal_choices-loop-variant-preserved g t c =
     let xs = c.deref-variant-items.result.now in
     let i = c.loop-variant.variant-index in
     let rest = drop (i + 1) xs in
-    let here = drop_more xs i c.variant-item.result c.loop-variant-test.true ∙ ap (λ (x : inside.InternalVariant). x ∷ rest) (sym c.variant-item.is) in
+    let here = drop_more xs i c.variant-item.result c.loop-variant-test.true
+    ∙ ap (λ (x : inside.InternalVariant). x ∷ rest) (sym c.variant-item.is) in
     let tag = (internal_view c.args.internal.now).0 in
     let choice = internal_choice a.contract (has a c.args.left) tag v in
     let left : List inside.InternalVariant → List Variant = λ ys. variants_in a (map internal_variant_of ys) in
@@ -362,13 +374,17 @@ internal_choices-loop-variant-preserved g t c =
     let S = c.loop-variant.seen in
     let found = map (λ k. k.now) c.loop-variant.claimed.items in
     let fits = c.in_ok-fits.ensures
-    ∙ (λ i. is_tagged_map a.contract (has a c.args.left) (c.as_str-tag.ensures.value i) v (variant_in a (bare (c.as_str-name.ensures.value i) p))) in
+    ∙ (λ i. is_tagged_map a.contract (has a c.args.left) (c.as_str-tag.ensures.value i) v (variant_in a (bare
+    (c.as_str-name.ensures.value i) p))) in
     let grown = c.in_ok-claim_internal.ensures
-    ∙ ap (λ (k : Text). found ++ (if c.in_ok-fits.fits then k ∷ map (λ f. f.name) (tagged_fields (payload_in a p)) else [])) c.as_str-tag.ensures.value in
+    ∙ ap (λ (k : Text). found ++ (if c.in_ok-fits.fits then k ∷ map (λ f. f.name) (tagged_fields (payload_in a p)) else []))
+    c.as_str-tag.ensures.value in
     record {
       one = c.with-seen.ensures (fits_of (map choice (left rest)))
           ∙ (ap (λ b. one_of_seen S.one S.more (b ∷ fits_of (map choice (left rest)))) fits
-          ∙ (sym (ap (λ (ys : List inside.InternalVariant). one_of_seen S.one S.more (fits_of (map choice (left ys)))) here) ∙ c.loop-variant.invariant.one));
+          ∙ (sym (ap (λ (ys : List inside.InternalVariant). one_of_seen S.one S.more (fits_of (map choice (left ys)))) here)
+          ∙ c.loop-variant.invariant.one));
       claims = next_claims found _ _ (internal_claims a c.args.left tag v (left rest)) _ c.in_ok-fits.fits _ grown fits
-          (sym (ap (λ (ys : List inside.InternalVariant). found ++ internal_claims a c.args.left tag v (left ys)) here) ∙ c.loop-variant.invariant.claims);
+          (sym (ap (λ (ys : List inside.InternalVariant). found ++ internal_claims a c.args.left tag v (left ys)) here)
+          ∙ c.loop-variant.invariant.claims);
     }

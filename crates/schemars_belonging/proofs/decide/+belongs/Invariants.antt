@@ -1,4 +1,4 @@
--- What is left of a list decides, with what is known so far. At each step fewer functions can be called before the next row is asked.
+-- What is left of a list decides, with what is known so far. Each call is nearer to the next row.
 use Rattle.std.proofs.Common.{◌≡◌, ◌+◌, ◌*◌, ◌++◌, ◌∷◌, [], map, drop}
 use Rattle.std.specs.Prelude.{◌&&◌, not, Bool}
 use Rattle.serde_json.specs.Data.{Data}
@@ -189,9 +189,11 @@ invariant-external_choices-loop-variant g l =
     let a = asked l.t.types.now l.t.contract (g.P.Patterns.reading l.t.patterns.now) in
     let v = view l.value in
     let choice = external_choice a.contract (has a l.left) (offers a l.left) v in record {
-      one : one_of_seen l.seen.one l.seen.more (fits_of (map choice (variants_in a (map variant_of (drop l.variant-index l.variant-items)))))
+      one : one_of_seen l.seen.one l.seen.more
+          (fits_of (map choice (variants_in a (map variant_of (drop l.variant-index l.variant-items)))))
           ≡ exactly_one (fits_of (map choice (variants_in a (map variant_of l.variants.items))));
-      claims : map (λ k. k.now) l.claimed.items ++ external_claims a l.left v (variants_in a (map variant_of (drop l.variant-index l.variant-items)))
+      claims : map (λ k. k.now) l.claimed.items
+          ++ external_claims a l.left v (variants_in a (map variant_of (drop l.variant-index l.variant-items)))
           ≡ map (λ k. k.now) l.fn.claimed.items ++ external_claims a l.left v (variants_in a (map variant_of l.variants.items));
     }
 

@@ -16,4 +16,5 @@ same_members (e ∷ es) (f ∷ fs) same = rw (same.0.0, same.0.1, same_members e
 
 pub returns : goal.returns
 returns c = view-Object c.remove.new.members ∙ ap object (c.remove.ensures
-    ∙ ap (λ (ms : Members). without c.args.key.now ms) (same_members c.args.members.now.entries c.in_ok-rest.rest.entries c.in_ok-rest.ensures.cases))
+    ∙ ap (λ (ms : Members). without c.args.key.now ms) (same_members c.args.members.now.entries c.in_ok-rest.rest.entries
+    c.in_ok-rest.ensures.cases))

@@ -43,7 +43,8 @@ members_say-loop-variant-preserved g t c =
     let rest = members_options part (map variant_of (drop (i + 1) c.args.variants.now)) in
     let before = said_of c.loop-variant.says in
     ap (λ (s : Said). joined s (said_by patterns key rest)) c.either_said-says.ensures
-    ∙ (one_joined patterns key before (said_of c.in-Some.more) (member_options part (payload_of c.variant-item.result.payload)) rest c.in-Some.ensures
+    ∙ (one_joined patterns key before (said_of c.in-Some.more) (member_options part
+    (payload_of c.variant-item.result.payload)) rest c.in-Some.ensures
     ∙ (sym (ap (λ (xs : List src.Variant). joined before (said_by patterns key (members_options part (map variant_of xs))))
     (drop_more c.args.variants.now i c.variant-item.result c.loop-variant-test.true
     ∙ ap (λ (x : src.Variant). x ∷ drop (i + 1) c.args.variants.now) (sym c.variant-item.is)))

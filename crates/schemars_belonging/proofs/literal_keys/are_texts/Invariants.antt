@@ -3,7 +3,7 @@ use Rattle.std.proofs.Common.{◌≡◌, drop}
 use Rattle.std.specs.Prelude.{is_some}
 use Rattle.serde_json.specs.View.{items_view}
 use Rattle.schemars_schema.specs.Acceptance.{texts_in}
-use Rattle.schemars_belonging.proofs.keys.are_texts.Given as goal
+use Rattle.schemars_belonging.proofs.literal_keys.are_texts.Given as goal
 
 abbrev pub invariant-loop-value : goal.invariant-loop-value
 invariant-loop-value l =

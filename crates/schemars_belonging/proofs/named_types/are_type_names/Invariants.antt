@@ -3,7 +3,7 @@ use Rattle.std.proofs.Common.{◌≡◌, drop}
 use Rattle.serde_json.specs.View.{items_view}
 use Rattle.schemars_schema.specs.Acceptance.{are_type_names}
 use Rattle.schemars_validate.specs.Texts.{texts_of}
-use Rattle.schemars_belonging.proofs.literal.are_type_names.Given as goal
+use Rattle.schemars_belonging.proofs.named_types.are_type_names.Given as goal
 
 abbrev pub invariant-loop-value : goal.invariant-loop-value
 invariant-loop-value l =

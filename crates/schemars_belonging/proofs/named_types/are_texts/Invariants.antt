@@ -2,7 +2,7 @@
 use Rattle.std.proofs.Common.{◌≡◌, drop}
 use Rattle.serde_json.specs.View.{items_view}
 use Rattle.schemars_validate.specs.Texts.{are_texts}
-use Rattle.schemars_belonging.proofs.literal.are_texts.Given as goal
+use Rattle.schemars_belonging.proofs.named_types.are_texts.Given as goal
 
 abbrev pub invariant-loop-value : goal.invariant-loop-value
 invariant-loop-value l =

@@ -1,8 +1,7 @@
 use Rattle.std.proofs.Common.{◌∙◌, ap, sym, None, Bool}
 use Rattle.serde_json.specs.View.{items_view}
-use Rattle.schemars_belonging.specs.Keys.{Said}
 use Rattle.schemars_belonging.proofs.KeyOptions.{listed_says}
-use Rattle.schemars_belonging.proofs.keys.listed_say.Goals as goal
+use Rattle.schemars_belonging.proofs.literal_keys.listed_say.Goals as goal
 
 pub returns-then-are_texts : goal.returns-then-are_texts
 returns-then-are_texts c = λ patterns.
