@@ -1,0 +1,12 @@
+-- Lemmas that several proofs share.
+pub mod OfKind
+pub mod Counts
+pub mod Types
+pub mod KeyOptions
+pub mod EnumsWithin
+pub mod FieldMembers
+pub mod Members
+pub mod Offers
+pub mod Rows
+pub mod Fitting
+pub mod Variants

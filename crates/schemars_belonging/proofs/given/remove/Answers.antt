@@ -1,0 +1,8 @@
+-- What a map's `remove` says, in the words of members.
+use Rattle.std.proofs.Common.{ap, ◌∙◌}
+use Rattle.serde_json.specs.View.{members_view}
+use Rattle.schemars_schema.proofs.MapEdits.{members_view-remove_entry}
+use Rattle.schemars_belonging.proofs.given.remove.Goals as goal
+
+pub returns : goal.returns
+returns c = ap members_view c.remove-removed.ensures.entries ∙ members_view-remove_entry c.args.key.now c.args.members.now.entries

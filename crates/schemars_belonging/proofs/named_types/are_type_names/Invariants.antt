@@ -1,0 +1,10 @@
+-- The items that are left decide.
+use Rattle.std.proofs.Common.{◌≡◌, drop}
+use Rattle.serde_json.specs.View.{items_view}
+use Rattle.schemars_schema.specs.Acceptance.{are_type_names}
+use Rattle.schemars_validate.specs.Texts.{texts_of}
+use Rattle.schemars_belonging.proofs.named_types.are_type_names.Given as goal
+
+abbrev pub invariant-loop-value : goal.invariant-loop-value
+invariant-loop-value l =
+    are_type_names (texts_of (items_view (drop l.value-index l.values))) ≡ are_type_names (texts_of (items_view l.values))
