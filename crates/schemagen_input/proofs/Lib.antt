@@ -1,7 +1,8 @@
 -- The lemmas of the proofs.
 pub mod Bounds
 mod Lists
-pub mod Reading
+pub mod RowByRow
+pub mod TableMembers
 pub mod Written
 pub mod LibraryShapes
 mod Examples

@@ -3,6 +3,6 @@ pub mod Forms
 pub mod Errors
 pub mod Input
 pub mod Written
-pub mod Reading
+pub mod Listing
 pub mod SampleInput
 pub mod Texts

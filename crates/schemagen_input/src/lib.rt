@@ -3,7 +3,9 @@
 
 mod error;
 mod fields;
+mod found;
 mod input;
+mod listing;
 mod locate;
 mod members;
 mod sample;

@@ -1,13 +1,14 @@
 //! The table that a text says.
 ghost use Rattle.std.specs.Prelude.{◌≡◌, ◌≢◌, true, None, Some, Err, IfOk};
-ghost use Rattle.schemagen_json.specs.BorrowedValue.{data_of};
+ghost use Rattle.serde_json.specs.Data.{Data};
 ghost use Rattle.schemagen_input.specs.Input.{is_table, input_of};
+ghost use Rattle.schemagen_input.specs.Listing.{IsFound};
 ghost use Rattle.schemagen_input.specs.Texts.{IsTableText, IsNoJson, IsBadTable};
 
 use crate::error::InputError;
-use crate::input::read_input;
+use crate::found::{Found, find_in_text};
 use json::Scratch;
-use schemagen_json::{BorrowedValue, ParseError};
+use schemagen_json::ParseError;
 use schemars_types::{TypeNo, Types};
 use std::alloc::Global;
 
@@ -38,22 +39,23 @@ pub fn read_table(alloc: Global, bytes: &[u8]) -> Result<(Types, TypeNo), TextEr
         return Err(TextError::NotJson);
     };
     let mut scratch = Scratch::new(alloc);
-    match BorrowedValue::from_str(alloc, text, &mut scratch) {
-        Ok(value) => rooted_table(alloc, &value),
+    match find_in_text(alloc, text, &mut scratch) {
+        Ok(found) => rooted_table(found),
         Err(ParseError::OutOfMemory) => Err(TextError::OutOfMemory),
         Err(ParseError::NotJson) => Err(TextError::NotJson),
     }
 }
 
-// The table that the value says, and its root, which is one of the rows.
-fn rooted_table(alloc: Global, value: &BorrowedValue<'_>) -> Result<(Types, TypeNo), TextError>
-    ensures ok { IfOk result (λ t. input_of (data_of value.now) ≡ Some (t.0, t.1)) }
-    ensures table { IfOk result (λ t. is_table t.0 t.1 ≡ true) }
+// The table that a value has, and its root, which is one of the rows.
+fn rooted_table(found: Found) -> Result<(Types, TypeNo), TextError>
+    ensures ok { IfOk result (λ t. (d : Data) → IsFound found d
+        → (input_of d ≡ Some (t.0, t.1)) × (is_table t.0 t.1 ≡ true)) }
     ensures json { result ≢ Err TextError.NotJson }
-    ensures bad_table { result ≡ Err TextError.BadTable → input_of (data_of value.now) ≡ None }
+    ensures bad_table { result ≡ Err TextError.BadTable → (d : Data) → IsFound found d
+        → input_of d ≡ None }
 {
-    let (types, root) = match read_input(alloc, value) {
-        Ok(input) => input,
+    let (types, root) = match found.into_table() {
+        Ok(table) => table,
         Err(InputError::OutOfMemory) => return Err(TextError::OutOfMemory),
         Err(InputError::BadTable) => return Err(TextError::BadTable),
     };

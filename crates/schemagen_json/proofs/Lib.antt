@@ -1,3 +1,3 @@
 -- The lemmas of the proofs.
-mod Members
-mod Reading
+pub mod Members
+pub mod Reading

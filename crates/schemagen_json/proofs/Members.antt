@@ -30,7 +30,7 @@ put_each-push : (ms : List (Bor (List ℕ) × Data)) (m : Bor (List ℕ) × Data
 put_each-push [] m found = refl
 put_each-push (l ∷ ms) m found = put_each-push ms m (put l.0.now l.1 found)
 
-map-push : {A B : Type 0} (f : A → B) (xs : List A) (x : A) → map f (xs ++ x ∷ []) ≡ map f xs ++ f x ∷ []
+pub map-push : {A B : Type 0} (f : A → B) (xs : List A) (x : A) → map f (xs ++ x ∷ []) ≡ map f xs ++ f x ∷ []
 map-push f [] x = refl
 map-push f (y ∷ xs) x = ap (λ ys. f y ∷ ys) (map-push f xs x)
 
@@ -82,7 +82,7 @@ and_later false true r = refl
 and_later false false r = refl
 
 module _ (names : List Text) where
-  are_listed-put : (k : Text) (d : Data) (ms : Members) → are_listed names (put k d ms) ≡ is_listed k names && are_listed names ms
+  pub are_listed-put : (k : Text) (d : Data) (ms : Members) → are_listed names (put k d ms) ≡ is_listed k names && are_listed names ms
   are_listed-put k d no_members = refl
   are_listed-put k d (member l e ms) = by (slice_cmp nat_cmp k l) refl (are_listed-put k d ms)
     where

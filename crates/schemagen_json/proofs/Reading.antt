@@ -6,8 +6,7 @@ use Rattle.json.specs.Json.{Parse, parse_map, after_end_array, read_key, items_s
 use Rattle.json.proofs.Grammar.{value_is, value-begin_array, value-begin_object, items_end, items_more, members_end, members_more, members_no_key}
 use Rattle.serde_json.specs.Data.{Data, Num, null, boolean, number, string, array, object, Items, no_items, item, Members, no_members, put}
 use Rattle.serde_json.specs.Read.{of_json, of_items, of_members, converted, number_of}
-use Rattle.schemagen_json.specs.declared.borrowed_value.BorrowedValue.{BorrowedValue}
-use Rattle.schemagen_json.specs.BorrowedValue.{data_of, items_data}
+use Rattle.serde_json.specs.View.{items_of}
 
 -- ---- the conversion
 
@@ -101,23 +100,22 @@ object_too_deep ts rest is = ap (read_at 0) is
 -- ---- lists
 
 -- these items, and then the rest
-abbrev pub items_before : List BorrowedValue → Items → Items
+abbrev pub items_before : List Data → Items → Items
 items_before [] rest = rest
-items_before (v ∷ vs) rest = item (data_of v) (items_before vs rest)
+items_before (d ∷ ds) rest = item d (items_before ds rest)
 
-pub items_before-none : (vs : List BorrowedValue) → items_before vs no_items ≡ items_data vs
+pub items_before-none : (ds : List Data) → items_before ds no_items ≡ items_of ds
 items_before-none [] = refl
-items_before-none (v ∷ vs) = ap (item (data_of v)) (items_before-none vs)
+items_before-none (d ∷ ds) = ap (item d) (items_before-none ds)
 
-items_before-push : (vs : List BorrowedValue) (v : BorrowedValue) (rest : Items)
-    → items_before vs (item (data_of v) rest) ≡ items_before (vs ++ v ∷ []) rest
-items_before-push [] v rest = refl
-items_before-push (w ∷ vs) v rest = ap (item (data_of w)) (items_before-push vs v rest)
+items_before-push : (ds : List Data) (d : Data) (rest : Items) → items_before ds (item d rest) ≡ items_before (ds ++ d ∷ []) rest
+items_before-push [] d rest = refl
+items_before-push (e ∷ ds) d rest = ap (item e) (items_before-push ds d rest)
 
-pub one_more_item : (vs : List BorrowedValue) (v : BorrowedValue) (r : Option (Items × List Token))
-    → parse_map (items_before vs) (parse_map (item (data_of v)) r) ≡ parse_map (items_before (vs ++ v ∷ [])) r
-one_more_item vs v None = refl
-one_more_item vs v (Some p) = ap (λ ds. Some (ds, p.1)) (items_before-push vs v p.0)
+pub one_more_item : (ds : List Data) (d : Data) (r : Option (Items × List Token))
+    → parse_map (items_before ds) (parse_map (item d) r) ≡ parse_map (items_before (ds ++ d ∷ [])) r
+one_more_item ds d None = refl
+one_more_item ds d (Some p) = ap (λ es. Some (es, p.1)) (items_before-push ds d p.0)
 
 pub none_before : (r : Option (Items × List Token)) → parse_map (items_before []) r ≡ r
 none_before None = refl

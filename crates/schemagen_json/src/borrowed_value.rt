@@ -11,6 +11,7 @@ mod reading;
 pub use copying::copy_members;
 use members::last_member;
 pub use members::lone_member;
+pub use reading::{MAX_DEPTH, read_value, read_value_from};
 use serde_json::Number;
 
 /// A JSON value that borrows its texts: from the text that it was read from, or, if they have

@@ -4,5 +4,7 @@
 mod borrowed_value;
 mod error;
 
-pub use borrowed_value::{BorrowedValue, copy_members, lone_member};
+pub use borrowed_value::{
+    BorrowedValue, MAX_DEPTH, copy_members, lone_member, read_value, read_value_from,
+};
 pub use error::ParseError;

@@ -1,6 +1,7 @@
 //! From a text to a value, in one pass over its tokens.
-ghost use Rattle.std.specs.Prelude.{◌≡◌, ◌<◌, Some, None, Err, IfOk, OnOk, length};
+ghost use Rattle.std.specs.Prelude.{◌≡◌, ◌<◌, ◌≤◌, ◌∷◌, Some, None, Err, IfOk, OnOk, length};
 ghost use Rattle.json.specs.Json.{value, items, members};
+ghost use Rattle.json.specs.Reads.{token_of};
 ghost use Rattle.serde_json.specs.Data.{no_members};
 ghost use Rattle.serde_json.specs.Read.{of_json, of_items, of_members, converted, read as read_text};
 ghost use Rattle.schemagen_json.specs.BorrowedValue.{data_of, items_data, members_data};
@@ -11,8 +12,8 @@ use crate::error::ParseError;
 use json::{Reader, Scratch, Token};
 use std::alloc::Global;
 
-// How deep lists and objects may nest, as in `serde_json`.
-const MAX_DEPTH: usize = 127;
+/// How deep lists and objects may nest, as in `serde_json`.
+pub const MAX_DEPTH: usize = 127;
 
 impl<'a> BorrowedValue<'a> {
     /// The value that a text says. Texts with escapes are written to the scratch.
@@ -29,7 +30,7 @@ impl<'a> BorrowedValue<'a> {
         ensures not_json { result ≡ Err ParseError.NotJson → read_text text.now ≡ None }
     {
         let mut reader = Reader::new(text, scratch)?;
-        let value = read(alloc, &mut reader, MAX_DEPTH)?;
+        let value = read_value(alloc, &mut reader, MAX_DEPTH)?;
         if reader.next().is_some() {
             return Err(ParseError::NotJson);
         }
@@ -37,9 +38,13 @@ impl<'a> BorrowedValue<'a> {
     }
 }
 
-// The next value, in which lists and objects nest at most this deep.
+/// The next value, in which lists and objects nest at most this deep.
+///
+/// # Errors
+///
+/// `NotJson` if and only if there is none, and `OutOfMemory`.
 #[cycle(read)]
-fn read<'a>(
+pub fn read_value<'a>(
     alloc: Global,
     reader: &mut Reader<'a>,
     depth: usize,
@@ -51,6 +56,27 @@ fn read<'a>(
         → converted of_json (value depth reader.old) ≡ None }
 {
     let token = reader.next().ok_or(ParseError::NotJson)?;
+    read_value_from(alloc, token, reader, depth)
+}
+
+/// The value that begins with a token, which the reader has just given.
+///
+/// # Errors
+///
+/// Those of `read_value`.
+#[cycle(read)]
+pub fn read_value_from<'a>(
+    alloc: Global,
+    token: Token<'a>,
+    reader: &mut Reader<'a>,
+    depth: usize,
+) -> Result<BorrowedValue<'a>, ParseError>
+    ensures ok { IfOk result (λ v. converted of_json (value depth (token_of token.entry ∷ reader.old))
+        ≡ Some (data_of v, reader.new)) }
+    ensures shorter { OnOk result (length reader.new ≤ length reader.old) }
+    ensures not_json { result ≡ Err ParseError.NotJson
+        → converted of_json (value depth (token_of token.entry ∷ reader.old)) ≡ None }
+{
     match token {
         Token::String(text) => Ok(BorrowedValue::String(text)),
         Token::Number(text) => match parse_number(text) {
@@ -91,7 +117,7 @@ fn read_items<'a>(
 {
     let mut found = Vec::new(alloc);
     'items: while !reader.take_end_array() {
-        let item = read(alloc, reader, depth)?;
+        let item = read_value(alloc, reader, depth)?;
         found.push(item)?;
     }
     Ok(found)
@@ -115,7 +141,7 @@ fn read_members<'a>(
 {
     let mut found = Vec::new(alloc);
     'members: while let Some(name) = reader.next_key()? {
-        let member = read(alloc, reader, depth)?;
+        let member = read_value(alloc, reader, depth)?;
         found.push((name, member))?;
     }
     Ok(found)

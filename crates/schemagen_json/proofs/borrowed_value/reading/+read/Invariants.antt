@@ -1,26 +1,29 @@
 -- What was read so far goes before what the rest says.
-use Rattle.std.proofs.Common.{◌≡◌, ℕ, ◌+◌, ◌*◌, ◌≤◌, length}
+use Rattle.std.proofs.Common.{◌≡◌, ℕ, ◌+◌, ◌*◌, ◌≤◌, length, map}
 use Rattle.json.specs.Json.{items, members, value, parse_map}
 use Rattle.serde_json.specs.Data.{no_members}
 use Rattle.serde_json.specs.Read.{of_items, of_members, converted}
-use Rattle.schemagen_json.specs.BorrowedValue.{members_data}
+use Rattle.schemagen_json.specs.BorrowedValue.{data_of, members_data}
 use Rattle.schemagen_json.proofs.Reading.{items_before}
 use Rattle.schemagen_json.proofs.borrowed_value.reading.+read.Given as goal
 
-abbrev pub decreases-read : goal.decreases-read
-decreases-read l = 2 * l.depth
+abbrev pub decreases-read_value : goal.decreases-read_value
+decreases-read_value l = 3 * l.depth + 1
+
+abbrev pub decreases-read_value_from : goal.decreases-read_value_from
+decreases-read_value_from l = 3 * l.depth
 
 abbrev pub decreases-read_items : goal.decreases-read_items
-decreases-read_items l = 2 * l.depth + 1
+decreases-read_items l = 3 * l.depth + 2
 
 abbrev pub decreases-read_members : goal.decreases-read_members
-decreases-read_members l = 2 * l.depth + 1
+decreases-read_members l = 3 * l.depth + 2
 
 abbrev pub invariant-read_items-items : goal.invariant-read_items-items
 invariant-read_items-items l =
     (n : ℕ) × (length l.reader ≤ n)
     × (converted of_items (items (value l.depth) (length l.initial.reader) l.initial.reader)
-    ≡ parse_map (items_before l.found.items) (converted of_items (items (value l.depth) n l.reader)))
+    ≡ parse_map (items_before (map data_of l.found.items)) (converted of_items (items (value l.depth) n l.reader)))
     × (length l.reader ≤ length l.initial.reader)
 
 abbrev pub decreases-read_items-items : goal.decreases-read_items-items

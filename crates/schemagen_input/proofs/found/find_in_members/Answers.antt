@@ -1,0 +1,47 @@
+-- Each member adds what it says.
+use Rattle.std.proofs.Common.{◌≡◌, ◌-◌, Some, ◌∙◌, arith, rules}
+use Rattle.json.specs.Json.{read_key, value}
+use Rattle.json.proofs.Grammar.{read_key-shorter}
+use Rattle.serde_json.specs.Data.{put}
+use Rattle.schemagen_json.proofs.Reading.{member_read, member_refused, name_refused, members_closed}
+use Rattle.schemagen_input.proofs.found.find_in_members.Goals as goal
+
+pub returns-in_err-name-clause-not_json : goal.returns-in_err-name-clause-not_json
+returns-in_err-name-clause-not_json c = λ is.
+    let l = c.members in
+    l.invariant.3 ∙ name_refused (value 126) l.invariant.1 l.invariant.0 l.reader c.in_err-name.ensures.value
+
+pub returns-in_err-find_in_member-clause-not_json : goal.returns-in_err-find_in_member-clause-not_json
+returns-in_err-find_in_member-clause-not_json c = λ is.
+    let l = c.members in
+    let behind = c.next_key.new.self in
+    let named : read_key l.reader ≡ Some (Some c.in-Some.name.now, behind) = grind arith in
+    l.invariant.3
+    ∙ member_refused (value 126) l.invariant.1 l.invariant.0 c.in-Some.name.now l.reader behind named
+    (c.find_in_member.ensures.not_json (search (rules, is)))
+
+pub members-preserved : goal.members-preserved
+members-preserved c =
+    let l = c.members in
+    let n = l.invariant.0 in
+    let ms = l.invariant.1 in
+    let name = c.in-Some.name in
+    let behind = c.next_key.new.self in
+    let named : read_key l.reader ≡ Some (Some name.now, behind) = grind arith in
+    let done = c.in_ok-find_in_member.ensures in
+    let d = done.ok.0 in
+    let rest = c.find_in_member.new.reader in
+    let less = read_key-shorter l.reader (Some name.now) behind named in
+    let lesser = done.shorter in (
+      n - 1,
+      put name.now d ms,
+      omega (arith, l.invariant.2),
+      l.invariant.3 ∙ member_read (value 126) ms n name.now l.reader behind rest d (omega (arith, l.invariant.2)) named done.ok.1,
+      done.ok.2 ms l.invariant.4,
+    )
+
+pub returns-clause-ok : goal.returns-clause-ok
+returns-clause-ok c =
+    let l = c.members in
+    let closed = members_closed (value 126) l.invariant.1 l.invariant.0 l.reader c.next_key.new.self l.invariant.2 (grind arith) in
+    (l.invariant.1, l.invariant.3 ∙ closed, l.invariant.4)

@@ -1,0 +1,18 @@
+-- The items so far go before those that the rest says, and their rows are listed.
+use Rattle.std.proofs.Common.{◌≡◌, ℕ, ◌≤◌, List, length}
+use Rattle.json.specs.Json.{items, value, parse_map}
+use Rattle.serde_json.specs.Data.{Data}
+use Rattle.serde_json.specs.Read.{of_items, converted}
+use Rattle.schemagen_json.proofs.Reading.{items_before}
+use Rattle.schemagen_input.specs.Listing.{AreBegun}
+use Rattle.schemagen_input.proofs.found.find_items.Given as goal
+
+abbrev pub invariant-items : goal.invariant-items
+invariant-items l =
+    (n : ℕ) × (ds : List Data) × (length l.reader ≤ n)
+    × (converted of_items (items (value 125) (length l.initial.reader) l.initial.reader)
+    ≡ parse_map (items_before ds) (converted of_items (items (value 125) n l.reader)))
+    × AreBegun l.listing ds × (length l.reader ≤ length l.initial.reader)
+
+abbrev pub decreases-items : goal.decreases-items
+decreases-items l = length l.reader

@@ -1,0 +1,60 @@
+-- The rows of a table while they are read: their headings as a table, and their entries, before it is known whether these refer to rows.
+use Rattle.std.specs.Prelude.{◌≡◌, List, ◌++◌, true, false, Option, Some, None, map, option_and_then, codes, ◌∷◌, []}
+use Rattle.serde_json.specs.Data.{Data, Items, Members, object, put}
+use Rattle.serde_json.specs.Find.{as_array, get}
+use Rattle.serde_json.specs.View.{items_of}
+use Rattle.schemars_schema.specs.Json.{Text}
+use Rattle.schemagen_json.specs.Members.{has_only}
+use Rattle.schemars_shapes.specs.Shape.{Entry, entry_of}
+use Rattle.schemars_types.specs.Rows.{Row}
+use Rattle.schemagen_input.specs.Forms.{needed_member, read_each, number_in}
+use Rattle.schemagen_input.specs.Input.{heading_in, entry_in, rows_in, ids_differ, ids_of, is_complete}
+use Rattle.schemagen_input.specs.declared.listing.Listing.{Listing}
+use Rattle.schemagen_input.specs.declared.found.Found.{Found}
+
+-- the rows that the items of a list say, without their entries
+abbrev pub headings_in : Items → Option (List Row)
+headings_in ds = read_each heading_in ds
+
+-- The values say rows with these headings and entries, and no two have one id.
+pub record AreListed (ds : List Data) (headings : List Row) (entries : List Entry) : Type 0 where
+  pub headed : headings_in (items_of ds) ≡ Some headings
+  pub entered : read_each entry_in (items_of ds) ≡ Some entries
+  pub differ : ids_differ (ids_of headings) ≡ true
+
+abbrev pub IsListing : List Data → Listing → Type 0
+IsListing ds l = AreListed ds l.types (map entry_of l.entries.items)
+
+-- the values say the rows of this table
+abbrev pub IsTableOf : List Data → List Row → Type 0
+IsTableOf ds rows = (rows_in (items_of ds) ≡ Some rows) × (is_complete rows ≡ true)
+
+-- they say those of none
+abbrev pub IsNoTable : List Data → Type 0
+IsNoTable ds = (rows : List Row) → rows_in (items_of ds) ≡ Some rows → is_complete rows ≡ false
+
+-- whatever comes after them
+abbrev pub BeginsNoTable : List Data → Type 0
+BeginsNoTable ds = (more : List Data) → IsNoTable (ds ++ more)
+
+-- what the values say so far, if a table can begin so
+abbrev pub AreBegun : Option Listing → List Data → Type 0
+AreBegun (Some l) ds = IsListing ds l
+AreBegun None ds = BeginsNoTable ds
+
+-- ---- the members of a table's object
+
+-- what a member says that is the list of the rows
+abbrev pub IsListIn : Option Listing → Option Data → Type 0
+IsListIn (Some l) o = (ds : List Data) × (option_and_then as_array o ≡ Some (items_of ds)) × IsListing ds l
+IsListIn None o = (ds : List Data) → option_and_then as_array o ≡ Some (items_of ds) → IsNoTable ds
+
+-- What was found is what the members of a value say: whether there are others, the rows, and the root.
+pub record IsFound (f : Found) (d : Data) : Type 0 where
+  pub only : f.only ≡ has_only (codes "types" ∷ codes "root" ∷ []) d
+  pub listing : IsListIn f.listing (get (codes "types") d)
+  pub root : f.root ≡ needed_member number_in (codes "root") d
+
+-- with one more member, of which the last one of a name counts
+abbrev pub AddsMember : Text → Data → Found → Found → Type 0
+AddsMember name d old new = (ms : Members) → IsFound old (object ms) → IsFound new (object (put name d ms))

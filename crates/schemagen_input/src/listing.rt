@@ -1,0 +1,130 @@
+//! The rows of a table, read one after another.
+ghost use Rattle.std.specs.Prelude.{◌≡◌, ◌++◌, ◌∷◌, [], List, Err, OnOk, IfOk, IfErr, option_map, map};
+ghost use Rattle.serde_json.specs.Data.{Data};
+ghost use Rattle.schemagen_json.specs.BorrowedValue.{data_of};
+ghost use Rattle.schemagen_input.specs.Input.{heading_in, unentered};
+ghost use Rattle.schemars_shapes.specs.Shape.{entry_of};
+ghost use Rattle.schemagen_input.specs.Listing.{AreListed, IsListing, AreBegun, BeginsNoTable, IsTableOf, IsNoTable};
+
+use crate::error::InputError;
+use crate::members::text_in;
+use crate::shapes::entry_in;
+use schemagen_json::BorrowedValue;
+use schemars_types::{TypeEntry, Types};
+use std::alloc::{AllocError, Global};
+
+const ROW_NAMES: [&str; 5] = ["id", "name", "inline", "notes", "shape"];
+
+/// The rows so far: their ids and names as a table, and their entries, which may refer to rows that
+/// come later.
+#[derive(Drop)]
+pub struct Listing {
+    pub types: Types,
+    pub entries: Vec<TypeEntry>,
+}
+
+impl Listing {
+    /// No rows.
+    pub fn new(alloc: Global) -> Listing
+        ensures { IsListing [] result }
+    {
+        Listing {
+            types: Types::new(alloc),
+            entries: Vec::new(alloc),
+        }
+    }
+
+    /// Adds the row that a value says.
+    ///
+    /// # Errors
+    ///
+    /// `BadTable` if it says none, or one with an id that is there already, and `OutOfMemory`.
+    pub fn add(&mut self, alloc: Global, row: &BorrowedValue<'_>) -> Result<(), InputError>
+        ensures ok { OnOk result ((ds : List Data) → IsListing ds self.old
+            → IsListing (ds ++ data_of row.now ∷ []) self.new) }
+        ensures bad { result ≡ Err InputError.BadTable → (ds : List Data) → IsListing ds self.old
+            → BeginsNoTable (ds ++ data_of row.now ∷ []) }
+    {
+        let Some((id, name)) = heading_in(row) else {
+            return Err(InputError::BadTable);
+        };
+        if self.types.find(id).is_some() {
+            return Err(InputError::BadTable);
+        }
+        let entry = entry_in(alloc, row)?;
+        self.entries.push(entry)?;
+        let id = String::from_str(alloc, id)?;
+        let name = String::from_str(alloc, name)?;
+        self.types.reserve(id, name)?;
+        Ok(())
+    }
+
+    /// The table of the rows.
+    ///
+    /// # Errors
+    ///
+    /// `BadTable` if an entry refers to no row.
+    pub fn into_types(self) -> Result<Types, InputError>
+        ensures ok { IfOk result (λ t. (ds : List Data) → IsListing ds self → IsTableOf ds t) }
+        ensures bad { IfErr result (λ e. e ≡ InputError.BadTable → (ds : List Data) → IsListing ds self → IsNoTable ds) }
+    {
+        define_rows(self.types, self.entries)
+    }
+}
+
+// The id and the name of a row.
+fn heading_in<'a>(value: &BorrowedValue<'a>) -> Option<(&'a str, &'a str)>
+    ensures { option_map (λ h. unentered h.0.now h.1.now) result ≡ heading_in (data_of value.now) }
+{
+    if !value.has_only(&ROW_NAMES) {
+        return None;
+    }
+    let id = text_in(value, "id")?;
+    let name = text_in(value, "name")?;
+    Some((id, name))
+}
+
+// Defines the rows in their order.
+fn define_rows(mut types: Types, entries: Vec<TypeEntry>) -> Result<Types, InputError>
+    ensures ok { IfOk result (λ t. (ds : List Data)
+        → AreListed ds types (map entry_of entries.items) → IsTableOf ds t) }
+    ensures bad { IfErr result (λ e. e ≡ InputError.BadTable → (ds : List Data)
+        → AreListed ds types (map entry_of entries.items) → IsNoTable ds) }
+{
+    let mut n = 0;
+    for entry in entries {
+        types.define(n, entry)?;
+        n += 1;
+    }
+    Ok(types)
+}
+
+/// The rows of a list: none if the list is not that of a table.
+pub fn list_rows(alloc: Global, rows: &[BorrowedValue<'_>]) -> Result<Option<Listing>, AllocError>
+    ensures { IfOk result (λ listing. AreBegun listing (map data_of rows.now)) }
+{
+    let mut listing = Some(Listing::new(alloc));
+    for row in rows {
+        listing = with_row(alloc, listing, row)?;
+    }
+    Ok(listing)
+}
+
+/// The rows so far with one more: none if no list that begins so is that of a table.
+pub fn with_row(
+    alloc: Global,
+    listing: Option<Listing>,
+    row: &BorrowedValue<'_>,
+) -> Result<Option<Listing>, AllocError>
+    ensures { IfOk result (λ more. (ds : List Data) → AreBegun listing ds
+        → AreBegun more (ds ++ data_of row.now ∷ [])) }
+{
+    let Some(mut listing) = listing else {
+        return Ok(None);
+    };
+    match listing.add(alloc, row) {
+        Ok(()) => Ok(Some(listing)),
+        Err(InputError::BadTable) => Ok(None),
+        Err(InputError::OutOfMemory) => Err(AllocError),
+    }
+}
