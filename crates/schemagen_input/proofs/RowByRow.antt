@@ -368,9 +368,6 @@ pub record AreDefined (hs : List Row) (es : List Entry) (types : List Row) : Typ
   pub is : types ≡ with_entries hs es
   pub fit : list_all (refers_within (length hs)) es ≡ true
 
-pub none_defined : (hs : List Row) → AreDefined hs [] hs
-none_defined hs = record { is = refl; fit = refl }
-
 within_rows : (rows : List Row) (n : ℕ) (e : Entry) → refusal_of rows n e ≡ None → n < length rows
 within_rows rows n e none = by (nat_le (length rows) n) refl none
   where

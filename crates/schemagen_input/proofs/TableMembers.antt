@@ -13,7 +13,7 @@ use Rattle.schemagen_json.specs.Members.{has_only, are_listed}
 use Rattle.schemagen_json.proofs.Members.{are_listed-put}
 use Rattle.schemagen_input.specs.Forms.{number_in, needed_member}
 use Rattle.schemagen_input.specs.Input.{rows_in, is_complete, table_in}
-use Rattle.schemagen_input.specs.Listing.{AreBegun, IsTableOf, IsNoTable, IsListIn, AddsMember}
+use Rattle.schemagen_input.specs.Listing.{AreBegun, IsNoTable, IsListIn, AddsMember}
 use Rattle.schemagen_input.specs.declared.listing.Listing.{Listing}
 use Rattle.schemagen_input.specs.declared.found.Found.{Found}
 use Rattle.schemagen_input.proofs.RowByRow.{ends_so}
@@ -31,17 +31,6 @@ rows_of_items : (o : Option Data) → option_and_then (λ e. option_and_then row
 rows_of_items None = refl
 rows_of_items (Some e) = refl
 
-pub has_others : (d : Data) → has_only table_names d ≡ false → table_in d ≡ None
-has_others d others = rw others refl
-
-pub has_no_root : (d : Data) → needed_member number_in (codes "root") d ≡ None → table_in d ≡ None
-has_no_root d none = rw none (by (has_only table_names d) (needed_member (λ e. option_and_then rows_in (as_array e)) (codes "types") d))
-  where
-    by : (b : Bool) (o : Option (List Row)) → cond b (option_and_then {T = List Row} {U = List Row × ℕ} (λ rows. None) o) None ≡ None
-    by false o = refl
-    by true None = refl
-    by true (Some rows) = refl
-
 -- the rows are missing, or incomplete
 incomplete : (d : Data) (o : Option (List Row)) → needed_member (λ e. option_and_then rows_in (as_array e)) (codes "types") d ≡ o
     → ((rows : List Row) → o ≡ Some rows → is_complete rows ≡ false) → table_in d ≡ None
@@ -54,7 +43,7 @@ incomplete d o is none = rw is (by (has_only table_names d) o (needed_member num
     by true (Some rows) None none = refl
     by true (Some rows) (Some root) none = rw (none rows refl) refl
 
-pub is_no_table : (d : Data) (ds : List Data) → option_and_then as_array (get (codes "types") d) ≡ Some (items_of ds) → IsNoTable ds
+is_no_table : (d : Data) (ds : List Data) → option_and_then as_array (get (codes "types") d) ≡ Some (items_of ds) → IsNoTable ds
     → table_in d ≡ None
 is_no_table d ds is none =
     incomplete d (rows_in (items_of ds)) (rows_of_items (get (codes "types") d) ∙ ap (option_and_then rows_in) is) none
@@ -70,13 +59,6 @@ has_no_list d none = by (option_and_then as_array (get (codes "types") d)) refl
     by : (o : Option Items) → option_and_then as_array (get (codes "types") d) ≡ o → table_in d ≡ None
     by None is = incomplete d None (rows_of_items (get (codes "types") d) ∙ ap (option_and_then rows_in) is) (λ rows e. cc)
     by (Some items) is = let l = listed items in let there = is ∙ ap Some l.1 in is_no_table d l.0 there (none l.0 there)
-
-pub is_table : (d : Data) (ds : List Data) (rows : List Row) (root : ℕ) → has_only table_names d ≡ true
-    → option_and_then as_array (get (codes "types") d) ≡ Some (items_of ds) → needed_member number_in (codes "root") d ≡ Some root
-    → IsTableOf ds rows → table_in d ≡ Some (rows, root)
-is_table d ds rows root only is number table =
-    let said = rows_of_items (get (codes "types") d) ∙ ap (option_and_then rows_in) is ∙ table.0 in
-    rw (only, said, number, table.1) refl
 
 same_rows : (p q : List Row × ℕ) → Some p ≡ Some q → p.0 ≡ q.0
 same_rows p q e = ap (λ (r : List Row × ℕ). r.0) (same_some p q e)
