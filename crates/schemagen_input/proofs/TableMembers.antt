@@ -15,7 +15,7 @@ use Rattle.schemagen_input.specs.Forms.{number_in, needed_member}
 use Rattle.schemagen_input.specs.Input.{rows_in, is_complete, table_in}
 use Rattle.schemagen_input.specs.Listing.{AreBegun, IsNoTable, IsListIn, AddsMember}
 use Rattle.schemagen_input.specs.declared.listing.Listing.{Listing}
-use Rattle.schemagen_input.specs.declared.found.Found.{Found}
+use Rattle.schemagen_input.specs.declared.table_members.TableMembers.{TableMembers}
 use Rattle.schemagen_input.proofs.RowByRow.{ends_so}
 
 abbrev table_names : List Text
@@ -107,7 +107,7 @@ list_in None o ds is begun = λ es e rows r.
 other_name : (k l : Text) → bytes_eq k l ≡ false → l ≢ k
 other_name k l other = λ is. true≢false (sym ((bytes_eq-Decides k l).1 (sym is)) ∙ other)
 
-pub adds_types : (d : Data) (old : Found) (listing : Option Listing) → IsListIn listing (Some d)
+pub adds_types : (d : Data) (old : TableMembers) (listing : Option Listing) → IsListIn listing (Some d)
     → AddsMember (codes "types") d old (record old { listing = listing })
 adds_types d old listing is ms found = record {
   only = found.only ∙ sym (are_listed-put table_names (codes "types") d ms);
@@ -116,7 +116,7 @@ adds_types d old listing is ms found = record {
       (sym (get_member-put_other (codes "root") (codes "types") d ms (other_name (codes "types") (codes "root") refl)));
 }
 
-pub adds_root : (d : Data) (old : Found) → AddsMember (codes "root") d old (record old { root = number_in d })
+pub adds_root : (d : Data) (old : TableMembers) → AddsMember (codes "root") d old (record old { root = number_in d })
 adds_root d old ms found = record {
   only = found.only ∙ sym (are_listed-put table_names (codes "root") d ms);
   listing = subst (IsListIn old.listing)
@@ -124,7 +124,7 @@ adds_root d old ms found = record {
   root = sym (ap (option_and_then number_in) (get_member-put (codes "root") d ms));
 }
 
-pub adds_other : (k : Text) (d : Data) (old : Found) → bytes_eq k (codes "types") ≡ false → bytes_eq k (codes "root") ≡ false
+pub adds_other : (k : Text) (d : Data) (old : TableMembers) → bytes_eq k (codes "types") ≡ false → bytes_eq k (codes "root") ≡ false
     → AddsMember k d old (record old { only = false })
 adds_other k d old types root ms found =
     let none : is_listed k table_names ≡ false = rw (types, root) refl in

@@ -10,7 +10,7 @@ use Rattle.schemars_types.specs.Rows.{Row}
 use Rattle.schemagen_input.specs.Forms.{needed_member, read_each, number_in}
 use Rattle.schemagen_input.specs.Input.{heading_in, entry_in, rows_in, ids_differ, ids_of, is_complete}
 use Rattle.schemagen_input.specs.declared.listing.Listing.{Listing}
-use Rattle.schemagen_input.specs.declared.found.Found.{Found}
+use Rattle.schemagen_input.specs.declared.table_members.TableMembers.{TableMembers}
 
 -- the rows that the items of a list say, without their entries
 abbrev pub headings_in : Items → Option (List Row)
@@ -49,12 +49,12 @@ abbrev pub IsListIn : Option Listing → Option Data → Type 0
 IsListIn (Some l) o = (ds : List Data) × (option_and_then as_array o ≡ Some (items_of ds)) × IsListing ds l
 IsListIn None o = (ds : List Data) → option_and_then as_array o ≡ Some (items_of ds) → IsNoTable ds
 
--- What was found is what the members of a value say: whether there are others, the rows, and the root.
-pub record IsFound (f : Found) (d : Data) : Type 0 where
+-- These are the members of a value: whether there are others, the rows, and the root.
+pub record AreMembersOf (f : TableMembers) (d : Data) : Type 0 where
   pub only : f.only ≡ has_only (codes "types" ∷ codes "root" ∷ []) d
   pub listing : IsListIn f.listing (get (codes "types") d)
   pub root : f.root ≡ needed_member number_in (codes "root") d
 
 -- with one more member, of which the last one of a name counts
-abbrev pub AddsMember : Text → Data → Found → Found → Type 0
-AddsMember name d old new = (ms : Members) → IsFound old (object ms) → IsFound new (object (put name d ms))
+abbrev pub AddsMember : Text → Data → TableMembers → TableMembers → Type 0
+AddsMember name d old new = (ms : Members) → AreMembersOf old (object ms) → AreMembersOf new (object (put name d ms))

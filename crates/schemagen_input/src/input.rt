@@ -8,7 +8,7 @@ ghost use Rattle.schemars_types.specs.Rows.{Row};
 ghost use Rattle.serde_json.specs.Find.{as_array};
 
 use crate::error::InputError;
-use crate::found::Found;
+use crate::table_members::TableMembers;
 use schemagen_json::BorrowedValue;
 use schemars_types::{TypeNo, Types};
 use std::alloc::Global;
@@ -35,6 +35,6 @@ pub fn read_input(alloc: Global, value: &BorrowedValue<'_>) -> Result<(Types, Ty
     ensures input { (rows : List Row) (root : ℕ) → CanBeWritten rows
         → root < length rows → input_of (json_of rows root) ≡ Some (rows, root) }
 {
-    let found = Found::in_value(alloc, value)?;
-    found.into_table()
+    let members = TableMembers::of_value(alloc, value)?;
+    members.into_table()
 }

@@ -3,13 +3,13 @@
 
 mod error;
 mod fields;
-mod found;
 mod input;
 mod listing;
 mod locate;
 mod members;
 mod sample;
 mod shapes;
+mod table_members;
 mod text;
 mod variants;
 

@@ -2,11 +2,11 @@
 ghost use Rattle.std.specs.Prelude.{◌≡◌, ◌≢◌, true, None, Some, Err, IfOk};
 ghost use Rattle.serde_json.specs.Data.{Data};
 ghost use Rattle.schemagen_input.specs.Input.{is_table, input_of};
-ghost use Rattle.schemagen_input.specs.Listing.{IsFound};
+ghost use Rattle.schemagen_input.specs.Listing.{AreMembersOf};
 ghost use Rattle.schemagen_input.specs.Texts.{IsTableText, IsNoJson, IsBadTable};
 
 use crate::error::InputError;
-use crate::found::{Found, find_in_text};
+use crate::table_members::{TableMembers, read_text_members};
 use json::Scratch;
 use schemagen_json::ParseError;
 use schemars_types::{TypeNo, Types};
@@ -39,22 +39,22 @@ pub fn read_table(alloc: Global, bytes: &[u8]) -> Result<(Types, TypeNo), TextEr
         return Err(TextError::NotJson);
     };
     let mut scratch = Scratch::new(alloc);
-    match find_in_text(alloc, text, &mut scratch) {
-        Ok(found) => rooted_table(found),
+    match read_text_members(alloc, text, &mut scratch) {
+        Ok(members) => rooted_table(members),
         Err(ParseError::OutOfMemory) => Err(TextError::OutOfMemory),
         Err(ParseError::NotJson) => Err(TextError::NotJson),
     }
 }
 
-// The table that a value has, and its root, which is one of the rows.
-fn rooted_table(found: Found) -> Result<(Types, TypeNo), TextError>
-    ensures ok { IfOk result (λ t. (d : Data) → IsFound found d
+// The table of a value with these members, and its root, which is one of the rows.
+fn rooted_table(members: TableMembers) -> Result<(Types, TypeNo), TextError>
+    ensures ok { IfOk result (λ t. (d : Data) → AreMembersOf members d
         → (input_of d ≡ Some (t.0, t.1)) × (is_table t.0 t.1 ≡ true)) }
     ensures json { result ≢ Err TextError.NotJson }
-    ensures bad_table { result ≡ Err TextError.BadTable → (d : Data) → IsFound found d
+    ensures bad_table { result ≡ Err TextError.BadTable → (d : Data) → AreMembersOf members d
         → input_of d ≡ None }
 {
-    let (types, root) = match found.into_table() {
+    let (types, root) = match members.into_table() {
         Ok(table) => table,
         Err(InputError::OutOfMemory) => return Err(TextError::OutOfMemory),
         Err(InputError::BadTable) => return Err(TextError::BadTable),

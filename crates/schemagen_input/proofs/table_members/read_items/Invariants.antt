@@ -5,7 +5,7 @@ use Rattle.serde_json.specs.Data.{Data}
 use Rattle.serde_json.specs.Read.{of_items, converted}
 use Rattle.schemagen_json.proofs.Reading.{items_before}
 use Rattle.schemagen_input.specs.Listing.{AreBegun}
-use Rattle.schemagen_input.proofs.found.find_items.Given as goal
+use Rattle.schemagen_input.proofs.table_members.read_items.Given as goal
 
 abbrev pub invariant-items : goal.invariant-items
 invariant-items l =

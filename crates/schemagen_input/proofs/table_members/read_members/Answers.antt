@@ -4,33 +4,33 @@ use Rattle.json.specs.Json.{read_key, value}
 use Rattle.json.proofs.Grammar.{read_key-shorter}
 use Rattle.serde_json.specs.Data.{put}
 use Rattle.schemagen_json.proofs.Reading.{member_read, member_refused, name_refused, members_closed}
-use Rattle.schemagen_input.proofs.found.find_in_members.Goals as goal
+use Rattle.schemagen_input.proofs.table_members.read_members.Goals as goal
 
 pub returns-in_err-name-clause-not_json : goal.returns-in_err-name-clause-not_json
 returns-in_err-name-clause-not_json c = λ is.
-    let l = c.members in
+    let l = c.keys in
     l.invariant.3 ∙ name_refused (value 126) l.invariant.1 l.invariant.0 l.reader c.in_err-name.ensures.value
 
-pub returns-in_err-find_in_member-clause-not_json : goal.returns-in_err-find_in_member-clause-not_json
-returns-in_err-find_in_member-clause-not_json c = λ is.
-    let l = c.members in
+pub returns-in_err-read_member-clause-not_json : goal.returns-in_err-read_member-clause-not_json
+returns-in_err-read_member-clause-not_json c = λ is.
+    let l = c.keys in
     let behind = c.next_key.new.self in
     let named : read_key l.reader ≡ Some (Some c.in-Some.name.now, behind) = grind arith in
     l.invariant.3
     ∙ member_refused (value 126) l.invariant.1 l.invariant.0 c.in-Some.name.now l.reader behind named
-    (c.find_in_member.ensures.not_json (search (rules, is)))
+    (c.read_member.ensures.not_json (search (rules, is)))
 
-pub members-preserved : goal.members-preserved
-members-preserved c =
-    let l = c.members in
+pub keys-preserved : goal.keys-preserved
+keys-preserved c =
+    let l = c.keys in
     let n = l.invariant.0 in
     let ms = l.invariant.1 in
     let name = c.in-Some.name in
     let behind = c.next_key.new.self in
     let named : read_key l.reader ≡ Some (Some name.now, behind) = grind arith in
-    let done = c.in_ok-find_in_member.ensures in
+    let done = c.in_ok-read_member.ensures in
     let d = done.ok.0 in
-    let rest = c.find_in_member.new.reader in
+    let rest = c.read_member.new.reader in
     let less = read_key-shorter l.reader (Some name.now) behind named in
     let lesser = done.shorter in (
       n - 1,
@@ -42,6 +42,6 @@ members-preserved c =
 
 pub returns-clause-ok : goal.returns-clause-ok
 returns-clause-ok c =
-    let l = c.members in
+    let l = c.keys in
     let closed = members_closed (value 126) l.invariant.1 l.invariant.0 l.reader c.next_key.new.self l.invariant.2 (grind arith) in
     (l.invariant.1, l.invariant.3 ∙ closed, l.invariant.4)

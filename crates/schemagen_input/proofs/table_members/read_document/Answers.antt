@@ -5,7 +5,7 @@ use Rattle.json.specs.Token.{Token}
 use Rattle.json.specs.Json.{parse_map}
 use Rattle.serde_json.specs.Data.{object}
 use Rattle.schemagen_json.proofs.Reading.{nothing_read, object_opened}
-use Rattle.schemagen_input.proofs.found.find_in_value.Goals as goal
+use Rattle.schemagen_input.proofs.table_members.read_document.Goals as goal
 
 pub returns-in_err-token-clause-not_json : goal.returns-in_err-token-clause-not_json
 returns-in_err-token-clause-not_json c = λ is. nothing_read 127 c.args.reader.now [] (grind arith)
@@ -13,13 +13,13 @@ returns-in_err-token-clause-not_json c = λ is. nothing_read 127 c.args.reader.n
 pub returns-in-BeginObject-clause-ok : goal.returns-in-BeginObject-clause-ok
 returns-in-BeginObject-clause-ok c =
     let first : c.args.reader.now ≡ Token.begin_object ∷ c.next.new.self = grind (arith, c.in-BeginObject.is) in
-    IfOk-weaker c.find_in_members.result _ _ (λ f found. (
+    IfOk-weaker c.read_members.result _ _ (λ f found. (
       object found.0,
       object_opened 127 c.args.reader.now c.next.new.self (omega arith) first ∙ ap (parse_map object) found.1,
       found.2,
-    )) c.find_in_members.ensures.ok
+    )) c.read_members.ensures.ok
 
 pub returns-in-BeginObject-clause-not_json : goal.returns-in-BeginObject-clause-not_json
 returns-in-BeginObject-clause-not_json c = λ is.
     let first : c.args.reader.now ≡ Token.begin_object ∷ c.next.new.self = grind (arith, c.in-BeginObject.is) in
-    object_opened 127 c.args.reader.now c.next.new.self (omega arith) first ∙ ap (parse_map object) (c.find_in_members.ensures.not_json is)
+    object_opened 127 c.args.reader.now c.next.new.self (omega arith) first ∙ ap (parse_map object) (c.read_members.ensures.not_json is)

@@ -3,7 +3,7 @@ use Rattle.std.proofs.Common.{Some, map, sym}
 use Rattle.std.proofs.lemmas.Result.{IfOk-weaker}
 use Rattle.schemagen_json.specs.BorrowedValue.{data_of}
 use Rattle.schemagen_input.proofs.TableMembers.{list_in}
-use Rattle.schemagen_input.proofs.found.listing_in.Goals as goal
+use Rattle.schemagen_input.proofs.table_members.listing_in.Goals as goal
 
 pub returns-in-Some : goal.returns-in-Some
 returns-in-Some c =

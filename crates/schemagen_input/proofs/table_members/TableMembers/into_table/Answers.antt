@@ -3,7 +3,7 @@ use Rattle.std.proofs.Common.{◌≡◌, None, codes, subst, rules}
 use Rattle.serde_json.specs.Find.{get}
 use Rattle.schemagen_input.specs.Listing.{IsListIn}
 use Rattle.schemagen_input.proofs.TableMembers.{has_no_list}
-use Rattle.schemagen_input.proofs.found.Found.into_table.Goals as goal
+use Rattle.schemagen_input.proofs.table_members.TableMembers.into_table.Goals as goal
 
 pub returns-in_default-listing-clause-bad : goal.returns-in_default-listing-clause-bad
 returns-in_default-listing-clause-bad c = λ _ d found.

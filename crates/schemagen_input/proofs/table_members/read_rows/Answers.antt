@@ -7,7 +7,7 @@ use Rattle.serde_json.specs.Data.{array}
 use Rattle.serde_json.specs.View.{items_of}
 use Rattle.schemagen_json.proofs.Reading.{nothing_read, array_opened}
 use Rattle.schemagen_input.proofs.TableMembers.{list_in}
-use Rattle.schemagen_input.proofs.found.find_rows.Goals as goal
+use Rattle.schemagen_input.proofs.table_members.read_rows.Goals as goal
 
 pub returns-in_err-token-clause-not_json : goal.returns-in_err-token-clause-not_json
 returns-in_err-token-clause-not_json c = λ is. nothing_read 126 c.args.reader.now [] (grind arith)
@@ -15,13 +15,13 @@ returns-in_err-token-clause-not_json c = λ is. nothing_read 126 c.args.reader.n
 pub returns-in-BeginArray-clause-ok : goal.returns-in-BeginArray-clause-ok
 returns-in-BeginArray-clause-ok c =
     let first : c.args.reader.now ≡ Token.begin_array ∷ c.next.new.self = grind (arith, c.in-BeginArray.is) in
-    IfOk-weaker c.find_items.result _ _ (λ listing found. (
+    IfOk-weaker c.read_items.result _ _ (λ listing found. (
       array (items_of found.0),
       array_opened 126 c.args.reader.now c.next.new.self (omega arith) first ∙ ap (parse_map array) found.1,
       list_in listing (Some (array (items_of found.0))) found.0 refl found.2,
-    )) c.find_items.ensures.ok
+    )) c.read_items.ensures.ok
 
 pub returns-in-BeginArray-clause-not_json : goal.returns-in-BeginArray-clause-not_json
 returns-in-BeginArray-clause-not_json c = λ is.
     let first : c.args.reader.now ≡ Token.begin_array ∷ c.next.new.self = grind (arith, c.in-BeginArray.is) in
-    array_opened 126 c.args.reader.now c.next.new.self (omega arith) first ∙ ap (parse_map array) (c.find_items.ensures.not_json is)
+    array_opened 126 c.args.reader.now c.next.new.self (omega arith) first ∙ ap (parse_map array) (c.read_items.ensures.not_json is)
