@@ -10,6 +10,7 @@ use Rattle.serde_json.specs.Sent.{AreTokensOf, IsTextOf}
 use Rattle.serde_json.specs.View.{view}
 use Rattle.serde_json.specs.declared.value.Value.{Value}
 use Rattle.schemars_schema.specs.Json.{Text}
+use Rattle.schemars_schema.specs.Acceptance.{Patterns}
 use Rattle.schemars_shapes.specs.Shape as shape
 use Rattle.schemars_shapes.specs.Shape.{Field, fields_of, field_of, flattened_of, required_of, Payload, Tagging, struct_payload, by_tag, by_tag_and_content, shape_of, payload_of, variant_of, internal_payload_of, internal_variant_of}
 use Rattle.schemars_shapes.specs.declared.variant.Variant as src-variant
@@ -23,8 +24,8 @@ use Rattle.schemars_shapes.specs.declared.shape.Flattened as src-flattened
 use Rattle.schemars_types.specs.Rows.{Row}
 use Rattle.schemars_types.specs.Faults.{IsChecked}
 use Rattle.schemars_written.specs.Gives.{Gives}
-use Rattle.schemars_written.specs.Fits.{Means, HasShape, HasList, HasPart, HasFields, NextField, NextOptional, LastField, HasOwnFields, HasStruct, HasVariant, HasVariantAt}
-use Rattle.schemars_written.specs.Writes.{Belongs, BelongsAsRead}
+use Rattle.schemars_written.specs.Fits.{MeansUnder, HasShape, HasList, HasPart, HasFields, NextField, NextOptional, LastField, HasOwnFields, HasStruct, HasVariant, HasVariantAt}
+use Rattle.schemars_written.specs.Writes.{BelongsUnder, BelongsAsReadUnder}
 use Rattle.schemars_written.proofs.Final.{as_read}
 
 -- of all, P holds of those before the rest
@@ -86,15 +87,15 @@ has_part rows n x is (p ∷ []) same one list listed d = (
 
 -- ---- results
 
-pub value_belongs : {E : Type 0} (rows : List Row) → IsChecked rows → (n : ℕ) → n < length rows → (sends : Log → Log → Type 0) → Gives sends (Means rows n)
+pub value_belongs : {E : Type 0} {reading : Patterns → Type 0} (rows : List Row) → IsChecked rows → (n : ℕ) → n < length rows → (sends : Log → Log → Type 0) → Gives sends (MeansUnder reading rows n)
     → (r : Result Value E) → IfOk r (λ v. (log : Log) × (text : List ℕ) × sends (Some []) log × AreTokensOf true log (tokens text) × (read text ≡ Some (view v)))
-    → IfOk r (λ v. Belongs rows n (view v))
+    → IfOk r (λ v. BelongsUnder reading rows n (view v))
 value_belongs rows checked n low sends given (Ok v) h = as_read true rows checked n low sends given h.0 h.1 h.2 h.3 (view v) h.4
 value_belongs rows checked n low sends given (Err e) h = h
 
-pub text_belongs : {E : Type 0} (rows : List Row) → IsChecked rows → (n : ℕ) → n < length rows → (sends : Log → Log → Type 0) → Gives sends (Means rows n)
+pub text_belongs : {E : Type 0} {reading : Patterns → Type 0} (rows : List Row) → IsChecked rows → (n : ℕ) → n < length rows → (sends : Log → Log → Type 0) → Gives sends (MeansUnder reading rows n)
     → (r : Result (String Global) E) → IfOk r (λ s. (log : Log) × sends (Some []) log × IsTextOf log (string_bytes s))
-    → IfOk r (λ s. BelongsAsRead rows n (string_bytes s))
+    → IfOk r (λ s. BelongsAsReadUnder reading rows n (string_bytes s))
 text_belongs rows checked n low sends given (Ok s) h = as_read false rows checked n low sends given h.0 (string_bytes s) h.1 h.2.0
 text_belongs rows checked n low sends given (Err e) h = h
 

@@ -15,6 +15,8 @@ use std::hash::{BuildHasher, Hash};
 impl<T: TellsApart> Agrees for BTreeSet<T> {
     ghost valid = { λ s. IsOrdered T.cmp s × All T.valid s.keys };
 
+    ghost reading = { T.reading };
+
     ghost is_row = { λ rows n. (m : ℕ) × HasShape rows n (shape.set m) × T.is_row rows m };
 
     ghost agrees = { λ rows n s checked row valid. set_law rows checked n T.writes T.valid T.is_row
@@ -39,6 +41,8 @@ impl<T: TellsApart> Agrees for BTreeSet<T> {
 
 impl<T: TellsApart + Hash, S: BuildHasher> Agrees for HashSet<T, S> {
     ghost valid = { λ s. IsUnique T.eq s × All T.valid s.keys };
+
+    ghost reading = { T.reading };
 
     ghost is_row = { λ rows n. (m : ℕ) × HasShape rows n (shape.set m) × T.is_row rows m };
 
