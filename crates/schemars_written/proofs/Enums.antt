@@ -46,11 +46,14 @@ variant name p notes = record { name = name; payload = p; notes = notes }
 -- whether a variant of this name has a value, in a table
 abbrev Fitting : List Row → Patterns → ℕ → Tagging → Text → Payload → Members → Data → Type 0
 Fitting rows patterns steps tagging name p notes d = has_variant Serialize (belongs_within rows Serialize patterns steps)
-    (choices_within rows Serialize patterns steps) tagging d (expanded_variant (flattened_in rows) (part_enums rows) (variant name p notes)) ≡ true
+    (choices_within rows Serialize patterns steps) tagging d
+    (expanded_variant (flattened_in rows) (part_enums rows) (variant name p notes)) ≡ true
 
 -- what a variant has, its enum has
-pub enum_fits : (rows : List Row) (patterns : Patterns) (n : ℕ) (tagging : Tagging) (name : Text) (p : Payload) → (row : HasVariantAt rows n tagging name p)
-    → (d : Data) → ((steps : ℕ) (notes : Members) → depth d * length rows + rank rows n < suc steps → Fitting rows patterns steps tagging name p notes d)
+pub enum_fits : (rows : List Row) (patterns : Patterns) (n : ℕ) (tagging : Tagging) (name : Text) (p : Payload)
+    → (row : HasVariantAt rows n tagging name p)
+    → (d : Data)
+    → ((steps : ℕ) (notes : Members) → depth d * length rows + rank rows n < suc steps → Fitting rows patterns steps tagging name p notes d)
     → Fits rows patterns n d
 enum_fits rows patterns n tagging name p row d each =
     step rows patterns n (shape.enum tagging row.0) d row.1 (λ steps few.
@@ -60,7 +63,8 @@ enum_fits rows patterns n tagging name p row d each =
     (subst (λ q. Fitting rows patterns steps tagging name q x.notes d) (sym is) (each steps x.notes few))))
 
 -- one step inside there are enough steps for a payload
-inside_enough : (rows : List Row) (p : Payload) (h steps : ℕ) → ((m : ℕ) → Contains (payload_numbers p) m → (m < length rows) × (rank rows m < length rows))
+inside_enough : (rows : List Row) (p : Payload) (h steps : ℕ)
+    → ((m : ℕ) → Contains (payload_numbers p) m → (m < length rows) × (rank rows m < length rows))
     → suc h * length rows ≤ steps → Enough rows p h steps
 inside_enough rows no_payload h steps low few = tt
 inside_enough rows (newtype_payload m) h steps low few =
@@ -84,7 +88,8 @@ named_gives name case = one (event.unit_variant name case) (IsName (spelled case
 
 -- ---- tagged by names
 
-pub unit_agrees : (reading : Patterns → Type 0) (rows : List Row) (n : ℕ) (name : Text) (case : Case) → HasVariantAt rows n by_name (spelled case kind.Variant name) no_payload
+pub unit_agrees : (reading : Patterns → Type 0) (rows : List Row) (n : ℕ) (name : Text) (case : Case)
+    → HasVariantAt rows n by_name (spelled case kind.Variant name) no_payload
     → Gives (Named name case) (MeansUnder reading rows n)
 unit_agrees reading rows n name case row =
     let t = spelled case kind.Variant name in
@@ -93,7 +98,8 @@ unit_agrees reading rows n name case row =
     (enum_fits rows patterns n by_name t no_payload row (string t) (λ steps notes few. (bytes_eq-Decides t t).1 refl)))
     (named_gives name case)
 
-variant_key_gives : (name : Text) (case : Case) → GivesKey (λ old new. Logs old new (event.variant_key name case)) (spelled case kind.Variant name)
+variant_key_gives : (name : Text) (case : Case)
+    → GivesKey (λ old new. Logs old new (event.variant_key name case)) (spelled case kind.Variant name)
 variant_key_gives name case es new sent = (
   event.variant_key name case ∷ [],
   sent,
@@ -102,11 +108,13 @@ variant_key_gives name case es new sent = (
 )
 
 -- a map with this key alone
-map_of : (name k : Text) (test : Data → Bool) (d : Data) → k ≡ name → test d ≡ true → has_member name test true (object (member k d no_members)) ≡ true
+map_of : (name k : Text) (test : Data → Bool) (d : Data) → k ≡ name → test d ≡ true
+    → has_member name test true (object (member k d no_members)) ≡ true
 map_of name k test d same passes =
     let fits = ap (λ (b : Bool). option_map_or (λ (m : Member). m.has d) (if b then Some (must_have name test) else None) false)
     ((bytes_eq-Decides name k).1 (sym same)) ∙ passes in
-    let there = subst (λ (t : Text). is_some (get_member t (member k d no_members)) ≡ true) same (ap is_some (get_member-here k d no_members)) in
+    let there = subst (λ (t : Text). is_some (get_member t (member k d no_members)) ≡ true) same
+    (ap is_some (get_member-here k d no_members)) in
     both_true (option_map_or (λ (m : Member). m.has d) (if bytes_eq name k then Some (must_have name test) else None) false && true)
     (is_some (get_member name (member k d no_members)) && true)
     (both_true (option_map_or (λ (m : Member). m.has d) (if bytes_eq name k then Some (must_have name test) else None) false) true fits refl)
@@ -125,7 +133,8 @@ under_name rows patterns steps name (newtype_payload m) notes d full is = is
 under_name rows patterns steps name (tuple_payload ns) notes d full is = is
 under_name rows patterns steps name (struct_payload x) notes d full is = is
 
-external_means : (reading : Patterns → Type 0) (rows : List Row) → IsChecked rows → (n : ℕ) (name : Text) (p : Payload) → HasVariantAt rows n by_name name p → IsFull p → (j : Json)
+external_means : (reading : Patterns → Type 0) (rows : List Row) → IsChecked rows → (n : ℕ) (name : Text) (p : Payload)
+    → HasVariantAt rows n by_name name p → IsFull p → (j : Json)
     → IsObject (FirstMember name (PayloadMeans reading rows p) NoMembers) j → MeansUnder reading rows n j
 external_means reading rows checked n name p row full json.null all = absurd all
 external_means reading rows checked n name p row full (json.boolean b) all = absurd all
@@ -139,7 +148,8 @@ external_means reading rows checked n name p row full (json.object (json.member 
     let v = member_parts (of_json j) (λ e. of_members json.no_members (put k e no_members)) r.0 r.1 in
     let whole : object (member k v.0 no_members) ≡ d = ap object (Some_same (put k v.0 no_members) r.0 v.2) ∙ r.2 in
     let low = payload_low rows checked n by_name row.0 row.1 name p row.2 in
-    subst (λ x. Fits rows patterns n x) whole (enum_fits rows patterns n by_name name p row (object (member k v.0 no_members)) (λ steps notes few.
+    subst (λ x. Fits rows patterns n x) whole
+    (enum_fits rows patterns n by_name name p row (object (member k v.0 no_members)) (λ steps notes few.
     under_name rows patterns steps name p notes (object (member k v.0 no_members)) full
     (map_of name k (has_payload Serialize (belongs_within rows Serialize patterns steps) (choices_within rows Serialize patterns steps)
     (expanded_payload (flattened_in rows) (part_enums rows) p)) v.0 all.0
@@ -148,18 +158,22 @@ external_means reading rows checked n name p row full (json.object (json.member 
     (omega (arith, subst (λ h. h * length rows + rank rows n < suc steps) (one_deep k v.0) few)))))))
 
 pub external_agrees : (reading : Patterns → Type 0) (rows : List Row) → IsChecked rows → (n : ℕ) (name : Text) (case : Case) (p : Payload)
-    → HasVariantAt rows n by_name (spelled case kind.Variant name) p → IsFull p → (w : Log → Log → Type 0) → Gives w (PayloadMeans reading rows p)
+    → HasVariantAt rows n by_name (spelled case kind.Variant name) p → IsFull p → (w : Log → Log → Type 0)
+    → Gives w (PayloadMeans reading rows p)
     → Gives (Tagged name case w) (MeansUnder reading rows n)
 external_agrees reading rows checked n name case p row full w given =
     let t = spelled case kind.Variant name in
-    weaker (Tagged name case w) (IsObject (FirstMember t (PayloadMeans reading rows p) NoMembers)) (MeansUnder reading rows n) (external_means reading rows checked n t p row full)
+    weaker (Tagged name case w) (IsObject (FirstMember t (PayloadMeans reading rows p) NoMembers)) (MeansUnder reading rows n)
+    (external_means reading rows checked n t p row full)
     (struct_gives 1 (λ old new. (named mid : Log) × Logs old named (event.variant_key name case) × w named mid × Done mid new)
     (FirstMember t (PayloadMeans reading rows p) NoMembers)
-    (member_gives t (λ old new. Logs old new (event.variant_key name case)) w Done (PayloadMeans reading rows p) NoMembers (variant_key_gives name case) given done_gives))
+    (member_gives t (λ old new. Logs old new (event.variant_key name case)) w Done (PayloadMeans reading rows p) NoMembers
+    (variant_key_gives name case) given done_gives))
 
 -- ---- not tagged
 
-own_enough : (rows : List Row) → IsChecked rows → (n : ℕ) (name : Text) (p : Payload) → HasVariantAt rows n by_nothing name p → (h steps : ℕ)
+own_enough : (rows : List Row) → IsChecked rows → (n : ℕ) (name : Text) (p : Payload) → HasVariantAt rows n by_nothing name p
+    → (h steps : ℕ)
     → ((m : ℕ) → Contains (payload_numbers p) m → (m < length rows) × (rank rows m < length rows))
     → h * length rows + rank rows n < suc steps → Enough rows p h steps
 own_enough rows checked n name no_payload row h steps low few = tt
@@ -171,9 +185,11 @@ own_enough rows checked n name (newtype_payload m) row h steps low few =
 own_enough rows checked n name (tuple_payload ns) row h steps low few = omega arith
 own_enough rows checked n name (struct_payload x) row h steps low few = omega arith
 
-pub untagged_agrees : (reading : Patterns → Type 0) (rows : List Row) → IsChecked rows → (n : ℕ) (name : Text) (p : Payload) → HasVariantAt rows n by_nothing name p
+pub untagged_agrees : (reading : Patterns → Type 0) (rows : List Row) → IsChecked rows → (n : ℕ) (name : Text) (p : Payload)
+    → HasVariantAt rows n by_nothing name p
     → (w : Log → Log → Type 0) → Gives w (PayloadMeans reading rows p) → Gives w (MeansUnder reading rows n)
-untagged_agrees reading rows checked n name p row w given = weaker w (PayloadMeans reading rows p) (MeansUnder reading rows n) (λ j means patterns takes d reads.
+untagged_agrees reading rows checked n name p row w given =
+    weaker w (PayloadMeans reading rows p) (MeansUnder reading rows n) (λ j means patterns takes d reads.
     let low = payload_low rows checked n by_nothing row.0 row.1 name p row.2 in
     enum_fits rows patterns n by_nothing name p row d (λ steps notes few.
     payload_holds reading rows patterns takes p j d steps low (payload_apart rows checked n by_nothing row.0 row.1 name p row.2) means reads
@@ -200,7 +216,8 @@ abbrev InTagged : List Row → Patterns → Text → Text → List Field → Tex
 InTagged rows patterns tag name fs k d = ((k ≡ tag) × (d ≡ string name))
     ⊎ ((bytes_eq tag k ≡ false) × ((f : Field) × (field_named fs k ≡ Some f) × Fits rows patterns f.ty d))
 
-fields_in : (reading : Patterns → Type 0) (rows : List Row) (patterns : Patterns) → reading patterns → (tag name : Text) (fs : List Field) → AvoidsTag tag fs → (ms : json.Members)
+fields_in : (reading : Patterns → Type 0) (rows : List Row) (patterns : Patterns) → reading patterns → (tag name : Text) (fs : List Field)
+    → AvoidsTag tag fs → (ms : json.Members)
     → EachJson (OfField reading rows fs) ms → EachJson (λ k j. (d : Data) → of_json j ≡ Some d → InTagged rows patterns tag name fs k d) ms
 fields_in reading rows patterns takes tag name fs avoids json.no_members each = tt
 fields_in reading rows patterns takes tag name fs avoids (json.member k j ms) each = (
@@ -223,23 +240,27 @@ tagged_hold rows patterns tag name fs list closed steps h (member k d ms) low sa
   where
     first : InTagged rows patterns tag name fs k d
         → option_map_or (λ (m : Member). m.has d)
-        (if bytes_eq tag k then Some (tag_member tag name) else member_named (map (field_member Serialize (belongs_within rows Serialize patterns steps)) list) k)
+        (if bytes_eq tag k then Some (tag_member tag name) else member_named
+        (map (field_member Serialize (belongs_within rows Serialize patterns steps)) list) k)
         (not closed) ≡ true
     first (inl here) =
         ap (λ (b : Bool). option_map_or (λ (m : Member). m.has d)
-        (if b then Some (tag_member tag name) else member_named (map (field_member Serialize (belongs_within rows Serialize patterns steps)) list) k) (not closed))
+        (if b then Some (tag_member tag name) else member_named
+        (map (field_member Serialize (belongs_within rows Serialize patterns steps)) list) k) (not closed))
         ((bytes_eq-Decides tag k).1 (sym here.0)) ∙ is_name name d here.1
     first (inr field) =
         let f = field.1.0 in
         let known = low f.ty (named_number fs k f field.1.1) in
         ap (λ (b : Bool). option_map_or (λ (m : Member). m.has d)
-        (if b then Some (tag_member tag name) else member_named (map (field_member Serialize (belongs_within rows Serialize patterns steps)) list) k) (not closed)) field.0
+        (if b then Some (tag_member tag name) else member_named
+        (map (field_member Serialize (belongs_within rows Serialize patterns steps)) list) k) (not closed)) field.0
         ∙ ap (λ (l : List Field). field_fits (belongs_within rows Serialize patterns steps) l closed k d) same
         ∙ member_at (belongs_within rows Serialize patterns steps) fs k d (not closed)
         ∙ ap (λ (o : Option Field). option_map_or (λ g. belongs_within rows Serialize patterns steps g.ty d) o (not closed)) field.1.1
         ∙ small rows patterns steps h d many (omega arith) f.ty known.0 known.1 field.1.2
 
-tagged_holds : (reading : Patterns → Type 0) (rows : List Row) (patterns : Patterns) → reading patterns → (tag name : Text) (fs : List Field) (closed : Bool) (ms : json.Members) (d : Data) (steps : ℕ)
+tagged_holds : (reading : Patterns → Type 0) (rows : List Row) (patterns : Patterns) → reading patterns
+    → (tag name : Text) (fs : List Field) (closed : Bool) (ms : json.Members) (d : Data) (steps : ℕ)
     → ((m : ℕ) → Contains (map (λ f. f.ty) fs) m → (m < length rows) × (rank rows m < length rows))
     → IsDistinct bytes_eq (map (λ f. f.name) fs) → AvoidsTag tag fs → Matches reading rows fs ms
     → of_json (json.object (json.member tag (json.string name) ms)) ≡ Some d → depth d * length rows ≤ steps
@@ -264,7 +285,8 @@ pub beside_gives : (tag name : Text) (case : Case) (w : Log → Log → Type 0) 
 beside_gives tag name case w Q given = member_gives tag (λ old new. Logs old new (event.field_key tag AsIs)) (Named name case) w
     (IsName (spelled case kind.Variant name)) Q (field_key_gives tag) (named_gives name case) given
 
-pub internal_unit_agrees : (reading : Patterns → Type 0) (rows : List Row) → IsChecked rows → (n : ℕ) (tag : Text) (closed : Bool) (name : Text) (case : Case)
+pub internal_unit_agrees : (reading : Patterns → Type 0) (rows : List Row) → IsChecked rows
+    → (n : ℕ) (tag : Text) (closed : Bool) (name : Text) (case : Case)
     → HasVariantAt rows n (by_tag tag closed) (spelled case kind.Variant name) no_payload → (count : ℕ)
     → Gives (Struct count (Beside tag name case Done)) (MeansUnder reading rows n)
 unfolding IsDistinct
@@ -273,10 +295,13 @@ internal_unit_agrees reading rows checked n tag closed name case row count =
     weaker (Struct count (Beside tag name case Done)) (IsObject (FirstMember tag (IsName t) NoMembers)) (MeansUnder reading rows n)
     (at_tag reading rows n tag t NoMembers (λ ms none patterns takes d reads.
     enum_fits rows patterns n (by_tag tag closed) t no_payload row d (λ steps notes few.
-    tagged_holds reading rows patterns takes tag t [] closed ms d steps (λ m c. absurd (omega (arith, c.1))) tt tt none reads (omega arith))))
-    (struct_gives count (Beside tag name case Done) (FirstMember tag (IsName t) NoMembers) (beside_gives tag name case Done NoMembers done_gives))
+    tagged_holds reading rows patterns takes tag t [] closed ms d steps (λ m c. absurd (omega (arith, c.1))) tt tt none reads
+    (omega arith))))
+    (struct_gives count (Beside tag name case Done) (FirstMember tag (IsName t) NoMembers)
+    (beside_gives tag name case Done NoMembers done_gives))
 
-pub internal_struct_agrees : (reading : Patterns → Type 0) (rows : List Row) → IsChecked rows → (n : ℕ) (tag : Text) (closed : Bool) (name : Text) (case : Case) (fs : List Field) (own : Bool)
+pub internal_struct_agrees : (reading : Patterns → Type 0) (rows : List Row) → IsChecked rows
+    → (n : ℕ) (tag : Text) (closed : Bool) (name : Text) (case : Case) (fs : List Field) (own : Bool)
     → HasVariantAt rows n (by_tag tag closed) (spelled case kind.Variant name) (struct_payload (plain_fields fs own)) → AvoidsTag tag fs
     → (count : ℕ) (w : Log → Log → Type 0) → GivesMembers w (Matches reading rows fs)
     → Gives (Struct count (Beside tag name case w)) (MeansUnder reading rows n)
@@ -284,17 +309,20 @@ internal_struct_agrees reading rows checked n tag closed name case fs own row av
     let t = spelled case kind.Variant name in
     let p = struct_payload (plain_fields fs own) in
     let low = payload_low rows checked n (by_tag tag closed) row.0 row.1 t p row.2 in
-    weaker (Struct count (Beside tag name case w)) (IsObject (FirstMember tag (IsName t) (Matches reading rows fs))) (MeansUnder reading rows n)
+    weaker (Struct count (Beside tag name case w)) (IsObject (FirstMember tag (IsName t) (Matches reading rows fs)))
+    (MeansUnder reading rows n)
     (at_tag reading rows n tag t (Matches reading rows fs) (λ ms all patterns takes d reads.
     enum_fits rows patterns n (by_tag tag closed) t p row d (λ steps notes few.
     tagged_holds reading rows patterns takes tag t fs own ms d steps
     (λ m c. low m (subst (λ (xs : List ℕ). Contains xs m) (sym (append-nil (map (λ f. f.ty) fs))) c))
     (payload_apart rows checked n (by_tag tag closed) row.0 row.1 t p row.2) avoids all reads (omega arith))))
-    (struct_gives count (Beside tag name case w) (FirstMember tag (IsName t) (Matches reading rows fs)) (beside_gives tag name case w (Matches reading rows fs) given))
+    (struct_gives count (Beside tag name case w) (FirstMember tag (IsName t) (Matches reading rows fs))
+    (beside_gives tag name case w (Matches reading rows fs) given))
 
 -- ---- tagged beside a content
 
-pub adjacent_unit_agrees : (reading : Patterns → Type 0) (rows : List Row) → IsChecked rows → (n : ℕ) (tag content : Text) (closed : Bool) (name : Text) (case : Case)
+pub adjacent_unit_agrees : (reading : Patterns → Type 0) (rows : List Row) → IsChecked rows
+    → (n : ℕ) (tag content : Text) (closed : Bool) (name : Text) (case : Case)
     → HasVariantAt rows n (by_tag_and_content tag content closed) (spelled case kind.Variant name) no_payload → (count : ℕ)
     → Gives (Struct count (Beside tag name case Done)) (MeansUnder reading rows n)
 unfolding IsDistinct
@@ -303,8 +331,10 @@ adjacent_unit_agrees reading rows checked n tag content closed name case row cou
     weaker (Struct count (Beside tag name case Done)) (IsObject (FirstMember tag (IsName t) NoMembers)) (MeansUnder reading rows n)
     (at_tag reading rows n tag t NoMembers (λ ms none patterns takes d reads.
     enum_fits rows patterns n (by_tag_and_content tag content closed) t no_payload row d (λ steps notes few.
-    tagged_holds reading rows patterns takes tag t [] closed ms d steps (λ m c. absurd (omega (arith, c.1))) tt tt none reads (omega arith))))
-    (struct_gives count (Beside tag name case Done) (FirstMember tag (IsName t) NoMembers) (beside_gives tag name case Done NoMembers done_gives))
+    tagged_holds reading rows patterns takes tag t [] closed ms d steps (λ m c. absurd (omega (arith, c.1))) tt tt none reads
+    (omega arith))))
+    (struct_gives count (Beside tag name case Done) (FirstMember tag (IsName t) NoMembers)
+    (beside_gives tag name case Done NoMembers done_gives))
 
 -- what a member may have, beside a tag and a content
 abbrev beside_fits : Text → Text → Text → (Data → Bool) → Bool → Text → Data → Bool
@@ -315,7 +345,8 @@ beside_fits tag name content test closed k w =
 abbrev InAdjacent : Text → Text → Text → Json → Text → Data → Type 0
 InAdjacent tag name content j k d = ((k ≡ tag) × (d ≡ string name)) ⊎ ((k ≡ content) × (of_json j ≡ Some d))
 
-adjacent_hold : (tag name content : Text) (test : Data → Bool) (closed : Bool) (j : Json) (h : ℕ) (ms : Members) → bytes_eq tag content ≡ false
+adjacent_hold : (tag name content : Text) (test : Data → Bool) (closed : Bool) (j : Json) (h : ℕ) (ms : Members)
+    → bytes_eq tag content ≡ false
     → ((d : Data) → of_json j ≡ Some d → depth d ≤ h → test d ≡ true) → members_depth ms ≤ h → AllMembers (InAdjacent tag name content j) ms
     → every_member (beside_fits tag name content test closed) ms ≡ true
 adjacent_hold tag name content test closed j h no_members differ passes deep all = refl
@@ -335,8 +366,11 @@ adjacent_hold tag name content test closed j h (member k d ms) differ passes dee
         ∙ passes d there.1 (omega arith)
 
 -- a full payload has its value under the content's key
-under_content : (rows : List Row) (patterns : Patterns) (steps : ℕ) (tag content : Text) (closed : Bool) (name : Text) (p : Payload) (notes : Members) (d : Data)
-    → IsFull p → has_beside tag name content (has_payload Serialize (belongs_within rows Serialize patterns steps) (choices_within rows Serialize patterns steps)
+under_content : (rows : List Row) (patterns : Patterns) (steps : ℕ) (tag content : Text) (closed : Bool) (name : Text) (p : Payload)
+    (notes : Members) (d : Data)
+    → IsFull p
+    → has_beside tag name content
+    (has_payload Serialize (belongs_within rows Serialize patterns steps) (choices_within rows Serialize patterns steps)
     (expanded_payload (flattened_in rows) (part_enums rows) p)) closed d ≡ true
     → Fitting rows patterns steps (by_tag_and_content tag content closed) name p notes d
 under_content rows patterns steps tag content closed name no_payload notes d full is = absurd full
@@ -344,13 +378,15 @@ under_content rows patterns steps tag content closed name (newtype_payload m) no
 under_content rows patterns steps tag content closed name (tuple_payload ns) notes d full is = is
 under_content rows patterns steps tag content closed name (struct_payload x) notes d full is = is
 
-beside_holds : (rows : List Row) (patterns : Patterns) (tag content : Text) (closed : Bool) (name : Text) (p : Payload) (j : Json) (d : Data) (steps : ℕ)
+beside_holds : (rows : List Row) (patterns : Patterns) (tag content : Text) (closed : Bool) (name : Text) (p : Payload) (j : Json)
+    (d : Data) (steps : ℕ)
     → ((m : ℕ) → Contains (payload_numbers p) m → (m < length rows) × (rank rows m < length rows))
     → bytes_eq tag content ≡ false
     → ((v : Data) → of_json j ≡ Some v → Enough rows p (depth v) steps → Holds rows patterns steps p v)
     → of_json (json.object (json.member tag (json.string name) (json.member content j json.no_members))) ≡ Some d
     → depth d * length rows ≤ steps
-    → has_beside tag name content (has_payload Serialize (belongs_within rows Serialize patterns steps) (choices_within rows Serialize patterns steps)
+    → has_beside tag name content
+    (has_payload Serialize (belongs_within rows Serialize patterns steps) (choices_within rows Serialize patterns steps)
     (expanded_payload (flattened_in rows) (part_enums rows) p)) closed d ≡ true
 beside_holds rows patterns tag content closed name p j d steps low differ passes reads few =
     let test = has_payload Serialize (belongs_within rows Serialize patterns steps) (choices_within rows Serialize patterns steps)
@@ -364,7 +400,8 @@ beside_holds rows patterns tag content closed name p j d steps low differ passes
     (both_true (every_member (beside_fits tag name content test closed) r.0)
     (is_some (get_member tag r.0) && (is_some (get_member content r.0) && true))
     (adjacent_hold tag name content test closed j (members_depth r.0) r.0 differ
-    (λ v is deep. passes v is (inside_enough rows p (depth v) steps low (wide (depth v) (members_depth r.0) deep enough))) (omega arith) each)
+    (λ v is deep. passes v is (inside_enough rows p (depth v) steps low (wide (depth v) (members_depth r.0) deep enough)))
+    (omega arith) each)
     (both_true (is_some (get_member tag r.0)) (is_some (get_member content r.0) && true)
     (stays tag ms found r.0 (ap is_some (get_member-here tag (string name) no_members)) r.1)
     (both_true (is_some (get_member content r.0)) true (comes content ms found r.0 (inl refl) r.1) refl)))
@@ -372,19 +409,24 @@ beside_holds rows patterns tag content closed name p j d steps low differ passes
     wide : (a h : ℕ) → a ≤ h → suc h * length rows ≤ steps → suc a * length rows ≤ steps
     wide a h less few = omega (arith, mul-le (suc a) (length rows) (suc h) (length rows) (omega arith) (omega arith))
 
-pub adjacent_agrees : (reading : Patterns → Type 0) (rows : List Row) → IsChecked rows → (n : ℕ) (tag content : Text) (closed : Bool) (name : Text) (case : Case) (p : Payload)
-    → HasVariantAt rows n (by_tag_and_content tag content closed) (spelled case kind.Variant name) p → IsFull p → (count : ℕ) (w : Log → Log → Type 0)
-    → Gives w (PayloadMeans reading rows p) → Gives (Struct count (Beside tag name case (gives.Field content w Done))) (MeansUnder reading rows n)
+pub adjacent_agrees : (reading : Patterns → Type 0) (rows : List Row) → IsChecked rows
+    → (n : ℕ) (tag content : Text) (closed : Bool) (name : Text) (case : Case) (p : Payload)
+    → HasVariantAt rows n (by_tag_and_content tag content closed) (spelled case kind.Variant name) p → IsFull p
+    → (count : ℕ) (w : Log → Log → Type 0)
+    → Gives w (PayloadMeans reading rows p)
+    → Gives (Struct count (Beside tag name case (gives.Field content w Done))) (MeansUnder reading rows n)
 adjacent_agrees reading rows checked n tag content closed name case p row full count w given =
     let t = spelled case kind.Variant name in
     let tagging = by_tag_and_content tag content closed in
     let Q : json.Members → Type 0 = FirstMember content (PayloadMeans reading rows p) NoMembers in
     let low = payload_low rows checked n tagging row.0 row.1 t p row.2 in
-    weaker (Struct count (Beside tag name case (gives.Field content w Done))) (IsObject (FirstMember tag (IsName t) Q)) (MeansUnder reading rows n)
+    weaker (Struct count (Beside tag name case (gives.Field content w Done))) (IsObject (FirstMember tag (IsName t) Q))
+    (MeansUnder reading rows n)
     (at_tag reading rows n tag t Q (content_means low))
     (struct_gives count (Beside tag name case (gives.Field content w Done)) (FirstMember tag (IsName t) Q)
     (beside_gives tag name case (gives.Field content w Done) Q
-    (member_gives content (λ old new. Logs old new (event.field_key content AsIs)) w Done (PayloadMeans reading rows p) NoMembers (field_key_gives content) given done_gives)))
+    (member_gives content (λ old new. Logs old new (event.field_key content AsIs)) w Done (PayloadMeans reading rows p) NoMembers
+    (field_key_gives content) given done_gives)))
   where
     content_means : ((m : ℕ) → Contains (payload_numbers p) m → (m < length rows) × (rank rows m < length rows)) → (ms : json.Members)
         → FirstMember content (PayloadMeans reading rows p) NoMembers ms
@@ -394,9 +436,11 @@ adjacent_agrees reading rows checked n tag content closed name case p row full c
     content_means low (json.member k j json.no_members) all =
         let t = spelled case kind.Variant name in
         let tagging = by_tag_and_content tag content closed in
-        subst (λ (c : Text). MeansUnder reading rows n (json.object (json.member tag (json.string t) (json.member c j json.no_members)))) (sym all.0)
+        subst (λ (c : Text). MeansUnder reading rows n (json.object (json.member tag (json.string t) (json.member c j json.no_members))))
+        (sym all.0)
         (λ patterns takes d reads. enum_fits rows patterns n tagging t p row d (λ steps notes few.
         under_content rows patterns steps tag content closed t p notes d full
         (beside_holds rows patterns tag content closed t p j d steps low (keys_apart rows checked n tag content closed row.0 row.1)
-        (λ v is enough. payload_holds reading rows patterns takes p j v steps low (payload_apart rows checked n tagging row.0 row.1 t p row.2) all.1 is enough)
+        (λ v is enough. payload_holds reading rows patterns takes p j v steps low
+        (payload_apart rows checked n tagging row.0 row.1 t p row.2) all.1 is enough)
         reads (omega arith))))

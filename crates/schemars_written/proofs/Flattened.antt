@@ -92,7 +92,8 @@ HasIt rows patterns steps fs closed d inside enums =
     has_fields Serialize (belongs_within rows Serialize patterns steps)
     (matches_of (choices_within rows Serialize patterns steps) (map enum_at (enums ++ [])) d) (fs ++ (inside ++ [])) closed d ≡ true
 
-members_mean : (reading : Patterns → Type 0) (rows : List Row) → IsChecked rows → (n m : ℕ) (required : Required) (fs gs : List Field) (closed other : Bool)
+members_mean : (reading : Patterns → Type 0) (rows : List Row) → IsChecked rows
+    → (n m : ℕ) (required : Required) (fs gs : List Field) (closed other : Bool)
     → HasShape rows n (shape.struct (with_part fs m required closed)) → HasShape rows m (shape.struct (plain_fields gs other))
     → AreApart fs gs
     → (ms : json.Members) → Matches reading rows (fs ++ gs) ms → MeansUnder reading rows n (json.object ms)
@@ -127,7 +128,8 @@ members_mean reading rows checked n m required fs gs closed other is part across
             let low = part_low rows checked m k (shape.struct (plain_fields gs other)) part
             (Contains-append_left (map (λ (f : Field). f.ty) gs) [] k inside) in (low, checked.rank_bound k low)
 
-struct_means : (reading : Patterns → Type 0) (rows : List Row) → IsChecked rows → (n m : ℕ) (required : Required) (fs gs : List Field) (closed other : Bool)
+struct_means : (reading : Patterns → Type 0) (rows : List Row) → IsChecked rows
+    → (n m : ℕ) (required : Required) (fs gs : List Field) (closed other : Bool)
     → HasShape rows n (shape.struct (with_part fs m required closed)) → HasShape rows m (shape.struct (plain_fields gs other))
     → AreApart fs gs
     → (j : Json) → IsObject (Matches reading rows (fs ++ gs)) j → MeansUnder reading rows n j

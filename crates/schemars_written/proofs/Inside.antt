@@ -80,7 +80,8 @@ members_depth-without k (member l d ms) = go (bytes_eq k l) (members_depth-witho
     go false less = omega arith
 
 -- members of fields that avoid a tag do not have it as a key
-no_tag : (reading : Patterns → Type 0) (rows : List Row) (tag : Text) (fs : List Field) → AvoidsTag tag fs → (ms : json.Members) → Matches reading rows fs ms
+no_tag : (reading : Patterns → Type 0) (rows : List Row) (tag : Text) (fs : List Field) → AvoidsTag tag fs → (ms : json.Members)
+    → Matches reading rows fs ms
     → EachJson (λ k j. bytes_eq tag k ≡ false) ms
 no_tag reading rows tag [] avoids json.no_members given = tt
 no_tag reading rows tag [] avoids (json.member k j ms) given = absurd given
@@ -95,7 +96,8 @@ name_is : (name : Text) (o : Option Data) → o ≡ Some (string name) → holds
 name_is name o is = ap (λ (x : Option Data). holds x (is_text name)) is ∙ (bytes_eq-Decides name name).1 refl
 
 -- the tag's member and those of the value are what the variant has
-members_mean : (reading : Patterns → Type 0) (rows : List Row) → IsChecked rows → (n m : ℕ) (tag : Text) (closed : Bool) (name : Text) (fs : List Field) (own : Bool)
+members_mean : (reading : Patterns → Type 0) (rows : List Row) → IsChecked rows
+    → (n m : ℕ) (tag : Text) (closed : Bool) (name : Text) (fs : List Field) (own : Bool)
     → HasVariantAt rows n (by_tag tag closed) name (newtype_payload m) → HasShape rows m (shape.struct (plain_fields fs own))
     → AvoidsTag tag fs
     → (ms : json.Members) → Matches reading rows fs ms → MeansUnder reading rows n (json.object (json.member tag (json.string name) ms))
@@ -107,7 +109,8 @@ members_mean reading rows checked n m tag closed name fs own row part avoids ms 
     let out = taken tag (string name) ms first no_members r.0 (no_tag reading rows tag fs avoids ms all) (tt, tt) alone (get_member-here tag
     (string name) no_members) r.1 in
     let fits : Fits rows patterns m (object (without tag r.0)) =
-    struct_means reading rows checked m fs own part (json.object ms) all patterns takes (object (without tag r.0)) (ap (option_map object) out.0) in
+    struct_means reading rows checked m fs own part (json.object ms) all patterns takes (object (without tag r.0))
+    (ap (option_map object) out.0) in
     let here : Contains (payload_same (newtype_payload m)) m = (0, omega arith, refl) in
     let low = payload_low rows checked n (by_tag tag closed) row.0 row.1 name (newtype_payload m) row.2 m here in
     let lower = same_lower rows checked n m (shape.enum (by_tag tag closed) row.0) row.1
@@ -128,7 +131,8 @@ pub internal_newtype_agrees : (reading : Patterns → Type 0) (rows : List Row) 
     → Gives (Struct count (Beside tag name case w)) (MeansUnder reading rows n)
 internal_newtype_agrees reading rows checked n m tag closed name case fs own row part avoids count w given =
     let t = spelled case kind.Variant name in
-    weaker (Struct count (Beside tag name case w)) (IsObject (FirstMember tag (IsName t) (Matches reading rows fs))) (MeansUnder reading rows n)
+    weaker (Struct count (Beside tag name case w)) (IsObject (FirstMember tag (IsName t) (Matches reading rows fs)))
+    (MeansUnder reading rows n)
     (at_tag reading rows n tag t (Matches reading rows fs) (members_mean reading rows checked n m tag closed t fs own row part avoids))
     (struct_gives count (Beside tag name case w) (FirstMember tag (IsName t) (Matches reading rows fs)) (beside_gives tag name case w
     (Matches reading rows fs) given))

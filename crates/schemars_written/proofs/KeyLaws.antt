@@ -1,5 +1,5 @@
 -- The laws of whole numbers as keys.
-use Rattle.std.proofs.Common.{◌≡◌, ℕ, ◌<◌, ◌^◌, ℤ, List, refl, arith}
+use Rattle.std.proofs.Common.{ℕ, ◌<◌, ◌^◌, ℤ, List, refl, arith}
 use Rattle.std.specs.Prelude.{FitsSigned}
 use Rattle.std.specs.Int.{w8, w16, w32, w64}
 use Rattle.std.proofs.lemmas.Int.{ints}

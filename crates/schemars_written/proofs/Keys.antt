@@ -41,18 +41,21 @@ one_key e k Q is each es new sent = (
 )
 
 -- a key under each of these readings is one under fewer
-pub key_under : {Q P : Patterns → Type 0} (w : Log → Log → Type 0) (rows : List Row) (n : ℕ) → ((patterns : Patterns) → P patterns → Q patterns)
+pub key_under : {Q P : Patterns → Type 0} (w : Log → Log → Type 0) (rows : List Row) (n : ℕ)
+    → ((patterns : Patterns) → P patterns → Q patterns)
     → GivesAsKey w (IsKeyUnder Q rows n) → GivesAsKey w (IsKeyUnder P rows n)
 key_under w rows n fewer given es new sent =
     let g = given es new sent in (
       g.0,
       g.1,
-      λ rest s last due run. let a = g.2 rest s last due run in (a.0, a.1, λ patterns takes. a.2 patterns (fewer patterns takes), a.3, a.4, a.5),
+      λ rest s last due run. let a = g.2 rest s last due run in
+      (a.0, a.1, λ patterns takes. a.2 patterns (fewer patterns takes), a.3, a.4, a.5),
     )
 
 -- ---- the keys of a row
 
-at_row : (reading : Patterns → Type 0) (rows : List Row) → IsChecked rows → (n : ℕ) (sh : Shape) → HasShape rows n sh → (k : Text) (o : KeyOptions)
+at_row : (reading : Patterns → Type 0) (rows : List Row) → IsChecked rows → (n : ℕ) (sh : Shape) → HasShape rows n sh
+    → (k : Text) (o : KeyOptions)
     → or_any_text (shape_options (all_options rows) sh) ≡ o
     → ((patterns : Patterns) → reading patterns → is_key_allowed patterns (distinct_options o) k ≡ true) → IsKeyUnder reading rows n k
 at_row reading rows checked n sh is k o same allowed patterns takes =
@@ -132,13 +135,15 @@ name_allowed patterns name (x ∷ xs) has = go (are_names (x ∷ xs))
     listed = listed_any name (once names)
         ∙ name_listed name (x ∷ xs) (once names) has (subst (AreListed names) (once_by_joining names) (listed_own names []))
 
-    go : (b : Bool) → is_key_allowed patterns (distinct_options (if b then keys false (map (λ y. y.name) (x ∷ xs)) None [] else any_text)) name ≡ true
+    go : (b : Bool) → is_key_allowed patterns
+        (distinct_options (if b then keys false (map (λ y. y.name) (x ∷ xs)) None [] else any_text)) name ≡ true
     go true = ap (λ b. b || false) listed
     go false = refl
 
-pub unit_key_law : (rows : List Row) (n : ℕ) (name : Text) (case : Case) → IsChecked rows → HasUnit rows n by_name (spelled case kind.Variant name)
-    → GivesAsKey (Named name case) (IsKeyUnder AnyReading rows n)
-unit_key_law rows n name case checked row =
+-- of an enum that is tagged by names
+pub unit_key_law : (rows : List Row) → IsChecked rows → (n : ℕ) (name : Text) (case : Case)
+    → HasUnit rows n by_name (spelled case kind.Variant name) → GivesAsKey (Named name case) (IsKeyUnder AnyReading rows n)
+unit_key_law rows checked n name case row =
     let t = spelled case kind.Variant name in
     one_key (event.unit_variant name case) t (IsKeyUnder AnyReading rows n)
     (at_row AnyReading rows checked n (shape.enum by_name row.0) row.1 t (or_any_text (external_options row.0)) refl

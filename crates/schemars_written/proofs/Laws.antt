@@ -113,28 +113,33 @@ number_law rows n x row = number_sent rows n row x.n x.valid
 abbrev pub Part : {A : Type 0} → (Patterns → Type 0) → List Row → (A → Log → Log → Type 0) → (A → Type 0) → (List Row → ℕ → Type 0) → Type 0
 Part {A} reading rows w V R = (m : ℕ) (x : A) → R rows m → V x → Gives (w x) (MeansUnder reading rows m)
 
-pub option_law : {A : Type 0} {reading : Patterns → Type 0} (rows : List Row) → IsChecked rows → (n : ℕ) (w : A → Log → Log → Type 0) (V : A → Type 0) (R : List Row → ℕ → Type 0)
+pub option_law : {A : Type 0} {reading : Patterns → Type 0} (rows : List Row) → IsChecked rows
+    → (n : ℕ) (w : A → Log → Log → Type 0) (V : A → Type 0) (R : List Row → ℕ → Type 0)
     → Part reading rows w V R → (m : ℕ) × HasShape rows n (shape.option m) × R rows m
     → (x : Option A) → OfSome V x → Gives (WritesOption w x) (MeansUnder reading rows n)
-option_law {A = A} {reading = reading} rows checked n w V R given row x valid = option_agrees reading rows checked n row.0 row.1 w x (inside x valid)
+option_law {A =
+    A} {reading = reading} rows checked n w V R given row x valid = option_agrees reading rows checked n row.0 row.1 w x (inside x valid)
   where
     inside : (y : Option A) → OfSome V y → OfSome (λ a. Gives (w a) (MeansUnder reading rows row.0)) y
     inside Option.None h = tt
     inside (Option.Some a) h = given row.0 a row.2 h
 
-pub vec_law : {A : Type 0} {reading : Patterns → Type 0} (rows : List Row) → IsChecked rows → (n : ℕ) (w : A → Log → Log → Type 0) (V : A → Type 0) (R : List Row → ℕ → Type 0)
+pub vec_law : {A : Type 0} {reading : Patterns → Type 0} (rows : List Row) → IsChecked rows
+    → (n : ℕ) (w : A → Log → Log → Type 0) (V : A → Type 0) (R : List Row → ℕ → Type 0)
     → Part reading rows w V R → (m : ℕ) × HasShape rows n (shape.seq m) × R rows m
     → (xs : List A) → All V xs → Gives (WritesSeq w xs) (MeansUnder reading rows n)
 vec_law {reading = reading} rows checked n w V R given row xs valid =
     seq_agrees reading rows checked n row.0 row.1 w V (λ x v. given row.0 x row.2 v) xs valid
 
-pub array_law : {A : Type 0} {reading : Patterns → Type 0} (rows : List Row) → IsChecked rows → (n len : ℕ) (w : A → Log → Log → Type 0) (V : A → Type 0) (R : List Row → ℕ → Type 0)
+pub array_law : {A : Type 0} {reading : Patterns → Type 0} (rows : List Row) → IsChecked rows
+    → (n len : ℕ) (w : A → Log → Log → Type 0) (V : A → Type 0) (R : List Row → ℕ → Type 0)
     → Part reading rows w V R → (m : ℕ) × HasShape rows n (shape.array m len) × R rows m
     → (xs : List A) → (length xs ≡ len) × All V xs → Gives (WritesSeq w xs) (MeansUnder reading rows n)
 array_law {reading = reading} rows checked n len w V R given row xs valid =
     array_agrees reading rows checked n row.0 len row.1 w V (λ x v. given row.0 x row.2 v) xs valid.0 valid.1
 
-pub any_array_law : {A : Type 0} {reading : Patterns → Type 0} (rows : List Row) → IsChecked rows → (n len : ℕ) (w : A → Log → Log → Type 0) (V : A → Type 0)
+pub any_array_law : {A : Type 0} {reading : Patterns → Type 0} (rows : List Row) → IsChecked rows
+    → (n len : ℕ) (w : A → Log → Log → Type 0) (V : A → Type 0)
     (R : List Row → ℕ → Type 0) → Part reading rows w V R → IsArrayRow R len rows n
     → (xs : List A) → (length xs ≡ len) × All V xs → Gives (WritesSeq w xs) (MeansUnder reading rows n)
 any_array_law {reading = reading} rows checked n len w V R given (inl row) xs valid = array_law rows checked n len w V R given row xs valid
@@ -143,7 +148,8 @@ any_array_law {reading = reading} rows checked n len w V R given (inr empty) [] 
     (in_seq_gives 0 (WritesEach w []) NoItems no_items_give)
 any_array_law {reading = reading} rows checked n len w V R given (inr empty) (x ∷ xs) valid = absurd (omega (arith, valid.0, empty.0))
 
-pub pair_law : {A B : Type 0} {reading : Patterns → Type 0} (rows : List Row) → IsChecked rows → (n : ℕ) (v : A → Log → Log → Type 0) (w : B → Log → Log → Type 0)
+pub pair_law : {A B : Type 0} {reading : Patterns → Type 0} (rows : List Row) → IsChecked rows
+    → (n : ℕ) (v : A → Log → Log → Type 0) (w : B → Log → Log → Type 0)
     (V : A → Type 0) (W : B → Type 0) (R S : List Row → ℕ → Type 0) → Part reading rows v V R → Part reading rows w W S
     → (a b : ℕ) × HasShape rows n (shape.tuple (a ∷ b ∷ [])) × R rows a × S rows b
     → (x : A) (y : B) → V x × W y → Gives (InSeq 2 (Then (v x) (w y))) (MeansUnder reading rows n)
@@ -153,12 +159,14 @@ pair_law {reading = reading} rows checked n v w V W R S first second row x y val
 -- ---- maps
 
 -- `S` says which rows are the keys'
-abbrev pub KeyPart : {K : Type 0} → (Patterns → Type 0) → List Row → (K → Log → Log → Type 0) → (K → Type 0) → (List Row → ℕ → Type 0) → Type 0
+abbrev pub KeyPart : {K : Type 0} → (Patterns → Type 0) → List Row → (K → Log → Log → Type 0) → (K → Type 0) → (List Row → ℕ → Type 0)
+    → Type 0
 KeyPart {K} reading rows key U S = (m : ℕ) (x : K) → S rows m → U x → GivesAsKey (key x) (IsKeyUnder reading rows m)
 
 pub keyed_map_law : {K A : Type 0} {reading : Patterns → Type 0} (rows : List Row) → IsChecked rows
     → (n : ℕ) (key : K → Log → Log → Type 0) (w : A → Log → Log → Type 0) (U : K → Type 0) (V : A → Type 0) (S R : List Row → ℕ → Type 0)
-    → KeyPart reading rows key U S → Part reading rows w V R → (from m : ℕ) × HasShape rows n (shape.map_from from m) × S rows from × R rows m
+    → KeyPart reading rows key U S → Part reading rows w V R
+    → (from m : ℕ) × HasShape rows n (shape.map_from from m) × S rows from × R rows m
     → (es : List (K × A)) → All (λ e. U e.0 × V e.1) es → Gives (WritesMap key w es) (MeansUnder reading rows n)
 keyed_map_law {reading = reading} rows checked n key w U V S R named given row es valid =
     map_agrees reading rows checked n row.0 row.1 row.2 key w U V (λ x u. named row.0 x row.3 u) (λ x v. given row.1 x row.4 v) es valid
@@ -177,7 +185,8 @@ map_law rows checked n bytes w V R given row es valid =
 -- ---- structs
 
 -- of fields that are these, the struct sends the members that belong to them
-pub record FieldsAgreeUnder (reading : Patterns → Type 0) (rows : List Row) (fields : List Field → Type 0) (sends : Log → Log → Type 0) : Type 0 where
+pub record FieldsAgreeUnder (reading : Patterns → Type 0) (rows : List Row) (fields : List Field → Type 0)
+    (sends : Log → Log → Type 0) : Type 0 where
   pub agree : (list : List Field) → fields list → GivesMembers sends (Matches reading rows list)
 
 -- under each reading of patterns
@@ -210,42 +219,55 @@ next_field_if {reading = reading} rows b name R others w ws value more = record 
     each [] is = absurd is
     each (f ∷ fs) is = field_if_gives reading rows b name f fs w ws is.0 is.2 (value f.ty is.1) (more.agree fs is.3)
 
-pub struct_law : {reading : Patterns → Type 0} (rows : List Row) → IsChecked rows → (n count : ℕ) (fields : List Field → Type 0) (w : Log → Log → Type 0)
+pub struct_law : {reading : Patterns → Type 0} (rows : List Row) → IsChecked rows
+    → (n count : ℕ) (fields : List Field → Type 0) (w : Log → Log → Type 0)
     → HasFields rows n fields → FieldsAgreeUnder reading rows fields w → Gives (Struct count w) (MeansUnder reading rows n)
-struct_law {reading = reading} rows checked n count fields w row agree = struct_agrees reading rows checked n row.0 row.1 row.2 count w (agree.agree row.0 row.3)
+struct_law {reading =
+    reading} rows checked n count fields w row agree = struct_agrees reading rows checked n row.0 row.1 row.2 count w
+    (agree.agree row.0 row.3)
 
 -- ---- other tuples
 
-pub single_law : {A : Type 0} {reading : Patterns → Type 0} (rows : List Row) → IsChecked rows → (n : ℕ) (v : A → Log → Log → Type 0) (V : A → Type 0) (R : List Row → ℕ → Type 0)
-    → Part reading rows v V R → (a : ℕ) × HasShape rows n (shape.tuple (a ∷ [])) × R rows a → (x : A) → V x → Gives (InSeq 1 (v x)) (MeansUnder reading rows n)
+pub single_law : {A : Type 0} {reading : Patterns → Type 0} (rows : List Row) → IsChecked rows
+    → (n : ℕ) (v : A → Log → Log → Type 0) (V : A → Type 0) (R : List Row → ℕ → Type 0)
+    → Part reading rows v V R → (a : ℕ) × HasShape rows n (shape.tuple (a ∷ [])) × R rows a → (x : A) → V x
+    → Gives (InSeq 1 (v x)) (MeansUnder reading rows n)
 single_law {reading = reading} rows checked n v V R first row x valid =
-    weaker (InSeq 1 (v x)) (IsArray (Of reading rows (row.0 ∷ []))) (MeansUnder reading rows n) (tuple_means reading rows checked n (row.0 ∷ []) row.1)
+    weaker (InSeq 1 (v x)) (IsArray (Of reading rows (row.0 ∷ []))) (MeansUnder reading rows n)
+    (tuple_means reading rows checked n (row.0 ∷ []) row.1)
     (in_seq_gives 1 (v x) (Of reading rows (row.0 ∷ [])) (last_gives (v x) (MeansUnder reading rows row.0) (first row.0 x row.2 valid)))
 
-pub triple_law : {A B C : Type 0} {reading : Patterns → Type 0} (rows : List Row) → IsChecked rows → (n : ℕ) (u : A → Log → Log → Type 0) (v : B → Log → Log → Type 0)
+pub triple_law : {A B C : Type 0} {reading : Patterns → Type 0} (rows : List Row) → IsChecked rows
+    → (n : ℕ) (u : A → Log → Log → Type 0) (v : B → Log → Log → Type 0)
     (w : C → Log → Log → Type 0) (U : A → Type 0) (V : B → Type 0) (W : C → Type 0) (Q R S : List Row → ℕ → Type 0)
     → Part reading rows u U Q → Part reading rows v V R → Part reading rows w W S
     → (a b c : ℕ) × HasShape rows n (shape.tuple (a ∷ b ∷ c ∷ [])) × Q rows a × R rows b × S rows c
     → (x : A) (y : B) (z : C) → U x × V y × W z → Gives (InSeq 3 (Then (u x) (Then (v y) (w z)))) (MeansUnder reading rows n)
 triple_law {reading = reading} rows checked n u v w U V W Q R S first second third row x y z valid =
     let ns = row.0 ∷ row.1 ∷ row.2 ∷ [] in
-    weaker (InSeq 3 (Then (u x) (Then (v y) (w z)))) (IsArray (Of reading rows ns)) (MeansUnder reading rows n) (tuple_means reading rows checked n ns row.3)
+    weaker (InSeq 3 (Then (u x) (Then (v y) (w z)))) (IsArray (Of reading rows ns)) (MeansUnder reading rows n)
+    (tuple_means reading rows checked n ns row.3)
     (in_seq_gives 3 (Then (u x) (Then (v y) (w z))) (Of reading rows ns)
     (then_give (u x) (Then (v y) (w z)) (MeansUnder reading rows row.0) (Of reading rows (row.1 ∷ row.2 ∷ [])) (first row.0 x row.4 valid.0)
     (then_give (v y) (w z) (MeansUnder reading rows row.1) (Of reading rows (row.2 ∷ [])) (second row.1 y row.5 valid.1)
     (last_gives (w z) (MeansUnder reading rows row.2) (third row.2 z row.6 valid.2)))))
 
-pub quadruple_law : {A B C D : Type 0} {reading : Patterns → Type 0} (rows : List Row) → IsChecked rows → (n : ℕ) (t : A → Log → Log → Type 0) (u : B → Log → Log → Type 0)
+pub quadruple_law : {A B C D : Type 0} {reading : Patterns → Type 0} (rows : List Row) → IsChecked rows
+    → (n : ℕ) (t : A → Log → Log → Type 0) (u : B → Log → Log → Type 0)
     (v : C → Log → Log → Type 0) (w : D → Log → Log → Type 0) (T : A → Type 0) (U : B → Type 0) (V : C → Type 0) (W : D → Type 0)
-    (P Q R S : List Row → ℕ → Type 0) → Part reading rows t T P → Part reading rows u U Q → Part reading rows v V R → Part reading rows w W S
+    (P Q R S : List Row → ℕ → Type 0) → Part reading rows t T P → Part reading rows u U Q → Part reading rows v V R
+    → Part reading rows w W S
     → (a b c d : ℕ) × HasShape rows n (shape.tuple (a ∷ b ∷ c ∷ d ∷ [])) × P rows a × Q rows b × R rows c × S rows d
     → (k : A) (x : B) (y : C) (z : D) → T k × U x × V y × W z
     → Gives (InSeq 4 (Then (t k) (Then (u x) (Then (v y) (w z))))) (MeansUnder reading rows n)
 quadruple_law {reading = reading} rows checked n t u v w T U V W P Q R S first second third fourth row k x y z valid =
     let ns = row.0 ∷ row.1 ∷ row.2 ∷ row.3 ∷ [] in
-    weaker (InSeq 4 (Then (t k) (Then (u x) (Then (v y) (w z))))) (IsArray (Of reading rows ns)) (MeansUnder reading rows n) (tuple_means reading rows checked n ns row.4)
+    weaker (InSeq 4 (Then (t k) (Then (u x) (Then (v y) (w z))))) (IsArray (Of reading rows ns)) (MeansUnder reading rows n)
+    (tuple_means reading rows checked n ns row.4)
     (in_seq_gives 4 (Then (t k) (Then (u x) (Then (v y) (w z)))) (Of reading rows ns)
-    (then_give (t k) (Then (u x) (Then (v y) (w z))) (MeansUnder reading rows row.0) (Of reading rows (row.1 ∷ row.2 ∷ row.3 ∷ [])) (first row.0 k row.5 valid.0)
-    (then_give (u x) (Then (v y) (w z)) (MeansUnder reading rows row.1) (Of reading rows (row.2 ∷ row.3 ∷ [])) (second row.1 x row.6 valid.1)
+    (then_give (t k) (Then (u x) (Then (v y) (w z))) (MeansUnder reading rows row.0) (Of reading rows (row.1 ∷ row.2 ∷ row.3 ∷ []))
+    (first row.0 k row.5 valid.0)
+    (then_give (u x) (Then (v y) (w z)) (MeansUnder reading rows row.1) (Of reading rows (row.2 ∷ row.3 ∷ []))
+    (second row.1 x row.6 valid.1)
     (then_give (v y) (w z) (MeansUnder reading rows row.2) (Of reading rows (row.3 ∷ [])) (third row.2 y row.7 valid.2)
     (last_gives (w z) (MeansUnder reading rows row.3) (fourth row.3 z row.8 valid.3))))))

@@ -37,7 +37,8 @@ Marked sends old new = (a b : Log) × Logs old a event.key_begins × sends a b �
 -- what is sent where a value may stand is one key with Q
 abbrev GivesKeyOf : (Log → Log → Type 0) → (Text → Type 0) → Type 0
 GivesKeyOf sends Q = (es : List Event) (new : Log) → sends (Some es) new
-    → (added : List Event) × (new ≡ Some (es ++ added)) × ((rest : List Event) (s last : State) → IsPlain s → TakesAll s (added ++ rest) last
+    → (added : List Event) × (new ≡ Some (es ++ added)) ×
+    ((rest : List Event) (s last : State) → IsPlain s → TakesAll s (added ++ rest) last
     → (mid : State) × (k : Text) × Q k × IsPlain mid × (mid.tokens ≡ s.tokens ++ token.key k ∷ []) × TakesAll mid rest last)
 
 marked_key : (w : Log → Log → Type 0) (Q : Text → Type 0) → GivesAsKey w Q → GivesKeyOf (Marked w) Q
@@ -86,7 +87,8 @@ none_left : (Q : Text → Type 0) (P : Json → Type 0) (ms : json.Members) → 
 none_left Q P json.no_members h = tt
 none_left Q P (json.member k j ms) h = absurd h
 
-entries_give : {K A : Type 0} (key : K → Log → Log → Type 0) (w : A → Log → Log → Type 0) (U : K → Type 0) (V : A → Type 0) (Q : Text → Type 0)
+entries_give : {K A : Type 0} (key : K → Log → Log → Type 0) (w : A → Log → Log → Type 0) (U : K → Type 0) (V : A → Type 0)
+    (Q : Text → Type 0)
     (P : Json → Type 0) → ((x : K) → U x → GivesAsKey (key x) Q) → ((x : A) → V x → Gives (w x) P)
     → (es : List (K × A)) → All (λ e. U e.0 × V e.1) es → GivesMembers (WritesEach (WritesEntry key w) es) (EachEntry Q P)
 entries_give key w U V Q P named given [] all es new sent =
@@ -94,7 +96,8 @@ entries_give key w U V Q P named given [] all es new sent =
     (a.0, a.1, λ rest s last plain run. let b = a.2 rest s last plain run in (b.0, b.1, none_left Q P b.1 b.2, b.3, b.4, b.5))
 entries_give key w U V Q P named given (e ∷ more) all es new sent =
     let both = All-head (λ x. U x.0 × V x.1) e more all in
-    entry_gives (Marked (key e.0)) (w e.1) (WritesEach (WritesEntry key w) more) Q P (marked_key (key e.0) Q (named e.0 both.0)) (given e.1 both.1)
+    entry_gives (Marked (key e.0)) (w e.1) (WritesEach (WritesEntry key w) more) Q P (marked_key (key e.0) Q (named e.0 both.0))
+    (given e.1 both.1)
     (entries_give key w U V Q P named given more (All-tail (λ x. U x.0 × V x.1) e more all)) es new
     (sent.1.2, sent.0, (sent.1.0, sent.1.1, sent.1.3, sent.1.4, sent.1.5), sent.1.6, sent.2)
 
@@ -107,7 +110,8 @@ InMap rows patterns from value k d = (is_key_allowed patterns (key_options rows 
 members_hold : (rows : List Row) (patterns : Patterns) (from value steps h : ℕ) (ms : Members)
     → value < length rows → rank rows value < length rows → suc h * length rows ≤ steps → members_depth ms ≤ h
     → AllMembers (InMap rows patterns from value) ms
-    → every_member (λ k w. is_key_allowed patterns (key_options rows from) k && belongs_within rows Serialize patterns steps value w) ms ≡ true
+    → every_member
+    (λ k w. is_key_allowed patterns (key_options rows from) k && belongs_within rows Serialize patterns steps value w) ms ≡ true
 members_hold rows patterns from value steps h no_members known low many deep all = refl
 members_hold rows patterns from value steps h (member k d ms) known low many deep all =
     let allowed = is_key_allowed patterns (key_options rows from) in
@@ -124,7 +128,8 @@ each_read reading rows patterns takes from value json.no_members each = tt
 each_read reading rows patterns takes from value (json.member k j ms) each =
     (λ d reads. (each.0 patterns takes, each.1 patterns takes d reads), each_read reading rows patterns takes from value ms each.2)
 
-map_means : (reading : Patterns → Type 0) (rows : List Row) → IsChecked rows → (n from value : ℕ) → HasShape rows n (shape.map_from from value)
+map_means : (reading : Patterns → Type 0) (rows : List Row) → IsChecked rows → (n from value : ℕ)
+    → HasShape rows n (shape.map_from from value)
     → (j : Json) → IsObject (EachEntry (IsKeyUnder reading rows from) (MeansUnder reading rows value)) j → MeansUnder reading rows n j
 map_means reading rows checked n from value is json.null all = absurd all
 map_means reading rows checked n from value is (json.boolean b) all = absurd all
@@ -134,12 +139,15 @@ map_means reading rows checked n from value is (json.array js) all = absurd all
 map_means reading rows checked n from value is (json.object ms) all = λ patterns takes d reads.
     let r = object_parts (of_members ms no_members) d reads in
     let low = part_low rows checked n value (shape.map_from from value) is (1, omega arith, refl) in
-    let each = read_members (InMap rows patterns from value) ms no_members r.0 (each_read reading rows patterns takes from value ms all) tt r.1 in
+    let each = read_members (InMap rows patterns from value) ms no_members r.0
+    (each_read reading rows patterns takes from value ms all) tt r.1 in
     subst (λ x. Fits rows patterns n x) r.2 (step rows patterns n (shape.map_from from value) (object r.0) is (λ steps few.
-    members_hold rows patterns from value steps (members_depth r.0) r.0 low (checked.rank_bound value low) (omega arith) (omega arith) each))
+    members_hold rows patterns from value steps (members_depth r.0) r.0 low (checked.rank_bound value low) (omega arith)
+    (omega arith) each))
 
 pub map_agrees : {K A : Type 0} (reading : Patterns → Type 0) (rows : List Row) → IsChecked rows → (n from value : ℕ)
-    → HasShape rows n (shape.map_from from value) → (key : K → Log → Log → Type 0) (w : A → Log → Log → Type 0) (U : K → Type 0) (V : A → Type 0)
+    → HasShape rows n (shape.map_from from value)
+    → (key : K → Log → Log → Type 0) (w : A → Log → Log → Type 0) (U : K → Type 0) (V : A → Type 0)
     → ((x : K) → U x → GivesAsKey (key x) (IsKeyUnder reading rows from)) → ((x : A) → V x → Gives (w x) (MeansUnder reading rows value))
     → (es : List (K × A)) → All (λ e. U e.0 × V e.1) es → Gives (WritesMap key w es) (MeansUnder reading rows n)
 map_agrees reading rows checked n from value is key w U V named given es all =

@@ -43,7 +43,8 @@ use Rattle.schemars_written.proofs.Lists.{closer, shallower, both_true}
 -- what is sent is this key
 abbrev pub GivesKey : (Log → Log → Type 0) → Text → Type 0
 GivesKey sends k = (es : List Event) (new : Log) → sends (Some es) new
-    → (added : List Event) × (new ≡ Some (es ++ added)) × ((rest : List Event) (s last : State) → IsPlain s → TakesAll s (added ++ rest) last
+    → (added : List Event) × (new ≡ Some (es ++ added)) ×
+    ((rest : List Event) (s last : State) → IsPlain s → TakesAll s (added ++ rest) last
     → (mid : State) × IsPlain mid × (mid.tokens ≡ s.tokens ++ token.key k ∷ []) × TakesAll mid rest last)
 
 pub field_key_gives : (name : Text) → GivesKey (λ old new. Logs old new (event.field_key name AsIs)) name
@@ -110,7 +111,8 @@ struct_gives n w P given es new sent =
       λ rest s last plain run.
           let opened : IsPlain run.0 × (run.0.tokens ≡ s.tokens ++ token.begin_object ∷ []) = grind (arith, common_steps, run.1.1) in
           let c = a.2 rest run.0 last opened.0 (subst (λ xs. TakesAll run.0 xs last) (append_assoc a.0 (event.map_ends ∷ []) rest) run.2) in
-          (c.0, json.object c.1, c.2, c.3, c.4 ∙ ap (λ xs. xs ++ members_tokens c.1) opened.1 ∙ append_assoc s.tokens (token.begin_object ∷ []) (members_tokens c.1), c.5),
+          (c.0, json.object c.1, c.2, c.3, c.4 ∙ ap (λ xs. xs ++ members_tokens c.1) opened.1 ∙ append_assoc s.tokens
+          (token.begin_object ∷ []) (members_tokens c.1), c.5),
     )
 
 -- ---- how members are read
@@ -171,7 +173,9 @@ comes k (json.member l j ms) found all (inr later) reads =
 -- the members are those of these fields, in order; one that need not be written may be left out
 abbrev pub Matches : (Patterns → Type 0) → List Row → List Field → json.Members → Type 0
 Matches reading rows [] ms = NoMembers ms
-Matches reading rows (f ∷ fs) ms = FirstMember f.name (MeansUnder reading rows f.ty) (Matches reading rows fs) ms ⊎ ((f.required.serialize ≡ false) × Matches reading rows fs ms)
+Matches reading rows (f ∷ fs) ms =
+    FirstMember f.name (MeansUnder reading rows f.ty) (Matches reading rows fs) ms ⊎
+    ((f.required.serialize ≡ false) × Matches reading rows fs ms)
 
 -- a member is of the field of its name
 abbrev pub OfField : (Patterns → Type 0) → List Row → List Field → Text → Json → Type 0
@@ -197,13 +201,15 @@ name_of_found g (h ∷ fs) t k apart at = go (bytes_eq h.name k) refl (name_of_f
     go true is later = subst (λ (x : Text). bytes_eq t x ≡ false) ((bytes_eq-Decides h.name k).0 is) apart.0
     go false is later = later (sym (named_later h fs k is) ∙ at)
 
-wider : (reading : Patterns → Type 0) (rows : List Row) (f : Field) (fs : List Field) → AllByRecursion (λ y. bytes_eq f.name y ≡ false) (map (λ x. x.name) fs)
+wider : (reading : Patterns → Type 0) (rows : List Row) (f : Field) (fs : List Field)
+    → AllByRecursion (λ y. bytes_eq f.name y ≡ false) (map (λ x. x.name) fs)
     → (ms : json.Members) → EachJson (OfField reading rows fs) ms → EachJson (OfField reading rows (f ∷ fs)) ms
 wider reading rows f fs apart json.no_members each = tt
 wider reading rows f fs apart (json.member k j ms) each =
     ((each.0.0, named_later f fs k (name_of_found each.0.0 fs f.name k apart each.0.1) ∙ each.0.1, each.0.2), wider reading rows f fs apart ms each.1)
 
-pub of_fields : (reading : Patterns → Type 0) (rows : List Row) (fs : List Field) → Apart fs → (ms : json.Members) → Matches reading rows fs ms → EachJson (OfField reading rows fs) ms
+pub of_fields : (reading : Patterns → Type 0) (rows : List Row) (fs : List Field) → Apart fs → (ms : json.Members)
+    → Matches reading rows fs ms → EachJson (OfField reading rows fs) ms
 unfolding IsDistinct
 of_fields reading rows [] apart json.no_members given = tt
 of_fields reading rows [] apart (json.member k j ms) given = absurd given
@@ -252,7 +258,8 @@ fields_hold rows patterns fs list closed steps h (member k d ms) known same many
     (every_member (λ k w. field_fits (belongs_within rows Serialize patterns steps) list closed k w) ms) first
     (fields_hold rows patterns fs list closed steps h ms known same many (omega arith) all.1)
 
-pub has_keys_of : (reading : Patterns → Type 0) (rows : List Row) (part : ℕ → Data → Bool) (fs : List Field) (ms : json.Members) → Matches reading rows fs ms → (all found : Members) → of_members ms found ≡ Some all
+pub has_keys_of : (reading : Patterns → Type 0) (rows : List Row) (part : ℕ → Data → Bool) (fs : List Field) (ms : json.Members)
+    → Matches reading rows fs ms → (all found : Members) → of_members ms found ≡ Some all
     → has_each_field part fs all ≡ true
 has_keys_of reading rows part [] ms given all found reads = refl
 has_keys_of reading rows part (f ∷ fs) json.no_members (inl given) all found reads = absurd given
@@ -273,7 +280,8 @@ has_keys_of reading rows part (f ∷ fs) ms (inr given) all found reads =
     (ap (λ (b : Bool). not b || is_some (get_member f.name all)) given.0)
     (has_keys_of reading rows part fs ms given.1 all found reads)
 
-members_are : (reading : Patterns → Type 0) (rows : List Row) (fs : List Field) (patterns : Patterns) → reading patterns → (ms : json.Members) → EachJson (OfField reading rows fs) ms
+members_are : (reading : Patterns → Type 0) (rows : List Row) (fs : List Field) (patterns : Patterns) → reading patterns
+    → (ms : json.Members) → EachJson (OfField reading rows fs) ms
     → EachJson (λ k j. (d : Data) → of_json j ≡ Some d → (f : Field) × (field_named fs k ≡ Some f) × Fits rows patterns f.ty d) ms
 members_are reading rows fs patterns takes json.no_members each = tt
 members_are reading rows fs patterns takes (json.member k j ms) each =
@@ -283,7 +291,8 @@ abbrev pub plain_fields : List Field → Bool → shape.Fields
 plain_fields fs closed = record { list = fs; flatten = []; closed = closed }
 
 -- members of fields are what a struct of them has
-pub fields_belong : (reading : Patterns → Type 0) (rows : List Row) (patterns : Patterns) → reading patterns → (fs : List Field) (closed : Bool) (ms : json.Members) (d : Data) (steps : ℕ)
+pub fields_belong : (reading : Patterns → Type 0) (rows : List Row) (patterns : Patterns) → reading patterns
+    → (fs : List Field) (closed : Bool) (ms : json.Members) (d : Data) (steps : ℕ)
     → ((m : ℕ) → Contains (map (λ f. f.ty) fs) m → (m < length rows) × (rank rows m < length rows)) → Apart fs → Matches reading rows fs ms
     → of_json (json.object ms) ≡ Some d → depth d * length rows ≤ steps
     → has_fields Serialize (belongs_within rows Serialize patterns steps) [] (fs ++ []) closed d ≡ true
@@ -296,14 +305,16 @@ fields_belong reading rows patterns takes fs closed ms d steps low apart all rea
     (both_true (every_member (λ k w. field_fits (belongs_within rows Serialize patterns steps) (fs ++ []) closed k w) r.0)
     (has_each_field (belongs_within rows Serialize patterns steps) (fs ++ []) r.0)
     (fields_hold rows patterns fs (fs ++ []) closed steps (members_depth r.0) r.0 low (append-nil fs) enough (omega arith) each)
-    (subst (λ (l : List Field). has_each_field (belongs_within rows Serialize patterns steps) l r.0 ≡ true) (sym (append-nil fs)) (has_keys_of reading rows (belongs_within rows Serialize patterns steps) fs ms all r.0 no_members r.1)))
+    (subst (λ (l : List Field). has_each_field (belongs_within rows Serialize patterns steps) l r.0 ≡ true) (sym (append-nil fs))
+    (has_keys_of reading rows (belongs_within rows Serialize patterns steps) fs ms all r.0 no_members r.1)))
 
 -- the own names of a struct differ
 pub names_apart : (rows : List Row) → IsChecked rows → (n : ℕ) (x : shape.Fields) → HasShape rows n (shape.struct x) → Apart x.list
 names_apart rows checked n x is = (subst (λ (ls : List (List Text)). AreDistinctLists ls)
     (ap (λ o. option_map_or (λ (e : Entry). names_of e.shape) o []) is.1 ∙ ap names_of is.2) (checked.names_differ n)).0
 
-pub struct_means : (reading : Patterns → Type 0) (rows : List Row) → IsChecked rows → (n : ℕ) (fs : List Field) (closed : Bool) → HasShape rows n (shape.struct (plain_fields fs closed))
+pub struct_means : (reading : Patterns → Type 0) (rows : List Row) → IsChecked rows → (n : ℕ) (fs : List Field) (closed : Bool)
+    → HasShape rows n (shape.struct (plain_fields fs closed))
     → (j : Json) → IsObject (Matches reading rows fs) j → MeansUnder reading rows n j
 struct_means reading rows checked n fs closed is json.null all = absurd all
 struct_means reading rows checked n fs closed is (json.boolean b) all = absurd all
@@ -317,23 +328,29 @@ struct_means reading rows checked n fs closed is (json.object ms) all = λ patte
     (subst (λ (xs : List ℕ). Contains xs m) (sym (append-nil (map (λ f. f.ty) fs))) c) in (low, checked.rank_bound m low))
     (names_apart rows checked n (plain_fields fs closed) is) all reads (omega arith))
 
-pub struct_agrees : (reading : Patterns → Type 0) (rows : List Row) → IsChecked rows → (n : ℕ) (fs : List Field) (closed : Bool) → HasShape rows n (shape.struct (plain_fields fs closed))
+pub struct_agrees : (reading : Patterns → Type 0) (rows : List Row) → IsChecked rows → (n : ℕ) (fs : List Field) (closed : Bool)
+    → HasShape rows n (shape.struct (plain_fields fs closed))
     → (count : ℕ) (w : Log → Log → Type 0) → GivesMembers w (Matches reading rows fs) → Gives (Struct count w) (MeansUnder reading rows n)
 struct_agrees reading rows checked n fs closed is count w given =
-    weaker (Struct count w) (IsObject (Matches reading rows fs)) (MeansUnder reading rows n) (struct_means reading rows checked n fs closed is)
+    weaker (Struct count w) (IsObject (Matches reading rows fs)) (MeansUnder reading rows n)
+    (struct_means reading rows checked n fs closed is)
     (struct_gives count w (Matches reading rows fs) given)
 
 -- a field, and then the others
-pub field_gives : (reading : Patterns → Type 0) (rows : List Row) (name : Text) (f : Field) (fs : List Field) (w ws : Log → Log → Type 0) → f.name ≡ name
-    → Gives w (MeansUnder reading rows f.ty) → GivesMembers ws (Matches reading rows fs) → GivesMembers (gives.Field name w ws) (Matches reading rows (f ∷ fs))
+pub field_gives : (reading : Patterns → Type 0) (rows : List Row) (name : Text) (f : Field) (fs : List Field) (w ws : Log → Log → Type 0)
+    → f.name ≡ name
+    → Gives w (MeansUnder reading rows f.ty) → GivesMembers ws (Matches reading rows fs)
+    → GivesMembers (gives.Field name w ws) (Matches reading rows (f ∷ fs))
 field_gives reading rows name f fs w ws same value others es new sent =
-    let a = member_gives name (λ old new. Logs old new (event.field_key name AsIs)) w ws (MeansUnder reading rows f.ty) (Matches reading rows fs)
+    let a = member_gives name (λ old new. Logs old new (event.field_key name AsIs)) w ws (MeansUnder reading rows f.ty)
+    (Matches reading rows fs)
     (field_key_gives name) value others es new sent in
     let b = subst (λ (k : Text). (added : List Event) × (new ≡ Some (es ++ added)) × SpellsMembers (FirstMember k (MeansUnder reading rows f.ty) (Matches reading rows fs)) added) (sym same) a in
     (b.0, b.1, λ rest s last plain run. let c = b.2 rest s last plain run in (c.0, c.1, inl c.2, c.3, c.4, c.5))
 
 -- a field that may be left out, and then the others
-pub field_if_gives : (reading : Patterns → Type 0) (rows : List Row) (b : Bool) (name : Text) (f : Field) (fs : List Field) (w ws : Log → Log → Type 0) → f.name ≡ name
+pub field_if_gives : (reading : Patterns → Type 0) (rows : List Row) (b : Bool) (name : Text) (f : Field) (fs : List Field)
+    (w ws : Log → Log → Type 0) → f.name ≡ name
     → f.required.serialize ≡ false → Gives w (MeansUnder reading rows f.ty) → GivesMembers ws (Matches reading rows fs)
     → GivesMembers (gives.FieldIf b name w ws) (Matches reading rows (f ∷ fs))
 field_if_gives reading rows true name f fs w ws same free value others = field_gives reading rows name f fs w ws same value others

@@ -72,7 +72,8 @@ enum_lists : (rows : List Row) → IsChecked rows → (n : ℕ) (tagging : Taggi
 enum_lists rows checked n tagging xs is = subst (λ (ls : List (List Text)). AreDistinctLists ls)
     (ap (λ o. option_map_or (λ (e : Entry). names_of e.shape) o []) is.1 ∙ ap names_of is.2) (checked.names_differ n)
 
-pub payload_apart : (rows : List Row) → IsChecked rows → (n : ℕ) (tagging : Tagging) (xs : List Variant) → HasShape rows n (shape.enum tagging xs)
+pub payload_apart : (rows : List Row) → IsChecked rows → (n : ℕ) (tagging : Tagging) (xs : List Variant)
+    → HasShape rows n (shape.enum tagging xs)
     → (name : Text) (p : Payload) → HasVariant name p xs → IsDistinct bytes_eq (payload_names p)
 payload_apart rows checked n tagging xs is name p has =
     names_in name p xs has (later_lists (tagging_keys tagging) (variant_names xs) (enum_lists rows checked n tagging xs is)).1
@@ -83,7 +84,8 @@ unfolding IsDistinct
 keys_apart rows checked n tag content closed xs is = (enum_lists rows checked n (by_tag_and_content tag content closed) xs is).0.0.0
 
 -- the rows of a variant are rows
-pub payload_low : (rows : List Row) → IsChecked rows → (n : ℕ) (tagging : Tagging) (xs : List Variant) → HasShape rows n (shape.enum tagging xs)
+pub payload_low : (rows : List Row) → IsChecked rows → (n : ℕ) (tagging : Tagging) (xs : List Variant)
+    → HasShape rows n (shape.enum tagging xs)
     → (name : Text) (p : Payload) → HasVariant name p xs → (m : ℕ) → Contains (payload_numbers p) m
     → (m < length rows) × (rank rows m < length rows)
 payload_low rows checked n tagging xs is name p has m c =
@@ -107,11 +109,14 @@ Enough rows (tuple_payload ns) h steps = h * length rows ≤ steps
 Enough rows (struct_payload x) h steps = h * length rows ≤ steps
 
 abbrev pub Holds : List Row → Patterns → ℕ → Payload → Data → Type 0
-Holds rows patterns steps p d = has_payload Serialize (belongs_within rows Serialize patterns steps) (choices_within rows Serialize patterns steps)
+Holds rows patterns steps p d =
+    has_payload Serialize (belongs_within rows Serialize patterns steps) (choices_within rows Serialize patterns steps)
     (expanded_payload (flattened_in rows) (part_enums rows) p) d ≡ true
 
-tuple_holds : (reading : Patterns → Type 0) (rows : List Row) (patterns : Patterns) → reading patterns → (ns : List ℕ) (j : Json) (d : Data) (steps : ℕ)
-    → ((m : ℕ) → Contains ns m → rank rows m < length rows) → IsArray (Of reading rows ns) j → of_json j ≡ Some d → depth d * length rows ≤ steps
+tuple_holds : (reading : Patterns → Type 0) (rows : List Row) (patterns : Patterns) → reading patterns
+    → (ns : List ℕ) (j : Json) (d : Data) (steps : ℕ)
+    → ((m : ℕ) → Contains ns m → rank rows m < length rows) → IsArray (Of reading rows ns) j → of_json j ≡ Some d
+    → depth d * length rows ≤ steps
     → holds (as_array d) (each_of (belongs_within rows Serialize patterns steps) ns) ≡ true
 tuple_holds reading rows patterns takes ns json.null d steps low all reads few = absurd all
 tuple_holds reading rows patterns takes ns (json.boolean b) d steps low all reads few = absurd all
@@ -124,7 +129,8 @@ tuple_holds reading rows patterns takes ns (json.array js) d steps low all reads
     subst (λ v. holds (as_array v) (each_of (belongs_within rows Serialize patterns steps) ns) ≡ true) r.2
     (parts_fit reading rows patterns takes ns js r.0 low all r.1 (items_depth r.0) steps (omega arith) enough)
 
-struct_holds : (reading : Patterns → Type 0) (rows : List Row) (patterns : Patterns) → reading patterns → (fs : List Field) (closed : Bool) (j : Json) (d : Data) (steps : ℕ)
+struct_holds : (reading : Patterns → Type 0) (rows : List Row) (patterns : Patterns) → reading patterns
+    → (fs : List Field) (closed : Bool) (j : Json) (d : Data) (steps : ℕ)
     → ((m : ℕ) → Contains (map (λ f. f.ty) fs) m → (m < length rows) × (rank rows m < length rows)) → Apart fs
     → IsObject (Matches reading rows fs) j → of_json j ≡ Some d → depth d * length rows ≤ steps
     → has_fields Serialize (belongs_within rows Serialize patterns steps) [] (fs ++ []) closed d ≡ true
@@ -136,7 +142,8 @@ struct_holds reading rows patterns takes fs closed (json.array js) d steps low a
 struct_holds reading rows patterns takes fs closed (json.object ms) d steps low apart all reads few =
     fields_belong reading rows patterns takes fs closed ms d steps low apart all reads few
 
-pub payload_holds : (reading : Patterns → Type 0) (rows : List Row) (patterns : Patterns) → reading patterns → (p : Payload) (j : Json) (d : Data) (steps : ℕ)
+pub payload_holds : (reading : Patterns → Type 0) (rows : List Row) (patterns : Patterns) → reading patterns
+    → (p : Payload) (j : Json) (d : Data) (steps : ℕ)
     → ((m : ℕ) → Contains (payload_numbers p) m → (m < length rows) × (rank rows m < length rows))
     → IsDistinct bytes_eq (payload_names p) → PayloadMeans reading rows p j → of_json j ≡ Some d → Enough rows p (depth d) steps
     → Holds rows patterns steps p d

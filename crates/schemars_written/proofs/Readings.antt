@@ -1,5 +1,5 @@
 -- There are readings that take decimal digits for what they are.
-use Rattle.std.proofs.Common.{◌≡◌, ◌⊎◌, inl, inr, ℕ, zero, suc, ◌<◌, ◌≤◌, ◌^◌, ℤ, pos, negsuc, List, [], ◌∷◌, ◌++◌, true, false, Bool, ◌&&◌, ◌||◌, decimal, refl, sym, ap, ◌∙◌, arith}
+use Rattle.std.proofs.Common.{◌≡◌, ◌⊎◌, inl, inr, ℕ, zero, suc, ◌<◌, ◌^◌, ℤ, pos, negsuc, [], ◌∷◌, ◌++◌, true, false, Bool, ◌&&◌, ◌||◌, decimal, refl, sym, ap, ◌∙◌, arith}
 use Rattle.std.specs.Prelude.{bytes_eq}
 use Rattle.std.specs.Fmt.{signed_decimal}
 use Rattle.std.proofs.Math.Nat.{eq-or-lt_of_le}
@@ -18,7 +18,8 @@ in_left : (ps qs : Patterns) (p t : Text) → matches ps p t ≡ true → matche
 in_left [] qs p t h = absurd (cc)
 in_left (x ∷ ps) qs p t h = go (bytes_eq x.0 p && bytes_eq x.1 t) h (in_left ps qs p t)
   where
-    go : (b : Bool) → (b || matches ps p t) ≡ true → (matches ps p t ≡ true → matches (ps ++ qs) p t ≡ true) → (b || matches (ps ++ qs) p t) ≡ true
+    go : (b : Bool) → (b || matches ps p t) ≡ true → (matches ps p t ≡ true → matches (ps ++ qs) p t ≡ true) →
+        (b || matches (ps ++ qs) p t) ≡ true
     go true is later = refl
     go false is later = later is
 
@@ -58,6 +59,7 @@ whole_numbers_taken = all (below (pattern_of Unsigned) decimal (2 ^ 64)) (below 
     )
       where
         signed : (z : ℤ) → IsWithin64 z → matches (us.0 ++ (vs.0 ++ ws.0)) (pattern_of Signed) (signed_decimal z) ≡ true
-        signed (pos v) low = in_right us.0 (vs.0 ++ ws.0) (pattern_of Signed) (decimal v) (in_left vs.0 ws.0 (pattern_of Signed) (decimal v) (vs.1 v low))
+        signed (pos v) low = in_right us.0 (vs.0 ++ ws.0) (pattern_of Signed) (decimal v)
+            (in_left vs.0 ws.0 (pattern_of Signed) (decimal v) (vs.1 v low))
         signed (negsuc v) low = in_right us.0 (vs.0 ++ ws.0) (pattern_of Signed) (signed_decimal (negsuc v))
             (in_right vs.0 ws.0 (pattern_of Signed) (signed_decimal (negsuc v)) (ws.1 v low))

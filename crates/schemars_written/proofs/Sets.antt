@@ -36,15 +36,18 @@ abbrev shown_items : {A : Type 0} → (A → Data) → List A → Items
 shown_items shown [] = no_items
 shown_items shown (x ∷ xs) = item (shown x) (shown_items shown xs)
 
-items_give : {A : Type 0} (reading : Patterns → Type 0) (rows : List Row) (m : ℕ) (w : A → Log → Log → Type 0) (V : A → Type 0) (shown : A → Data)
+items_give : {A : Type 0} (reading : Patterns → Type 0) (rows : List Row) (m : ℕ) (w : A → Log → Log → Type 0) (V : A → Type 0)
+    (shown : A → Data)
     → ((x : A) → V x → Gives (w x) (MeansJustUnder reading rows m (shown x))) → (xs : List A) → All V xs
     → GivesItems (WritesEach w xs) (Shows reading rows m shown xs)
 items_give reading rows m w V shown given [] all = no_items_give
 items_give reading rows m w V shown given (x ∷ xs) all =
-    then_give (w x) (WritesEach w xs) (MeansJustUnder reading rows m (shown x)) (Shows reading rows m shown xs) (given x (All-head V x xs all))
+    then_give (w x) (WritesEach w xs) (MeansJustUnder reading rows m (shown x)) (Shows reading rows m shown xs)
+    (given x (All-head V x xs all))
     (items_give reading rows m w V shown given xs (All-tail V x xs all))
 
-are_read : {A : Type 0} (reading : Patterns → Type 0) (rows : List Row) (m : ℕ) (shown : A → Data) (xs : List A) (js : json.Items) (ds : Items) → Shows reading rows m shown xs js
+are_read : {A : Type 0} (reading : Patterns → Type 0) (rows : List Row) (m : ℕ) (shown : A → Data) (xs : List A) (js : json.Items)
+    (ds : Items) → Shows reading rows m shown xs js
     → of_items js ≡ Some ds → ds ≡ shown_items shown xs
 are_read reading rows m shown [] json.no_items ds all reads = sym (Some_same no_items ds reads)
 are_read reading rows m shown [] (json.item j js) ds all reads = absurd all
@@ -54,7 +57,8 @@ are_read reading rows m shown (x ∷ xs) (json.item j js) ds all reads =
     sym r.4 ∙ ap (λ (d : Data). item d r.1) (Some_same r.0 (shown x) (sym r.2 ∙ all.0.1))
     ∙ ap (λ (es : Items). item (shown x) es) (are_read reading rows m shown xs js r.1 all.1 r.3)
 
-each_means : {A : Type 0} (reading : Patterns → Type 0) (rows : List Row) (m : ℕ) (shown : A → Data) (xs : List A) (js : json.Items) → Shows reading rows m shown xs js
+each_means : {A : Type 0} (reading : Patterns → Type 0) (rows : List Row) (m : ℕ) (shown : A → Data) (xs : List A) (js : json.Items)
+    → Shows reading rows m shown xs js
     → Each (MeansUnder reading rows m) (length xs) js
 each_means reading rows m shown [] js all = all
 each_means reading rows m shown (x ∷ xs) json.no_items all = absurd all
@@ -74,7 +78,8 @@ Tells {A} V cmp shown = (x y : A) → V x → V y → cmp x y ≡ Less → json_
 abbrev DiffersFrom : {A : Type 0} → (A → Data) → A → List A → Type 0
 DiffersFrom shown x ys = AllByRecursion (λ y. json_eq (shown y) (shown x) ≡ false) ys
 
-not_among : {A : Type 0} (shown : A → Data) (x : A) (ys : List A) → DiffersFrom shown x ys → is_among (shown_items shown ys) (shown x) ≡ false
+not_among : {A : Type 0} (shown : A → Data) (x : A) (ys : List A) → DiffersFrom shown x ys
+    → is_among (shown_items shown ys) (shown x) ≡ false
 not_among shown x [] all = refl
 not_among shown x (y ∷ ys) all =
     both_false (json_eq (shown y) (shown x)) (is_among (shown_items shown ys) (shown x)) all.0 (not_among shown x ys all.1)
@@ -82,7 +87,8 @@ not_among shown x (y ∷ ys) all =
 one_more : {A : Type 0} (shown : A → Data) (x : A) (xs : List A) → DiffersFrom shown x xs → are_distinct (shown_items shown xs) ≡ true
     → are_distinct (shown_items shown (x ∷ xs)) ≡ true
 one_more shown x xs apart others =
-    both_true (not (is_among (shown_items shown xs) (shown x))) (are_distinct (shown_items shown xs)) (ap not (not_among shown x xs apart)) others
+    both_true (not (is_among (shown_items shown xs) (shown x))) (are_distinct (shown_items shown xs))
+    (ap not (not_among shown x xs apart)) others
 
 -- a value that is below them all
 below_all : {A : Type 0} (V : A → Type 0) (cmp : A → A → Ordering) (shown : A → Data) → Tells V cmp shown → (x : A) → V x
@@ -129,7 +135,8 @@ distinct_differ V eq cmp shown apart total ties (x ∷ xs) all unique =
 
 -- ---- the laws
 
-set_means : {A : Type 0} (reading : Patterns → Type 0) (rows : List Row) → IsChecked rows → (n m : ℕ) → HasShape rows n (shape.set m) → (shown : A → Data) (xs : List A)
+set_means : {A : Type 0} (reading : Patterns → Type 0) (rows : List Row) → IsChecked rows → (n m : ℕ) → HasShape rows n (shape.set m)
+    → (shown : A → Data) (xs : List A)
     → are_distinct (shown_items shown xs) ≡ true → (j : Json) → IsArray (Shows reading rows m shown xs) j → MeansUnder reading rows n j
 set_means reading rows checked n m is shown xs apart json.null all = absurd all
 set_means reading rows checked n m is shown xs apart (json.boolean b) all = absurd all
@@ -142,7 +149,8 @@ set_means reading rows checked n m is shown xs apart (json.array js) all = λ pa
     subst (λ x. Fits rows patterns n x) r.2 (step rows patterns n (shape.set m) (array r.0) is (λ steps few.
     both_true (are_distinct r.0) (every_item (belongs_within rows Serialize patterns steps m) r.0)
     (ap are_distinct (are_read reading rows m shown xs js r.0 all r.1) ∙ apart)
-    (items_fit reading rows patterns takes m (length xs) js r.0 (each_means reading rows m shown xs js all) r.1 (items_depth r.0) steps (omega arith)
+    (items_fit reading rows patterns takes m (length xs) js r.0 (each_means reading rows m shown xs js all) r.1 (items_depth r.0) steps
+    (omega arith)
     (room (items_depth r.0) (length rows) (rank rows m) (rank rows n) steps few (checked.rank_bound m low)))))
 
 items_law : {A : Type 0} (reading : Patterns → Type 0) (rows : List Row) → IsChecked rows
