@@ -1,5 +1,5 @@
 -- What is written where a key of a map is due.
-use Rattle.std.proofs.Common.{◌≡◌, inl, inr, ℕ, ◌<◌, ◌^◌, ℤ, List, [], ◌∷◌, ◌++◌, map, Bool, true, false, ◌||◌, Some, None, decimal, encode_utf8, refl, ap, ◌∙◌, subst, arith}
+use Rattle.std.proofs.Common.{◌≡◌, inl, inr, ℕ, ℤ, List, [], ◌∷◌, ◌++◌, map, Bool, true, false, ◌||◌, Some, None, decimal, encode_utf8, refl, ap, ◌∙◌, subst, arith}
 use Rattle.std.specs.Prelude.{bytes_eq, codes, if◌then◌else◌}
 use Rattle.std.specs.Fmt.{signed_decimal}
 use Rattle.std.specs.List.{list_any}
@@ -26,7 +26,7 @@ use Rattle.schemars_types.specs.Found.{AreListed}
 use Rattle.schemars_types.specs.KeyOptions.{KeyOptions, keys, any_text, is_key_allowed, all_options, shape_options, external_options, are_names, distinct_options, or_any_text, once}
 use Rattle.schemars_types.proofs.Settling.{all_options-shape}
 use Rattle.schemars_types.proofs.Texts.{listed_own, once_by_joining}
-use Rattle.schemars_written.specs.Readings.{AnyReading, IsWithin64, TakesWholeNumbers}
+use Rattle.schemars_written.specs.Readings.{AnyReading, TakesNatural, TakesInteger}
 use Rattle.schemars_written.specs.Gives.{IsAtKey, GivesAsKey, Named}
 use Rattle.schemars_written.specs.Fits.{IsKeyUnder, HasShape, HasVariant, HasUnit}
 
@@ -94,20 +94,18 @@ number_allowed : (patterns : Patterns) (i : IntegerKeys) (k : Text) → matches 
     → is_key_allowed patterns (distinct_options (keys false [] (Some i) [])) k ≡ true
 number_allowed patterns i k found = ap (λ b. b || false) found
 
-pub unsigned_key_law : (rows : List Row) (n v : ℕ) (kind : IntKind) → IsChecked rows → HasShape rows n (shape.int kind)
-    → integers_of kind ≡ Unsigned → v < 2 ^ 64
-    → GivesAsKey (λ old new. Logs old new (event.unsigned v)) (IsKeyUnder TakesWholeNumbers rows n)
-unsigned_key_law rows n v kind checked row unsigned low = one_key (event.unsigned v) (decimal v) (IsKeyUnder TakesWholeNumbers rows n)
-    (at_row TakesWholeNumbers rows checked n (shape.int kind) row (decimal v) (keys false [] (Some Unsigned) [])
-    (ap (λ i. keys false [] (Some i) []) unsigned) (λ patterns takes. number_allowed patterns Unsigned (decimal v) (takes.0 v low)))
+pub natural_key_law : (rows : List Row) (n v : ℕ) (kind : IntKind) → IsChecked rows → HasShape rows n (shape.int kind)
+    → integers_of kind ≡ Unsigned → GivesAsKey (λ old new. Logs old new (event.unsigned v)) (IsKeyUnder (TakesNatural v) rows n)
+natural_key_law rows n v kind checked row unsigned = one_key (event.unsigned v) (decimal v) (IsKeyUnder (TakesNatural v) rows n)
+    (at_row (TakesNatural v) rows checked n (shape.int kind) row (decimal v) (keys false [] (Some Unsigned) [])
+    (ap (λ i. keys false [] (Some i) []) unsigned) (λ patterns takes. number_allowed patterns Unsigned (decimal v) takes))
     (λ s mid due took. (grind (arith, common_steps, took.1), grind (arith, common_steps, took.1)))
 
-pub signed_key_law : (rows : List Row) (n : ℕ) (z : ℤ) (kind : IntKind) → IsChecked rows → HasShape rows n (shape.int kind)
-    → integers_of kind ≡ Signed → IsWithin64 z
-    → GivesAsKey (λ old new. Logs old new (event.signed z)) (IsKeyUnder TakesWholeNumbers rows n)
-signed_key_law rows n z kind checked row signed low = one_key (event.signed z) (signed_decimal z) (IsKeyUnder TakesWholeNumbers rows n)
-    (at_row TakesWholeNumbers rows checked n (shape.int kind) row (signed_decimal z) (keys false [] (Some Signed) [])
-    (ap (λ i. keys false [] (Some i) []) signed) (λ patterns takes. number_allowed patterns Signed (signed_decimal z) (takes.1 z low)))
+pub integer_key_law : (rows : List Row) (n : ℕ) (z : ℤ) (kind : IntKind) → IsChecked rows → HasShape rows n (shape.int kind)
+    → integers_of kind ≡ Signed → GivesAsKey (λ old new. Logs old new (event.signed z)) (IsKeyUnder (TakesInteger z) rows n)
+integer_key_law rows n z kind checked row signed = one_key (event.signed z) (signed_decimal z) (IsKeyUnder (TakesInteger z) rows n)
+    (at_row (TakesInteger z) rows checked n (shape.int kind) row (signed_decimal z) (keys false [] (Some Signed) [])
+    (ap (λ i. keys false [] (Some i) []) signed) (λ patterns takes. number_allowed patterns Signed (signed_decimal z) takes))
     (λ s mid due took. (grind (arith, common_steps, took.1), grind (arith, common_steps, took.1)))
 
 -- ---- names of variants
