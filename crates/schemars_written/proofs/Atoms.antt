@@ -150,7 +150,7 @@ pub bool_agrees : (rows : List Row) (n : ℕ) (b : Bool) → HasShape rows n sha
 bool_agrees rows n b is = one (event.boolean b) (Means rows n) (λ s mid plain took. (
   json.boolean b,
   known AnyReading rows n (json.boolean b) (boolean b) refl
-    (λ patterns. step rows patterns n shape.bool (boolean b) is (λ steps low. refl)),
+      (λ patterns. step rows patterns n shape.bool (boolean b) is (λ steps low. refl)),
   grind (arith, common_steps, took),
   grind (arith, common_steps, took),
 ))

@@ -49,7 +49,7 @@ key_under w rows n fewer given es new sent =
       g.0,
       g.1,
       λ rest s last due run. let a = g.2 rest s last due run in
-      (a.0, a.1, λ patterns takes. a.2 patterns (fewer patterns takes), a.3, a.4, a.5),
+          (a.0, a.1, λ patterns takes. a.2 patterns (fewer patterns takes), a.3, a.4, a.5),
     )
 
 -- ---- the keys of a row

@@ -69,9 +69,15 @@ then_give w ws P Q first others es new sent =
       λ rest s last plain run.
           let c = a.2 (b.0 ++ event.seq_ends ∷ rest) s last plain
           (subst (λ xs. TakesAll s xs last) (append_assoc a.0 b.0 (event.seq_ends ∷ rest)) run) in
-          let d = b.2 rest c.0 last c.3 c.5 in
-          (d.0, json.item c.1 d.1, (c.2, d.2), d.3, d.4 ∙ ap (λ xs. xs ++ items_tokens d.1) c.4 ∙ append_assoc s.tokens (json_tokens c.1)
-          (items_tokens d.1), d.5),
+          let d = b.2 rest c.0 last c.3 c.5 in (
+            d.0,
+            json.item c.1 d.1,
+            (c.2, d.2),
+            d.3,
+            d.4 ∙ ap (λ xs. xs ++ items_tokens d.1) c.4 ∙ append_assoc s.tokens (json_tokens c.1)
+                (items_tokens d.1),
+            d.5,
+          ),
     )
 
 pub last_gives : (w : Log → Log → Type 0) (P : Json → Type 0) → Gives w P → GivesItems w (First P NoItems)
@@ -94,9 +100,15 @@ in_seq_gives n w P given es new sent =
       ended ∙ ap Some (append_assoc begun a.0 (event.seq_ends ∷ []) ∙ append_assoc es (event.seq_begins (Some n) ∷ []) (a.0 ++ event.seq_ends ∷ [])),
       λ rest s last plain run.
           let opened : IsPlain run.0 × (run.0.tokens ≡ s.tokens ++ token.begin_array ∷ []) = grind (arith, common_steps, run.1.1.1) in
-          let c = a.2 rest run.0 last opened.0 (subst (λ xs. TakesAll run.0 xs last) (append_assoc a.0 (event.seq_ends ∷ []) rest) run.2) in
-          (c.0, json.array c.1, c.2, c.3, c.4 ∙ ap (λ xs. xs ++ items_tokens c.1) opened.1 ∙ append_assoc s.tokens
-          (token.begin_array ∷ []) (items_tokens c.1), c.5),
+          let c = a.2 rest run.0 last opened.0 (subst (λ xs. TakesAll run.0 xs last) (append_assoc a.0 (event.seq_ends ∷ []) rest) run.2) in (
+            c.0,
+            json.array c.1,
+            c.2,
+            c.3,
+            c.4 ∙ ap (λ xs. xs ++ items_tokens c.1) opened.1 ∙ append_assoc s.tokens
+                (token.begin_array ∷ []) (items_tokens c.1),
+            c.5,
+          ),
     )
 
 -- ---- what lists mean

@@ -65,7 +65,7 @@ has_list rows n x is none list same = (
     is.0,
     is.1,
     is.2 ∙ ap (λ ps. shape.struct (record { list = map field_of x.list.items; flatten = ps; closed = x.closed }))
-    (no_rows x.flatten.items none)
+        (no_rows x.flatten.items none)
         ∙ ap (λ fs. shape.struct (record { list = map field_of fs; flatten = []; closed = x.closed })) (sym same),
   ),
 )
@@ -84,7 +84,7 @@ has_part rows n x is (p ∷ []) same one list listed d = (
     is.0,
     is.1,
     is.2 ∙ ap (λ ps. shape.struct (record { list = map field_of x.list.items; flatten = map flattened_of ps; closed = x.closed }))
-    (sym same)
+        (sym same)
         ∙ ap (λ fs. shape.struct (record { list = map field_of fs; flatten = flattened_of p ∷ []; closed = x.closed })) (sym listed),
   ),
 )
@@ -155,8 +155,11 @@ pub variant_at : (name : Text) (xs : List src-variant.Variant) (i : ℕ) (x : sr
     → string_bytes x.name ≡ name → HasVariant name (payload_of x.payload) (map variant_of xs)
 variant_at name [] i x is low named = absurd (omega arith)
 variant_at name (y ∷ ys) zero x is low named =
-    inl (ap (λ (z : src-variant.Variant). string_bytes z.name) (sym is) ∙ named, ap (λ (z : src-variant.Variant). payload_of z.payload)
-    (sym is))
+    inl (
+      ap (λ (z : src-variant.Variant). string_bytes z.name) (sym is) ∙ named,
+      ap (λ (z : src-variant.Variant). payload_of z.payload)
+          (sym is),
+    )
 variant_at name (y ∷ ys) (suc i) x is low named = inr (variant_at name ys i x is (omega arith) named)
 
 pub inside_at : (name : Text) (xs : List src-internal.InternalVariant) (i : ℕ) (x : src-internal.InternalVariant) → x ≡ get_or xs i x

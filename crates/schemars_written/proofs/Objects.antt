@@ -110,9 +110,15 @@ struct_gives n w P given es new sent =
       ended ∙ ap Some (append_assoc begun a.0 (event.map_ends ∷ []) ∙ append_assoc es (event.map_begins (Some n) ∷ []) (a.0 ++ event.map_ends ∷ [])),
       λ rest s last plain run.
           let opened : IsPlain run.0 × (run.0.tokens ≡ s.tokens ++ token.begin_object ∷ []) = grind (arith, common_steps, run.1.1) in
-          let c = a.2 rest run.0 last opened.0 (subst (λ xs. TakesAll run.0 xs last) (append_assoc a.0 (event.map_ends ∷ []) rest) run.2) in
-          (c.0, json.object c.1, c.2, c.3, c.4 ∙ ap (λ xs. xs ++ members_tokens c.1) opened.1 ∙ append_assoc s.tokens
-          (token.begin_object ∷ []) (members_tokens c.1), c.5),
+          let c = a.2 rest run.0 last opened.0 (subst (λ xs. TakesAll run.0 xs last) (append_assoc a.0 (event.map_ends ∷ []) rest) run.2) in (
+            c.0,
+            json.object c.1,
+            c.2,
+            c.3,
+            c.4 ∙ ap (λ xs. xs ++ members_tokens c.1) opened.1 ∙ append_assoc s.tokens
+                (token.begin_object ∷ []) (members_tokens c.1),
+            c.5,
+          ),
     )
 
 -- ---- how members are read

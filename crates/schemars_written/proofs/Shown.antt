@@ -57,8 +57,11 @@ pub bool_shows : (rows : List Row) (n : ℕ) (b : Bool) → HasShape rows n shap
     → Gives (λ old new. Logs old new (event.boolean b)) (MeansJust rows n (boolean b))
 bool_shows rows n b is = one (event.boolean b) (MeansJust rows n (boolean b)) (λ s mid plain took. (
   json.boolean b,
-  (known AnyReading rows n (json.boolean b) (boolean b) refl
-    (λ patterns. step rows patterns n shape.bool (boolean b) is (λ steps low. refl)), refl),
+  (
+    known AnyReading rows n (json.boolean b) (boolean b) refl
+        (λ patterns. step rows patterns n shape.bool (boolean b) is (λ steps low. refl)),
+    refl,
+  ),
   grind (arith, common_steps, took),
   grind (arith, common_steps, took),
 ))
@@ -67,8 +70,11 @@ pub text_shows : (rows : List Row) (n : ℕ) (t : List ℕ) → HasShape rows n 
     → Gives (λ old new. Logs old new (event.text t)) (MeansJust rows n (string t))
 text_shows rows n t is = one (event.text t) (MeansJust rows n (string t)) (λ s mid plain took. (
   json.string t,
-  (known AnyReading rows n (json.string t) (string t) refl
-    (λ patterns. step rows patterns n shape.text (string t) is (λ steps low. refl)), refl),
+  (
+    known AnyReading rows n (json.string t) (string t) refl
+        (λ patterns. step rows patterns n shape.text (string t) is (λ steps low. refl)),
+    refl,
+  ),
   grind (arith, common_steps, took),
   grind (arith, common_steps, took),
 ))

@@ -19,7 +19,8 @@ use Rattle.schemars_written.proofs.Atoms.{weaker, null_gives}
 use Rattle.schemars_written.proofs.Lists.{Of, in_seq_gives, then_give, last_gives}
 use Rattle.schemars_written.proofs.Objects.{Matches, plain_fields, struct_gives}
 use Rattle.schemars_written.proofs.Payloads.{PayloadMeans}
-use Rattle.schemars_written.proofs.Enums.{unit_agrees, external_agrees, untagged_agrees, internal_unit_agrees, internal_struct_agrees, adjacent_unit_agrees, adjacent_agrees}
+use Rattle.schemars_written.proofs.Enums.{unit_agrees, external_agrees, untagged_agrees, internal_unit_agrees, internal_struct_agrees}
+use Rattle.schemars_written.proofs.Adjacent.{adjacent_unit_agrees, adjacent_agrees}
 use Rattle.schemars_written.proofs.Inside.{internal_newtype_agrees}
 use Rattle.schemars_written.proofs.Laws.{FieldsAgreeUnder}
 
