@@ -4,7 +4,7 @@ ghost use Rattle.schemars_types.specs.Faults.{IsChecked};
 
 use crate::drawn::{Draw, Drawn};
 use agreement_types::{
-    Amount, Card, Event, Message, Note, Order, Page, Person, Review, Team, Tree,
+    Amount, Card, Event, Message, Note, Opening, Order, Page, Person, Review, Team, Tree,
 };
 use anyhow::Result;
 use schemars_accepted::to_accepted_value;
@@ -34,6 +34,7 @@ pub fn answer<R: Alloc<A = Global> + Print>(rt: &R, line: &str) -> Result<()> {
         "Review" => print::<Review, R>(rt, seed, count),
         "Card" => print::<Card, R>(rt, seed, count),
         "Tree" => print::<Tree, R>(rt, seed, count),
+        "Opening" => print::<Opening, R>(rt, seed, count),
         _ => Ok(()),
     }
 }

@@ -2,7 +2,7 @@
 ghost use Rattle.std.specs.Prelude.{◌<◌};
 
 use agreement_types::{
-    Amount, Card, Event, Message, Note, Order, Page, Person, Review, Team, Tree,
+    Amount, Card, Day, Event, Message, Note, Opening, Order, Page, Person, Review, Team, Tree,
 };
 use std::alloc::{AllocError, Global};
 use std::collections::{BTreeMap, BTreeSet};
@@ -52,6 +52,15 @@ impl Draw {
 
     fn signed_byte(&mut self) -> i8 {
         (i16::from(self.byte()) - 128) as i8
+    }
+
+    // A number of 16 bits, at times the least or the greatest.
+    fn short(&mut self) -> i16 {
+        match self.below(4) {
+            0 => i16::MIN,
+            1 => i16::MAX,
+            _ => i16::from(self.signed_byte()),
+        }
     }
 
     fn word(&mut self) -> u32 {
@@ -242,5 +251,29 @@ impl Drawn for Tree {
         }
         let name = draw.text(alloc)?;
         Ok(Tree { name, children })
+    }
+}
+
+impl Drawn for Day {
+    fn drawn(_alloc: Global, draw: &mut Draw) -> Result<Day, AllocError> {
+        match draw.below(3) {
+            0 => Ok(Day::Weekday),
+            1 => Ok(Day::Saturday),
+            _ => Ok(Day::Sunday),
+        }
+    }
+}
+
+impl Drawn for Opening {
+    fn drawn(alloc: Global, draw: &mut Draw) -> Result<Opening, AllocError> {
+        let mut hours = BTreeMap::new(alloc);
+        for _ in 0..draw.below(4) {
+            hours.insert(Day::drawn(alloc, draw)?, draw.byte())?;
+        }
+        let mut notes = BTreeMap::new(alloc);
+        for _ in 0..draw.below(4) {
+            notes.insert(draw.short(), draw.text(alloc)?)?;
+        }
+        Ok(Opening { hours, notes })
     }
 }

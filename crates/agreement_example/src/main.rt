@@ -7,7 +7,7 @@ mod drawn;
 
 use crate::asked::answer;
 use agreement_types::{
-    Amount, Card, Event, Message, Note, Order, Page, Person, Review, Team, Tree,
+    Amount, Card, Day, Event, Message, Note, Opening, Order, Page, Person, Review, Team, Tree,
 };
 use anyhow::Result;
 use schemars_accepted::to_accepted_value;
@@ -55,6 +55,7 @@ fn others(alloc: Global) -> Result<Vec<Value>> {
     all.push(written(alloc, &Review::Given(noted(alloc, "dull", 1)?))?)?;
     all.push(written(alloc, &blue_card(alloc)?)?)?;
     all.push(written(alloc, &small_tree(alloc)?)?)?;
+    all.push(written(alloc, &weekly(alloc)?)?)?;
     Ok(all)
 }
 
@@ -80,6 +81,16 @@ fn small_tree(alloc: Global) -> Result<Tree, AllocError> {
     children.push(leaf)?;
     let name = String::from_str(alloc, "root")?;
     Ok(Tree { name, children })
+}
+
+fn weekly(alloc: Global) -> Result<Opening, AllocError> {
+    let mut hours = BTreeMap::new(alloc);
+    hours.insert(Day::Weekday, 10_u8)?;
+    hours.insert(Day::Sunday, 4_u8)?;
+    let mut notes = BTreeMap::new(alloc);
+    notes.insert(-1_i16, String::from_str(alloc, "cellar")?)?;
+    notes.insert(2_i16, String::from_str(alloc, "map room")?)?;
+    Ok(Opening { hours, notes })
 }
 
 // Returns what serde writes for the value, which the documents of its row accept, or null if the

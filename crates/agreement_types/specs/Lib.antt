@@ -6,3 +6,5 @@ pub mod EventLaws
 pub mod OrderLaws
 pub mod NoteLaws
 pub mod TreeLaws
+pub mod Openings
+pub mod OpeningLaws

@@ -9,19 +9,22 @@ use Rattle.schemars_types.specs.declared.contract.Contract.TheVariants.{Serializ
 use Rattle.schemars_headline.specs.State.{State, path_of, HasOwnDefinitions}
 use Rattle.schemars_headline.specs.Headline.{RootHeadline, IsDraftPath, IsPlainFor}
 use Rattle.schemars_types.specs.Rows.{Row}
-use Rattle.schemars_written.specs.Writes.{Belongs}
-use Rattle.schemars_accepted.specs.Accepted.{IsAccepted}
+use Rattle.schemars_written.specs.Writes.{BelongsUnder}
+use Rattle.schemars_accepted.specs.Accepted.{IsAcceptedUnder}
 
-pub accepted : (rows : List Row) (n : ℕ) (v : Data) → Belongs rows n v → IsJson v → IsAccepted rows n v
-accepted rows n v belongs json dialect path document means patterns followed bounded =
-    means.accepts_its_values patterns v json followed bounded ∙ ap verdict (belongs patterns)
+pub accepted : (reading : Patterns → Type 0) (rows : List Row) (n : ℕ) (v : Data) → BelongsUnder reading rows n v → IsJson v
+    → IsAcceptedUnder reading rows n v
+accepted reading rows n v belongs json dialect path document means patterns takes followed bounded =
+    means.accepts_its_values patterns v json followed bounded ∙ ap verdict (belongs patterns takes)
 
 -- a root document with the headline accepts what belongs to its row
-pub root_accepted : (dialect : Dialect) (s : State) (n : ℕ) (document v : Data) → RootHeadline dialect s n document → HasOwnDefinitions s
-    → IsDraftPath (path_of s) → IsPlainFor dialect s.settings.contract s.rows → s.settings.contract ≡ Serialize → Belongs s.rows n v → IsJson v
-    → (patterns : Patterns) (followed : ℕ) → bound (path_of s) document v ≤ followed
+pub root_accepted : (reading : Patterns → Type 0) (dialect : Dialect) (s : State) (n : ℕ) (document v : Data)
+    → RootHeadline dialect s n document → HasOwnDefinitions s
+    → IsDraftPath (path_of s) → IsPlainFor dialect s.settings.contract s.rows → s.settings.contract ≡ Serialize
+    → BelongsUnder reading s.rows n v → IsJson v → (patterns : Patterns) → reading patterns
+    → (followed : ℕ) → bound (path_of s) document v ≤ followed
     → accepts dialect document patterns followed document v ≡ Yes
-root_accepted dialect s n document v headline own path plain contract belongs_to json patterns followed bounded =
+root_accepted reading dialect s n document v headline own path plain contract belongs_to json patterns takes followed bounded =
     let means = headline own path plain in
     means.accepts_its_values patterns v json followed bounded
-    ∙ ap verdict (ap (λ c. belongs s.rows c patterns n v) contract ∙ belongs_to patterns)
+    ∙ ap verdict (ap (λ c. belongs s.rows c patterns n v) contract ∙ belongs_to patterns takes)

@@ -3,7 +3,8 @@ ghost use Rattle.std.specs.Prelude.{◌≡◌, ◌<◌, length, Some, IfErr, IfO
 ghost use Rattle.serde_json.specs.View.{view};
 ghost use Rattle.schemars_types.specs.Faults.{IsChecked};
 ghost use Rattle.schemars_types.specs.Rows.{place_of};
-ghost use Rattle.schemars_written.specs.Writes.{Belongs, IsWritten};
+ghost use Rattle.schemars_written.specs.Readings.{IsAmong};
+ghost use Rattle.schemars_written.specs.Writes.{BelongsUnder, IsWritten};
 ghost use Rattle.schemars_described.specs.Told.{telling};
 ghost use Rattle.schemars_described.specs.Refused.{RefusesValue};
 
@@ -16,7 +17,8 @@ use serde_json::Value;
 use std::alloc::Global;
 
 /// Registers the type of a value in a new table, and returns the table, the number of the type's
-/// row, and what serde writes for the value, as `serde_json::to_value` does. It belongs to that row.
+/// row, and what serde writes for the value, as `serde_json::to_value` does. It belongs to that
+/// row, under the readings of patterns that the type asks for.
 ///
 /// # Errors
 ///
@@ -30,7 +32,7 @@ pub fn to_described_value<T: AgreesAsDescribed>(
     ensures number { IfOk result (λ r. (place_of T.says.id r.0 ≡ Some r.1) × (r.1 < length r.0)) }
     ensures row { IfOk result (λ r. T.is_row r.0 r.1) }
     ensures written { IfOk result (λ r. IsWritten (T.writes value.now) (view r.2)) }
-    ensures belongs { IfOk result (λ r. Belongs r.0 r.1 (view r.2)) }
+    ensures belongs { IfOk result (λ r. BelongsUnder (IsAmong T.readings value.now) r.0 r.1 (view r.2)) }
     ensures refused { IfErr result (RefusesValue T.says (T.valid value.now)) }
 {
     let mut types = Types::new(alloc);

@@ -26,7 +26,8 @@ use Rattle.schemars_types.specs.Meaning.{belongs_within, choices_within, has_sha
 use Rattle.schemars_types.specs.declared.contract.Contract.TheVariants.{Serialize}
 use Rattle.schemars_written.proofs.Characters.{one-character}
 use Rattle.schemars_written.specs.Gives.{IsPlain, Gives}
-use Rattle.schemars_written.specs.Fits.{IsWithin64, Fits, Means, HasShape}
+use Rattle.schemars_written.specs.Readings.{AnyReading, IsWithin64}
+use Rattle.schemars_written.specs.Fits.{Fits, MeansUnder, Means, HasShape}
 
 -- one event, wherever it is taken, writes one JSON with P
 abbrev pub Added : (Json → Type 0) → State → State → Type 0
@@ -79,7 +80,8 @@ at_row rows n m sh f is c =
     subst (λ o. Contains (option_map_or (λ e. f e.shape) o []) m) (sym is.1) (subst (λ x. Contains (f x) m) (sym is.2) c)
 
 -- a part is a row
-pub part_low : (rows : List Row) → IsChecked rows → (n m : ℕ) (sh : Shape) → HasShape rows n sh → Contains (numbers_of sh) m → m < length rows
+pub part_low : (rows : List Row) → IsChecked rows → (n m : ℕ) (sh : Shape) → HasShape rows n sh → Contains (numbers_of sh) m
+    → m < length rows
 part_low rows checked n m sh is c = checked.within.within n m (at_row rows n m sh numbers_of is c)
 
 pub same_lower : (rows : List Row) → IsChecked rows → (n m : ℕ) (sh : Shape) → HasShape rows n sh → Contains (same_value_numbers sh) m
@@ -94,8 +96,16 @@ pub Some_same : {A : Type 0} (a b : A) → Some a ≡ Some b → a ≡ b
 Some_same a b h = ap (out a) h
 
 -- what the JSON is read as
-pub known : (rows : List Row) (n : ℕ) (j : Json) (d : Data) → of_json j ≡ Some d → ((patterns : Patterns) → Fits rows patterns n d) → Means rows n j
-known rows n j d reads fits patterns e other = subst (λ x. Fits rows patterns n x) (Some_same d e (sym reads ∙ other)) (fits patterns)
+pub known : (reading : Patterns → Type 0) (rows : List Row) (n : ℕ) (j : Json) (d : Data) → of_json j ≡ Some d
+    → ((patterns : Patterns) → Fits rows patterns n d) → MeansUnder reading rows n j
+known reading rows n j d reads fits patterns takes e other =
+    subst (λ x. Fits rows patterns n x) (Some_same d e (sym reads ∙ other)) (fits patterns)
+
+-- what belongs under each of these readings belongs under fewer
+pub under : {Q P : Patterns → Type 0} (w : Log → Log → Type 0) (rows : List Row) (n : ℕ) → ((patterns : Patterns) → P patterns → Q patterns)
+    → Gives w (MeansUnder Q rows n) → Gives w (MeansUnder P rows n)
+under {Q = Q} {P = P} w rows n fewer given =
+    weaker w (MeansUnder Q rows n) (MeansUnder P rows n) (λ j means patterns takes. means patterns (fewer patterns takes)) given
 
 -- ---- whole numbers
 
@@ -107,33 +117,40 @@ pub signed_gives : (z : ℤ) (P : Json → Type 0) → P (json.number (signed_de
 signed_gives z P is = one (event.signed z) P (λ s mid plain took.
     (json.number (signed_decimal z), is, grind (arith, common_steps, took.1), grind (arith, common_steps, took.1)))
 
-pub natural_means : (rows : List Row) (n v : ℕ) (kind : IntKind) → HasShape rows n (shape.int kind) → v < 2 ^ 64 → is_of_kind kind (pos v) ≡ true
+pub natural_means : (rows : List Row) (n v : ℕ) (kind : IntKind) → HasShape rows n (shape.int kind) → v < 2 ^ 64
+    → is_of_kind kind (pos v) ≡ true
     → Means rows n (json.number (decimal v))
 natural_means rows n v kind is small of_kind =
-    known rows n (json.number (decimal v)) (number (unsigned v)) (ap (option_map number) (number_of-decimal v small))
+    known AnyReading rows n (json.number (decimal v)) (number (unsigned v)) (ap (option_map number) (number_of-decimal v small))
     (λ patterns. step rows patterns n (shape.int kind) (number (unsigned v)) is (λ steps low. of_kind))
 
-pub unsigned_agrees : (rows : List Row) (n v : ℕ) (kind : IntKind) → HasShape rows n (shape.int kind) → v < 2 ^ 64 → is_of_kind kind (pos v) ≡ true
+pub unsigned_agrees : (rows : List Row) (n v : ℕ) (kind : IntKind) → HasShape rows n (shape.int kind) → v < 2 ^ 64
+    → is_of_kind kind (pos v) ≡ true
     → Gives (λ old new. Logs old new (event.unsigned v)) (Means rows n)
 unsigned_agrees rows n v kind is small of_kind = unsigned_gives v (Means rows n) (natural_means rows n v kind is small of_kind)
 
-pub integer_means : (rows : List Row) (n : ℕ) (z : ℤ) (kind : IntKind) → HasShape rows n (shape.int kind) → IsWithin64 z → is_of_kind kind z ≡ true
+pub integer_means : (rows : List Row) (n : ℕ) (z : ℤ) (kind : IntKind) → HasShape rows n (shape.int kind) → IsWithin64 z
+    → is_of_kind kind z ≡ true
     → Means rows n (json.number (signed_decimal z))
 integer_means rows n (pos v) kind is small of_kind = natural_means rows n v kind is small of_kind
 integer_means rows n (negsuc v) kind is small of_kind =
-    known rows n (json.number (signed_decimal (negsuc v))) (number (negative (negsuc v))) (ap (option_map number) (number_of-negative v small))
+    known AnyReading rows n (json.number (signed_decimal (negsuc v))) (number (negative (negsuc v)))
+    (ap (option_map number) (number_of-negative v small))
     (λ patterns. step rows patterns n (shape.int kind) (number (negative (negsuc v))) is (λ steps low. of_kind))
 
-pub signed_agrees : (rows : List Row) (n : ℕ) (z : ℤ) (kind : IntKind) → HasShape rows n (shape.int kind) → IsWithin64 z → is_of_kind kind z ≡ true
+pub signed_agrees : (rows : List Row) (n : ℕ) (z : ℤ) (kind : IntKind) → HasShape rows n (shape.int kind) → IsWithin64 z
+    → is_of_kind kind z ≡ true
     → Gives (λ old new. Logs old new (event.signed z)) (Means rows n)
 signed_agrees rows n z kind is small of_kind = signed_gives z (Means rows n) (integer_means rows n z kind is small of_kind)
 
 -- ---- truth values, null, texts, characters
 
-pub bool_agrees : (rows : List Row) (n : ℕ) (b : Bool) → HasShape rows n shape.bool → Gives (λ old new. Logs old new (event.boolean b)) (Means rows n)
+pub bool_agrees : (rows : List Row) (n : ℕ) (b : Bool) → HasShape rows n shape.bool
+    → Gives (λ old new. Logs old new (event.boolean b)) (Means rows n)
 bool_agrees rows n b is = one (event.boolean b) (Means rows n) (λ s mid plain took. (
   json.boolean b,
-  known rows n (json.boolean b) (boolean b) refl (λ patterns. step rows patterns n shape.bool (boolean b) is (λ steps low. refl)),
+  known AnyReading rows n (json.boolean b) (boolean b) refl
+      (λ patterns. step rows patterns n shape.bool (boolean b) is (λ steps low. refl)),
   grind (arith, common_steps, took),
   grind (arith, common_steps, took),
 ))
@@ -144,12 +161,13 @@ null_gives P is = one event.nothing P (λ s mid plain took.
 
 pub unit_agrees : (rows : List Row) (n : ℕ) → HasShape rows n shape.null → Gives (λ old new. Logs old new event.nothing) (Means rows n)
 unit_agrees rows n is = null_gives (Means rows n)
-    (known rows n json.null null refl (λ patterns. step rows patterns n shape.null null is (λ steps low. refl)))
+    (known AnyReading rows n json.null null refl (λ patterns. step rows patterns n shape.null null is (λ steps low. refl)))
 
-pub text_agrees : (rows : List Row) (n : ℕ) (t : List ℕ) → HasShape rows n shape.text → Gives (λ old new. Logs old new (event.text t)) (Means rows n)
+pub text_agrees : (rows : List Row) (n : ℕ) (t : List ℕ) → HasShape rows n shape.text
+    → Gives (λ old new. Logs old new (event.text t)) (Means rows n)
 text_agrees rows n t is = one (event.text t) (Means rows n) (λ s mid plain took. (
   json.string t,
-  known rows n (json.string t) (string t) refl (λ patterns. step rows patterns n shape.text (string t) is (λ steps low. refl)),
+  known AnyReading rows n (json.string t) (string t) refl (λ patterns. step rows patterns n shape.text (string t) is (λ steps low. refl)),
   grind (arith, common_steps, took),
   grind (arith, common_steps, took),
 ))
@@ -157,10 +175,11 @@ text_agrees rows n t is = one (event.text t) (Means rows n) (λ s mid plain took
 pub one_character : (c : ℕ) → code_points (encode_utf8 c) == 1 ≡ true
 one_character c = rw (one-character c) refl
 
-pub char_agrees : (rows : List Row) (n c : ℕ) → HasShape rows n shape.char → Gives (λ old new. Logs old new (event.character c)) (Means rows n)
+pub char_agrees : (rows : List Row) (n c : ℕ) → HasShape rows n shape.char
+    → Gives (λ old new. Logs old new (event.character c)) (Means rows n)
 char_agrees rows n c is = one (event.character c) (Means rows n) (λ s mid plain took. (
   json.string (encode_utf8 c),
-  known rows n (json.string (encode_utf8 c)) (string (encode_utf8 c)) refl (λ patterns.
+  known AnyReading rows n (json.string (encode_utf8 c)) (string (encode_utf8 c)) refl (λ patterns.
       step rows patterns n shape.char (string (encode_utf8 c)) is (λ steps low. one_character c)),
   grind (arith, common_steps, took),
   grind (arith, common_steps, took),

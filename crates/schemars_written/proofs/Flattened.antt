@@ -20,10 +20,10 @@ use Rattle.schemars_types.specs.Meaning.{belongs_within, choices_within, has_fie
 use Rattle.schemars_types.specs.declared.contract.Contract.TheVariants.{Serialize}
 use Rattle.schemars_types.proofs.Options.{stops}
 use Rattle.schemars_written.specs.Gives.{Gives, Struct, IsObject}
-use Rattle.schemars_written.specs.Fits.{Means, HasShape, HasFlattened, NextField, NextOptional, LastField, AvoidsTag, AreApart}
+use Rattle.schemars_written.specs.Fits.{MeansUnder, HasShape, HasFlattened, NextField, NextOptional, LastField, AvoidsTag, AreApart}
 use Rattle.schemars_written.proofs.Atoms.{weaker, step, part_low}
 use Rattle.schemars_written.proofs.Objects.{Apart, Matches, plain_fields, names_apart, fields_belong, struct_gives}
-use Rattle.schemars_written.proofs.Laws.{FieldsAgree}
+use Rattle.schemars_written.proofs.Laws.{FieldsAgreeUnder}
 
 -- ---- names that differ in two lists
 
@@ -92,11 +92,12 @@ HasIt rows patterns steps fs closed d inside enums =
     has_fields Serialize (belongs_within rows Serialize patterns steps)
     (matches_of (choices_within rows Serialize patterns steps) (map enum_at (enums ++ [])) d) (fs ++ (inside ++ [])) closed d ≡ true
 
-members_mean : (rows : List Row) → IsChecked rows → (n m : ℕ) (required : Required) (fs gs : List Field) (closed other : Bool)
+members_mean : (reading : Patterns → Type 0) (rows : List Row) → IsChecked rows
+    → (n m : ℕ) (required : Required) (fs gs : List Field) (closed other : Bool)
     → HasShape rows n (shape.struct (with_part fs m required closed)) → HasShape rows m (shape.struct (plain_fields gs other))
     → AreApart fs gs
-    → (ms : json.Members) → Matches rows (fs ++ gs) ms → Means rows n (json.object ms)
-members_mean rows checked n m required fs gs closed other is part across ms all patterns d reads =
+    → (ms : json.Members) → Matches reading rows (fs ++ gs) ms → MeansUnder reading rows n (json.object ms)
+members_mean reading rows checked n m required fs gs closed other is part across ms all patterns takes d reads =
     let part_of_n : Contains (shape.numbers_of (shape.struct (with_part fs m required closed))) m =
     last (map (λ (f : Field). f.ty) fs) in
     let low = part_low rows checked n m (shape.struct (with_part fs m required closed)) is part_of_n in
@@ -106,7 +107,7 @@ members_mean rows checked n m required fs gs closed other is part across ms all 
     (subst (λ enums. HasIt rows patterns steps fs closed d gs enums) (sym (part_has_no_enums rows m required gs other part))
     (subst (λ (list : List Field). has_fields Serialize (belongs_within rows Serialize patterns steps) [] list closed d ≡ true)
     (append_assoc fs gs [])
-    (fields_belong rows patterns (fs ++ gs) closed ms d steps known
+    (fields_belong reading rows patterns takes (fs ++ gs) closed ms d steps known
     (apart_both fs gs (names_apart rows checked n (with_part fs m required closed) is)
     (names_apart rows checked m (plain_fields gs other) part) across) all reads (omega arith)))))
   where
@@ -127,17 +128,18 @@ members_mean rows checked n m required fs gs closed other is part across ms all 
             let low = part_low rows checked m k (shape.struct (plain_fields gs other)) part
             (Contains-append_left (map (λ (f : Field). f.ty) gs) [] k inside) in (low, checked.rank_bound k low)
 
-struct_means : (rows : List Row) → IsChecked rows → (n m : ℕ) (required : Required) (fs gs : List Field) (closed other : Bool)
+struct_means : (reading : Patterns → Type 0) (rows : List Row) → IsChecked rows
+    → (n m : ℕ) (required : Required) (fs gs : List Field) (closed other : Bool)
     → HasShape rows n (shape.struct (with_part fs m required closed)) → HasShape rows m (shape.struct (plain_fields gs other))
     → AreApart fs gs
-    → (j : Json) → IsObject (Matches rows (fs ++ gs)) j → Means rows n j
-struct_means rows checked n m required fs gs closed other is part across json.null all = absurd all
-struct_means rows checked n m required fs gs closed other is part across (json.boolean b) all = absurd all
-struct_means rows checked n m required fs gs closed other is part across (json.number s) all = absurd all
-struct_means rows checked n m required fs gs closed other is part across (json.string s) all = absurd all
-struct_means rows checked n m required fs gs closed other is part across (json.array js) all = absurd all
-struct_means rows checked n m required fs gs closed other is part across (json.object ms) all =
-    members_mean rows checked n m required fs gs closed other is part across ms all
+    → (j : Json) → IsObject (Matches reading rows (fs ++ gs)) j → MeansUnder reading rows n j
+struct_means reading rows checked n m required fs gs closed other is part across json.null all = absurd all
+struct_means reading rows checked n m required fs gs closed other is part across (json.boolean b) all = absurd all
+struct_means reading rows checked n m required fs gs closed other is part across (json.number s) all = absurd all
+struct_means reading rows checked n m required fs gs closed other is part across (json.string s) all = absurd all
+struct_means reading rows checked n m required fs gs closed other is part across (json.array js) all = absurd all
+struct_means reading rows checked n m required fs gs closed other is part across (json.object ms) all =
+    members_mean reading rows checked n m required fs gs closed other is part across ms all
 
 -- ---- the law, in the form in which it is cited
 
@@ -182,14 +184,14 @@ optional_apart name R own inside avoids apart (f ∷ fs) more is next =
     (subst (λ (t : Text). AvoidsTag t more) (sym is.0) (avoids more next), apart fs more is.3 next)
 
 -- own fields are sent first, and then those that are flattened
-pub flattened_law : (rows : List Row) → IsChecked rows
+pub flattened_law : {reading : Patterns → Type 0} (rows : List Row) → IsChecked rows
     → (n count : ℕ) (own : (List Field → Type 0) → List Field → Type 0) (inside : List Field → Type 0)
     (w : Log → Log → Type 0) → HasFlattened rows n (own LastField) inside → Joins own → NamesApart (own LastField) inside
-    → FieldsAgree rows (own inside) w → Gives (Struct count w) (Means rows n)
-flattened_law rows checked n count own inside w row joins apart agree =
+    → FieldsAgreeUnder reading rows (own inside) w → Gives (Struct count w) (MeansUnder reading rows n)
+flattened_law {reading = reading} rows checked n count own inside w row joins apart agree =
     let fs = row.0 in
     let part = row.4 in
     let gs = part.0 in
-    weaker (Struct count w) (IsObject (Matches rows (fs ++ gs))) (Means rows n)
-    (struct_means rows checked n row.1 row.2.1 fs gs row.2.0 part.1 row.2.2 part.2 (apart fs gs row.3 part.3))
-    (struct_gives count w (Matches rows (fs ++ gs)) (agree (fs ++ gs) (joins inside fs gs row.3 part.3)))
+    weaker (Struct count w) (IsObject (Matches reading rows (fs ++ gs))) (MeansUnder reading rows n)
+    (struct_means reading rows checked n row.1 row.2.1 fs gs row.2.0 part.1 row.2.2 part.2 (apart fs gs row.3 part.3))
+    (struct_gives count w (Matches reading rows (fs ++ gs)) (agree.agree (fs ++ gs) (joins inside fs gs row.3 part.3)))

@@ -14,6 +14,7 @@ use Rattle.serde_json.specs.Read.{of_json, of_members}
 use Rattle.serde_json.proofs.Views.{get_member-put, get_member-put_other}
 use Rattle.schemars_text.proofs.Members.{differ, get_member-here}
 use Rattle.schemars_schema.specs.Json.{Text}
+use Rattle.schemars_schema.specs.Acceptance.{Patterns}
 use Rattle.schemars_schema.specs.Edits.{without}
 use Rattle.schemars_schema.proofs.Members.{get_member-without, without-put}
 use Rattle.schemars_schema.proofs.SortedMembers.{IsSorted, sorted-put, sorted-without, same_members}
@@ -24,7 +25,7 @@ use Rattle.schemars_types.specs.Faults.{IsChecked}
 use Rattle.schemars_types.specs.Meaning.{belongs_within, holds, is_text}
 use Rattle.schemars_types.specs.declared.contract.Contract.TheVariants.{Serialize}
 use Rattle.schemars_written.specs.Gives.{Gives, GivesMembers, Struct, Beside, IsObject, FirstMember}
-use Rattle.schemars_written.specs.Fits.{Fits, Means, HasShape, HasVariantAt, AvoidsTag}
+use Rattle.schemars_written.specs.Fits.{Fits, MeansUnder, HasShape, HasVariantAt, AvoidsTag}
 use Rattle.schemars_written.proofs.Atoms.{weaker, same_lower, Some_same}
 use Rattle.schemars_written.proofs.Lists.{both_true}
 use Rattle.schemars_written.proofs.Objects.{EachJson, Matches, plain_fields, object_parts, member_parts, struct_means, struct_gives}
@@ -79,14 +80,15 @@ members_depth-without k (member l d ms) = go (bytes_eq k l) (members_depth-witho
     go false less = omega arith
 
 -- members of fields that avoid a tag do not have it as a key
-no_tag : (rows : List Row) (tag : Text) (fs : List Field) → AvoidsTag tag fs → (ms : json.Members) → Matches rows fs ms
+no_tag : (reading : Patterns → Type 0) (rows : List Row) (tag : Text) (fs : List Field) → AvoidsTag tag fs → (ms : json.Members)
+    → Matches reading rows fs ms
     → EachJson (λ k j. bytes_eq tag k ≡ false) ms
-no_tag rows tag [] avoids json.no_members given = tt
-no_tag rows tag [] avoids (json.member k j ms) given = absurd given
-no_tag rows tag (f ∷ fs) avoids json.no_members (inl given) = absurd given
-no_tag rows tag (f ∷ fs) avoids (json.member k j ms) (inl given) =
-    (subst (λ (t : Text). bytes_eq tag t ≡ false) (sym given.0) avoids.0, no_tag rows tag fs avoids.1 ms given.2)
-no_tag rows tag (f ∷ fs) avoids ms (inr given) = no_tag rows tag fs avoids.1 ms given.1
+no_tag reading rows tag [] avoids json.no_members given = tt
+no_tag reading rows tag [] avoids (json.member k j ms) given = absurd given
+no_tag reading rows tag (f ∷ fs) avoids json.no_members (inl given) = absurd given
+no_tag reading rows tag (f ∷ fs) avoids (json.member k j ms) (inl given) =
+    (subst (λ (t : Text). bytes_eq tag t ≡ false) (sym given.0) avoids.0, no_tag reading rows tag fs avoids.1 ms given.2)
+no_tag reading rows tag (f ∷ fs) avoids ms (inr given) = no_tag reading rows tag fs avoids.1 ms given.1
 
 -- ---- the variant
 
@@ -94,19 +96,21 @@ name_is : (name : Text) (o : Option Data) → o ≡ Some (string name) → holds
 name_is name o is = ap (λ (x : Option Data). holds x (is_text name)) is ∙ (bytes_eq-Decides name name).1 refl
 
 -- the tag's member and those of the value are what the variant has
-members_mean : (rows : List Row) → IsChecked rows → (n m : ℕ) (tag : Text) (closed : Bool) (name : Text) (fs : List Field) (own : Bool)
+members_mean : (reading : Patterns → Type 0) (rows : List Row) → IsChecked rows
+    → (n m : ℕ) (tag : Text) (closed : Bool) (name : Text) (fs : List Field) (own : Bool)
     → HasVariantAt rows n (by_tag tag closed) name (newtype_payload m) → HasShape rows m (shape.struct (plain_fields fs own))
     → AvoidsTag tag fs
-    → (ms : json.Members) → Matches rows fs ms → Means rows n (json.object (json.member tag (json.string name) ms))
-members_mean rows checked n m tag closed name fs own row part avoids ms all patterns d reads =
+    → (ms : json.Members) → Matches reading rows fs ms → MeansUnder reading rows n (json.object (json.member tag (json.string name) ms))
+members_mean reading rows checked n m tag closed name fs own row part avoids ms all patterns takes d reads =
     let first = member tag (string name) no_members in
     let r = object_parts (of_members (json.member tag (json.string name) ms) no_members) d reads in
     let alone : no_members ≡ without tag first = sym (ap (λ (b : Bool). if b then no_members else first)
     ((bytes_eq-Decides tag tag).1 refl)) in
-    let out = taken tag (string name) ms first no_members r.0 (no_tag rows tag fs avoids ms all) (tt, tt) alone (get_member-here tag
+    let out = taken tag (string name) ms first no_members r.0 (no_tag reading rows tag fs avoids ms all) (tt, tt) alone (get_member-here tag
     (string name) no_members) r.1 in
     let fits : Fits rows patterns m (object (without tag r.0)) =
-    struct_means rows checked m fs own part (json.object ms) all patterns (object (without tag r.0)) (ap (option_map object) out.0) in
+    struct_means reading rows checked m fs own part (json.object ms) all patterns takes (object (without tag r.0))
+    (ap (option_map object) out.0) in
     let here : Contains (payload_same (newtype_payload m)) m = (0, omega arith, refl) in
     let low = payload_low rows checked n (by_tag tag closed) row.0 row.1 name (newtype_payload m) row.2 m here in
     let lower = same_lower rows checked n m (shape.enum (by_tag tag closed) row.0) row.1
@@ -119,15 +123,16 @@ members_mean rows checked n m tag closed name fs own row part avoids ms all patt
     (name_is name (get_member tag r.0) out.1)
     (fits steps (omega (arith, less, lower)))))
 
-pub internal_newtype_agrees : (rows : List Row) → IsChecked rows
+pub internal_newtype_agrees : (reading : Patterns → Type 0) (rows : List Row) → IsChecked rows
     → (n m : ℕ) (tag : Text) (closed : Bool) (name : Text) (case : Case) (fs : List Field)
     (own : Bool) → HasVariantAt rows n (by_tag tag closed) (spelled case kind.Variant name) (newtype_payload m)
     → HasShape rows m (shape.struct (plain_fields fs own)) → AvoidsTag tag fs → (count : ℕ) (w : Log → Log → Type 0)
-    → GivesMembers w (Matches rows fs)
-    → Gives (Struct count (Beside tag name case w)) (Means rows n)
-internal_newtype_agrees rows checked n m tag closed name case fs own row part avoids count w given =
+    → GivesMembers w (Matches reading rows fs)
+    → Gives (Struct count (Beside tag name case w)) (MeansUnder reading rows n)
+internal_newtype_agrees reading rows checked n m tag closed name case fs own row part avoids count w given =
     let t = spelled case kind.Variant name in
-    weaker (Struct count (Beside tag name case w)) (IsObject (FirstMember tag (IsName t) (Matches rows fs))) (Means rows n)
-    (at_tag rows n tag t (Matches rows fs) (members_mean rows checked n m tag closed t fs own row part avoids))
-    (struct_gives count (Beside tag name case w) (FirstMember tag (IsName t) (Matches rows fs)) (beside_gives tag name case w
-    (Matches rows fs) given))
+    weaker (Struct count (Beside tag name case w)) (IsObject (FirstMember tag (IsName t) (Matches reading rows fs)))
+    (MeansUnder reading rows n)
+    (at_tag reading rows n tag t (Matches reading rows fs) (members_mean reading rows checked n m tag closed t fs own row part avoids))
+    (struct_gives count (Beside tag name case w) (FirstMember tag (IsName t) (Matches reading rows fs)) (beside_gives tag name case w
+    (Matches reading rows fs) given))

@@ -23,7 +23,8 @@ use Rattle.schemars_types.specs.Faults.{IsChecked}
 use Rattle.schemars_types.specs.Meaning.{belongs_within, every_item, each_of}
 use Rattle.schemars_types.specs.declared.contract.Contract.TheVariants.{Serialize}
 use Rattle.schemars_written.specs.Gives.{IsPlain, Gives, GivesItems, First, NoItems, Each, IsArray}
-use Rattle.schemars_written.specs.Fits.{Fits, Means, HasShape, OfSome}
+use Rattle.schemars_written.specs.Readings.{AnyReading}
+use Rattle.schemars_written.specs.Fits.{Fits, MeansUnder, Means, HasShape, OfSome}
 use Rattle.schemars_written.proofs.Atoms.{weaker, step, part_low, same_lower, known, null_gives, Some_same}
 
 -- ---- Option
@@ -32,19 +33,21 @@ right_true : (a b : Bool) → b ≡ true → (a || b) ≡ true
 right_true true b h = refl
 right_true false b h = h
 
-some_means : (rows : List Row) → IsChecked rows → (n m : ℕ) → HasShape rows n (shape.option m) → (j : Json) → Means rows m j → Means rows n j
-some_means rows checked n m is j part patterns d reads =
+some_means : (reading : Patterns → Type 0) (rows : List Row) → IsChecked rows → (n m : ℕ) → HasShape rows n (shape.option m) → (j : Json)
+    → MeansUnder reading rows m j → MeansUnder reading rows n j
+some_means reading rows checked n m is j part patterns takes d reads =
     let low = part_low rows checked n m (shape.option m) is (0, omega arith, refl) in
     let lower = same_lower rows checked n m (shape.option m) is (0, omega arith, refl) low in
     step rows patterns n (shape.option m) d is (λ steps few.
-    right_true (is_null d) (belongs_within rows Serialize patterns steps m d) (part patterns d reads steps (omega arith)))
+    right_true (is_null d) (belongs_within rows Serialize patterns steps m d) (part patterns takes d reads steps (omega arith)))
 
-pub option_agrees : {A : Type 0} (rows : List Row) → IsChecked rows → (n m : ℕ) → HasShape rows n (shape.option m) → (w : A → Log → Log → Type 0)
-    (x : Option A) → OfSome (λ a. Gives (w a) (Means rows m)) x → Gives (WritesOption w x) (Means rows n)
-option_agrees rows checked n m is w None given = null_gives (Means rows n)
-    (known rows n json.null null refl (λ patterns. step rows patterns n (shape.option m) null is (λ steps low. refl)))
-option_agrees rows checked n m is w (Some a) given =
-    weaker (w a) (Means rows m) (Means rows n) (some_means rows checked n m is) given
+pub option_agrees : {A : Type 0} (reading : Patterns → Type 0) (rows : List Row) → IsChecked rows → (n m : ℕ)
+    → HasShape rows n (shape.option m) → (w : A → Log → Log → Type 0)
+    (x : Option A) → OfSome (λ a. Gives (w a) (MeansUnder reading rows m)) x → Gives (WritesOption w x) (MeansUnder reading rows n)
+option_agrees reading rows checked n m is w None given = null_gives (MeansUnder reading rows n)
+    (known reading rows n json.null null refl (λ patterns. step rows patterns n (shape.option m) null is (λ steps low. refl)))
+option_agrees reading rows checked n m is w (Some a) given =
+    weaker (w a) (MeansUnder reading rows m) (MeansUnder reading rows n) (some_means reading rows checked n m is) given
 
 -- ---- lists
 
@@ -56,16 +59,25 @@ no_items_give es new sent = (
       (run.0, json.no_items, tt, grind (arith, common_steps, run.1), grind (arith, common_steps, run.1), run.2),
 )
 
-pub then_give : (w ws : Log → Log → Type 0) (P : Json → Type 0) (Q : json.Items → Type 0) → Gives w P → GivesItems ws Q → GivesItems (Then w ws) (First P Q)
+pub then_give : (w ws : Log → Log → Type 0) (P : Json → Type 0) (Q : json.Items → Type 0) → Gives w P → GivesItems ws Q
+    → GivesItems (Then w ws) (First P Q)
 then_give w ws P Q first others es new sent =
     let a = first es sent.0 sent.1 in
     let b = others (es ++ a.0) new (subst (λ (l : Log). ws l new) a.1 sent.2) in (
       a.0 ++ b.0,
       b.1 ∙ ap Some (append_assoc es a.0 b.0),
       λ rest s last plain run.
-          let c = a.2 (b.0 ++ event.seq_ends ∷ rest) s last plain (subst (λ xs. TakesAll s xs last) (append_assoc a.0 b.0 (event.seq_ends ∷ rest)) run) in
-          let d = b.2 rest c.0 last c.3 c.5 in
-          (d.0, json.item c.1 d.1, (c.2, d.2), d.3, d.4 ∙ ap (λ xs. xs ++ items_tokens d.1) c.4 ∙ append_assoc s.tokens (json_tokens c.1) (items_tokens d.1), d.5),
+          let c = a.2 (b.0 ++ event.seq_ends ∷ rest) s last plain
+          (subst (λ xs. TakesAll s xs last) (append_assoc a.0 b.0 (event.seq_ends ∷ rest)) run) in
+          let d = b.2 rest c.0 last c.3 c.5 in (
+            d.0,
+            json.item c.1 d.1,
+            (c.2, d.2),
+            d.3,
+            d.4 ∙ ap (λ xs. xs ++ items_tokens d.1) c.4 ∙ append_assoc s.tokens (json_tokens c.1)
+                (items_tokens d.1),
+            d.5,
+          ),
     )
 
 pub last_gives : (w : Log → Log → Type 0) (P : Json → Type 0) → Gives w P → GivesItems w (First P NoItems)
@@ -76,7 +88,8 @@ pub each_gives : {A : Type 0} (w : A → Log → Log → Type 0) (V : A → Type
     → (xs : List A) → All V xs → GivesItems (WritesEach w xs) (Each P (length xs))
 each_gives w V P given [] all = no_items_give
 each_gives w V P given (x ∷ xs) all =
-    then_give (w x) (WritesEach w xs) P (Each P (length xs)) (given x (All-head V x xs all)) (each_gives w V P given xs (All-tail V x xs all))
+    then_give (w x) (WritesEach w xs) P (Each P (length xs)) (given x (All-head V x xs all))
+    (each_gives w V P given xs (All-tail V x xs all))
 
 pub in_seq_gives : (n : ℕ) (w : Log → Log → Type 0) (P : json.Items → Type 0) → GivesItems w P → Gives (InSeq n w) (IsArray P)
 in_seq_gives n w P given es new sent =
@@ -87,8 +100,15 @@ in_seq_gives n w P given es new sent =
       ended ∙ ap Some (append_assoc begun a.0 (event.seq_ends ∷ []) ∙ append_assoc es (event.seq_begins (Some n) ∷ []) (a.0 ++ event.seq_ends ∷ [])),
       λ rest s last plain run.
           let opened : IsPlain run.0 × (run.0.tokens ≡ s.tokens ++ token.begin_array ∷ []) = grind (arith, common_steps, run.1.1.1) in
-          let c = a.2 rest run.0 last opened.0 (subst (λ xs. TakesAll run.0 xs last) (append_assoc a.0 (event.seq_ends ∷ []) rest) run.2) in
-          (c.0, json.array c.1, c.2, c.3, c.4 ∙ ap (λ xs. xs ++ items_tokens c.1) opened.1 ∙ append_assoc s.tokens (token.begin_array ∷ []) (items_tokens c.1), c.5),
+          let c = a.2 rest run.0 last opened.0 (subst (λ xs. TakesAll run.0 xs last) (append_assoc a.0 (event.seq_ends ∷ []) rest) run.2) in (
+            c.0,
+            json.array c.1,
+            c.2,
+            c.3,
+            c.4 ∙ ap (λ xs. xs ++ items_tokens c.1) opened.1 ∙ append_assoc s.tokens
+                (token.begin_array ∷ []) (items_tokens c.1),
+            c.5,
+          ),
     )
 
 -- ---- what lists mean
@@ -119,116 +139,136 @@ pub both_true : (a b : Bool) → a ≡ true → b ≡ true → (a && b) ≡ true
 both_true true b h k = k
 both_true false b h k = h
 
-pub items_fit : (rows : List Row) (patterns : Patterns) (m k : ℕ) (js : json.Items) (ds : Items) → Each (Means rows m) k js → of_items js ≡ Some ds
+pub items_fit : (reading : Patterns → Type 0) (rows : List Row) (patterns : Patterns) → reading patterns
+    → (m k : ℕ) (js : json.Items) (ds : Items) → Each (MeansUnder reading rows m) k js → of_items js ≡ Some ds
     → (h steps : ℕ) → items_depth ds ≤ h → h * length rows + rank rows m < steps
     → every_item (belongs_within rows Serialize patterns steps m) ds ≡ true
-items_fit rows patterns m zero json.no_items ds all reads h steps deep few =
+items_fit reading rows patterns takes m zero json.no_items ds all reads h steps deep few =
     subst (λ (x : Items). every_item (belongs_within rows Serialize patterns steps m) x ≡ true) (Some_same no_items ds reads) refl
-items_fit rows patterns m zero (json.item j js) ds all reads h steps deep few = absurd all
-items_fit rows patterns m (suc k) json.no_items ds all reads h steps deep few = absurd all
-items_fit rows patterns m (suc k) (json.item j js) ds all reads h steps deep few =
+items_fit reading rows patterns takes m zero (json.item j js) ds all reads h steps deep few = absurd all
+items_fit reading rows patterns takes m (suc k) json.no_items ds all reads h steps deep few = absurd all
+items_fit reading rows patterns takes m (suc k) (json.item j js) ds all reads h steps deep few =
     let r = item_parts (of_json j) (of_items js) ds reads in
     let deeper : items_depth (item r.0 r.1) ≤ h = subst (λ (x : Items). items_depth x ≤ h) (sym r.4) deep in
     subst (λ (x : Items). every_item (belongs_within rows Serialize patterns steps m) x ≡ true) r.4
     (both_true (belongs_within rows Serialize patterns steps m r.0) (every_item (belongs_within rows Serialize patterns steps m) r.1)
-    (shallower rows patterns m r.0 (all.0 patterns r.0 r.2) h steps (omega arith) few)
-    (items_fit rows patterns m k js r.1 all.1 r.3 h steps (omega arith) few))
+    (shallower rows patterns m r.0 (all.0 patterns takes r.0 r.2) h steps (omega arith) few)
+    (items_fit reading rows patterns takes m k js r.1 all.1 r.3 h steps (omega arith) few))
 
-pub seq_means : (rows : List Row) → IsChecked rows → (n m k : ℕ) → HasShape rows n (shape.seq m) → (j : Json)
-    → IsArray (Each (Means rows m) k) j → Means rows n j
-seq_means rows checked n m k is json.null all = absurd all
-seq_means rows checked n m k is (json.boolean b) all = absurd all
-seq_means rows checked n m k is (json.number s) all = absurd all
-seq_means rows checked n m k is (json.string s) all = absurd all
-seq_means rows checked n m k is (json.object ms) all = absurd all
-seq_means rows checked n m k is (json.array js) all = λ patterns d reads.
+pub seq_means_under : (reading : Patterns → Type 0) (rows : List Row) → IsChecked rows → (n m k : ℕ) → HasShape rows n (shape.seq m)
+    → (j : Json)
+    → IsArray (Each (MeansUnder reading rows m) k) j → MeansUnder reading rows n j
+seq_means_under reading rows checked n m k is json.null all = absurd all
+seq_means_under reading rows checked n m k is (json.boolean b) all = absurd all
+seq_means_under reading rows checked n m k is (json.number s) all = absurd all
+seq_means_under reading rows checked n m k is (json.string s) all = absurd all
+seq_means_under reading rows checked n m k is (json.object ms) all = absurd all
+seq_means_under reading rows checked n m k is (json.array js) all = λ patterns takes d reads.
     let r = array_parts (of_items js) d reads in
     let low = part_low rows checked n m (shape.seq m) is (0, omega arith, refl) in
     subst (λ x. Fits rows patterns n x) r.2 (step rows patterns n (shape.seq m) (array r.0) is (λ steps few.
-    items_fit rows patterns m k js r.0 all r.1 (items_depth r.0) steps (omega arith)
+    items_fit reading rows patterns takes m k js r.0 all r.1 (items_depth r.0) steps (omega arith)
     (room (items_depth r.0) (length rows) (rank rows m) (rank rows n) steps few (checked.rank_bound m low))))
 
-pub seq_agrees : {A : Type 0} (rows : List Row) → IsChecked rows → (n m : ℕ) → HasShape rows n (shape.seq m) → (w : A → Log → Log → Type 0)
-    (V : A → Type 0) → ((x : A) → V x → Gives (w x) (Means rows m)) → (xs : List A) → All V xs → Gives (WritesSeq w xs) (Means rows n)
-seq_agrees rows checked n m is w V given xs all =
-    weaker (WritesSeq w xs) (IsArray (Each (Means rows m) (length xs))) (Means rows n) (seq_means rows checked n m (length xs) is)
-    (in_seq_gives (length xs) (WritesEach w xs) (Each (Means rows m) (length xs)) (each_gives w V (Means rows m) given xs all))
+pub seq_means : (rows : List Row) → IsChecked rows → (n m k : ℕ) → HasShape rows n (shape.seq m) → (j : Json)
+    → IsArray (Each (Means rows m) k) j → Means rows n j
+seq_means rows checked n m k is = seq_means_under AnyReading rows checked n m k is
 
-count_items : (rows : List Row) (m k : ℕ) (js : json.Items) (ds : Items) → Each (Means rows m) k js → of_items js ≡ Some ds → items_len ds ≡ k
-count_items rows m zero json.no_items ds all reads = subst (λ (x : Items). items_len x ≡ 0) (Some_same no_items ds reads) refl
-count_items rows m zero (json.item j js) ds all reads = absurd all
-count_items rows m (suc k) json.no_items ds all reads = absurd all
-count_items rows m (suc k) (json.item j js) ds all reads =
+pub seq_agrees : {A : Type 0} (reading : Patterns → Type 0) (rows : List Row) → IsChecked rows → (n m : ℕ) → HasShape rows n (shape.seq m)
+    → (w : A → Log → Log → Type 0)
+    (V : A → Type 0) → ((x : A) → V x → Gives (w x) (MeansUnder reading rows m)) → (xs : List A) → All V xs
+    → Gives (WritesSeq w xs) (MeansUnder reading rows n)
+seq_agrees reading rows checked n m is w V given xs all =
+    weaker (WritesSeq w xs) (IsArray (Each (MeansUnder reading rows m) (length xs))) (MeansUnder reading rows n)
+    (seq_means_under reading rows checked n m (length xs) is)
+    (in_seq_gives (length xs) (WritesEach w xs) (Each (MeansUnder reading rows m) (length xs))
+    (each_gives w V (MeansUnder reading rows m) given xs all))
+
+count_items : (P : Json → Type 0) (k : ℕ) (js : json.Items) (ds : Items) → Each P k js → of_items js ≡ Some ds → items_len ds ≡ k
+count_items P zero json.no_items ds all reads = subst (λ (x : Items). items_len x ≡ 0) (Some_same no_items ds reads) refl
+count_items P zero (json.item j js) ds all reads = absurd all
+count_items P (suc k) json.no_items ds all reads = absurd all
+count_items P (suc k) (json.item j js) ds all reads =
     let r = item_parts (of_json j) (of_items js) ds reads in
-    subst (λ (x : Items). items_len x ≡ suc k) r.4 (ap suc (count_items rows m k js r.1 all.1 r.3))
+    subst (λ (x : Items). items_len x ≡ suc k) r.4 (ap suc (count_items P k js r.1 all.1 r.3))
 
 same_number : (a b : ℕ) → a ≡ b → (a == b) ≡ true
 same_number a b h = grind (arith, common_steps)
 
-pub array_means : (rows : List Row) → IsChecked rows → (n m k : ℕ) → HasShape rows n (shape.array m k) → (j : Json)
-    → IsArray (Each (Means rows m) k) j → Means rows n j
-array_means rows checked n m k is json.null all = absurd all
-array_means rows checked n m k is (json.boolean b) all = absurd all
-array_means rows checked n m k is (json.number s) all = absurd all
-array_means rows checked n m k is (json.string s) all = absurd all
-array_means rows checked n m k is (json.object ms) all = absurd all
-array_means rows checked n m k is (json.array js) all = λ patterns d reads.
+pub array_means : (reading : Patterns → Type 0) (rows : List Row) → IsChecked rows → (n m k : ℕ) → HasShape rows n (shape.array m k)
+    → (j : Json)
+    → IsArray (Each (MeansUnder reading rows m) k) j → MeansUnder reading rows n j
+array_means reading rows checked n m k is json.null all = absurd all
+array_means reading rows checked n m k is (json.boolean b) all = absurd all
+array_means reading rows checked n m k is (json.number s) all = absurd all
+array_means reading rows checked n m k is (json.string s) all = absurd all
+array_means reading rows checked n m k is (json.object ms) all = absurd all
+array_means reading rows checked n m k is (json.array js) all = λ patterns takes d reads.
     let r = array_parts (of_items js) d reads in
     let low = part_low rows checked n m (shape.array m k) is (0, omega arith, refl) in
     subst (λ x. Fits rows patterns n x) r.2 (step rows patterns n (shape.array m k) (array r.0) is (λ steps few.
     both_true (items_len r.0 == k) (every_item (belongs_within rows Serialize patterns steps m) r.0)
-    (same_number (items_len r.0) k (count_items rows m k js r.0 all r.1))
-    (items_fit rows patterns m k js r.0 all r.1 (items_depth r.0) steps (omega arith)
+    (same_number (items_len r.0) k (count_items (MeansUnder reading rows m) k js r.0 all r.1))
+    (items_fit reading rows patterns takes m k js r.0 all r.1 (items_depth r.0) steps (omega arith)
     (room (items_depth r.0) (length rows) (rank rows m) (rank rows n) steps few (checked.rank_bound m low)))))
 
-pub array_agrees : {A : Type 0} (rows : List Row) → IsChecked rows → (n m k : ℕ) → HasShape rows n (shape.array m k) → (w : A → Log → Log → Type 0)
-    (V : A → Type 0) → ((x : A) → V x → Gives (w x) (Means rows m)) → (xs : List A) → length xs ≡ k → All V xs
-    → Gives (WritesSeq w xs) (Means rows n)
-array_agrees rows checked n m k is w V given xs many all =
-    weaker (WritesSeq w xs) (IsArray (Each (Means rows m) (length xs))) (Means rows n)
-    (subst (λ (i : ℕ). (j : Json) → IsArray (Each (Means rows m) i) j → Means rows n j) (sym many) (array_means rows checked n m k is))
-    (in_seq_gives (length xs) (WritesEach w xs) (Each (Means rows m) (length xs)) (each_gives w V (Means rows m) given xs all))
+pub array_agrees : {A : Type 0} (reading : Patterns → Type 0) (rows : List Row) → IsChecked rows → (n m k : ℕ)
+    → HasShape rows n (shape.array m k) → (w : A → Log → Log → Type 0)
+    (V : A → Type 0) → ((x : A) → V x → Gives (w x) (MeansUnder reading rows m)) → (xs : List A) → length xs ≡ k → All V xs
+    → Gives (WritesSeq w xs) (MeansUnder reading rows n)
+array_agrees reading rows checked n m k is w V given xs many all =
+    weaker (WritesSeq w xs) (IsArray (Each (MeansUnder reading rows m) (length xs))) (MeansUnder reading rows n)
+    (subst (λ (i : ℕ). (j : Json) → IsArray (Each (MeansUnder reading rows m) i) j → MeansUnder reading rows n j) (sym many)
+    (array_means reading rows checked n m k is))
+    (in_seq_gives (length xs) (WritesEach w xs) (Each (MeansUnder reading rows m) (length xs))
+    (each_gives w V (MeansUnder reading rows m) given xs all))
 
 -- ---- tuples
 
 -- the items are those of these rows, in order
-abbrev pub Of : List Row → List ℕ → json.Items → Type 0
-Of rows [] js = NoItems js
-Of rows (n ∷ ns) js = First (Means rows n) (Of rows ns) js
+abbrev pub Of : (Patterns → Type 0) → List Row → List ℕ → json.Items → Type 0
+Of reading rows [] js = NoItems js
+Of reading rows (n ∷ ns) js = First (MeansUnder reading rows n) (Of reading rows ns) js
 
-pub parts_fit : (rows : List Row) (patterns : Patterns) (ns : List ℕ) (js : json.Items) (ds : Items)
-    → ((m : ℕ) → Contains ns m → rank rows m < length rows) → Of rows ns js → of_items js ≡ Some ds
+pub parts_fit : (reading : Patterns → Type 0) (rows : List Row) (patterns : Patterns) → reading patterns
+    → (ns : List ℕ) (js : json.Items) (ds : Items)
+    → ((m : ℕ) → Contains ns m → rank rows m < length rows) → Of reading rows ns js → of_items js ≡ Some ds
     → (h steps : ℕ) → items_depth ds ≤ h → suc h * length rows ≤ steps
     → each_of (belongs_within rows Serialize patterns steps) ns ds ≡ true
-parts_fit rows patterns [] json.no_items ds low all reads h steps deep few =
+parts_fit reading rows patterns takes [] json.no_items ds low all reads h steps deep few =
     subst (λ (x : Items). each_of (belongs_within rows Serialize patterns steps) [] x ≡ true) (Some_same no_items ds reads) refl
-parts_fit rows patterns [] (json.item j js) ds low all reads h steps deep few = absurd all
-parts_fit rows patterns (m ∷ ns) json.no_items ds low all reads h steps deep few = absurd all
-parts_fit rows patterns (m ∷ ns) (json.item j js) ds low all reads h steps deep few =
+parts_fit reading rows patterns takes [] (json.item j js) ds low all reads h steps deep few = absurd all
+parts_fit reading rows patterns takes (m ∷ ns) json.no_items ds low all reads h steps deep few = absurd all
+parts_fit reading rows patterns takes (m ∷ ns) (json.item j js) ds low all reads h steps deep few =
     let r = item_parts (of_json j) (of_items js) ds reads in
     let deeper : items_depth (item r.0 r.1) ≤ h = subst (λ (x : Items). items_depth x ≤ h) (sym r.4) deep in
     let first : Contains (m ∷ ns) m = (0, omega arith, refl) in
     let near = closer h (suc h) (length rows) (rank rows m) (omega arith) (low m first) in
     subst (λ (x : Items). each_of (belongs_within rows Serialize patterns steps) (m ∷ ns) x ≡ true) r.4
     (both_true (belongs_within rows Serialize patterns steps m r.0) (each_of (belongs_within rows Serialize patterns steps) ns r.1)
-    (shallower rows patterns m r.0 (all.0 patterns r.0 r.2) h steps (omega arith) (omega arith))
-    (parts_fit rows patterns ns js r.1 (λ k c. low k (suc c.0, omega (arith, c.1), c.2)) all.1 r.3 h steps (omega arith) few))
+    (shallower rows patterns m r.0 (all.0 patterns takes r.0 r.2) h steps (omega arith) (omega arith))
+    (parts_fit reading rows patterns takes ns js r.1 (λ k c. low k (suc c.0, omega (arith, c.1), c.2)) all.1 r.3 h steps (omega arith) few))
 
-pub tuple_means : (rows : List Row) → IsChecked rows → (n : ℕ) (ns : List ℕ) → HasShape rows n (shape.tuple ns) → (j : Json)
-    → IsArray (Of rows ns) j → Means rows n j
-tuple_means rows checked n ns is json.null all = absurd all
-tuple_means rows checked n ns is (json.boolean b) all = absurd all
-tuple_means rows checked n ns is (json.number s) all = absurd all
-tuple_means rows checked n ns is (json.string s) all = absurd all
-tuple_means rows checked n ns is (json.object ms) all = absurd all
-tuple_means rows checked n ns is (json.array js) all = λ patterns d reads.
+pub tuple_means : (reading : Patterns → Type 0) (rows : List Row) → IsChecked rows → (n : ℕ) (ns : List ℕ)
+    → HasShape rows n (shape.tuple ns) → (j : Json)
+    → IsArray (Of reading rows ns) j → MeansUnder reading rows n j
+tuple_means reading rows checked n ns is json.null all = absurd all
+tuple_means reading rows checked n ns is (json.boolean b) all = absurd all
+tuple_means reading rows checked n ns is (json.number s) all = absurd all
+tuple_means reading rows checked n ns is (json.string s) all = absurd all
+tuple_means reading rows checked n ns is (json.object ms) all = absurd all
+tuple_means reading rows checked n ns is (json.array js) all = λ patterns takes d reads.
     let r = array_parts (of_items js) d reads in
     subst (λ x. Fits rows patterns n x) r.2 (step rows patterns n (shape.tuple ns) (array r.0) is (λ steps few.
-    parts_fit rows patterns ns js r.0 (λ m c. checked.rank_bound m (part_low rows checked n m (shape.tuple ns) is c)) all r.1 (items_depth r.0) steps (omega arith) (omega arith)))
+    parts_fit reading rows patterns takes ns js r.0
+    (λ m c. checked.rank_bound m (part_low rows checked n m (shape.tuple ns) is c)) all r.1 (items_depth r.0) steps (omega arith) (omega arith)))
 
-pub pair_agrees : (rows : List Row) → IsChecked rows → (n a b : ℕ) → HasShape rows n (shape.tuple (a ∷ b ∷ [])) → (v w : Log → Log → Type 0)
-    → Gives v (Means rows a) → Gives w (Means rows b) → Gives (InSeq 2 (Then v w)) (Means rows n)
-pair_agrees rows checked n a b is v w first second =
-    weaker (InSeq 2 (Then v w)) (IsArray (Of rows (a ∷ b ∷ []))) (Means rows n) (tuple_means rows checked n (a ∷ b ∷ []) is)
-    (in_seq_gives 2 (Then v w) (Of rows (a ∷ b ∷ []))
-    (then_give v w (Means rows a) (First (Means rows b) NoItems) first (last_gives w (Means rows b) second)))
+pub pair_agrees : (reading : Patterns → Type 0) (rows : List Row) → IsChecked rows → (n a b : ℕ)
+    → HasShape rows n (shape.tuple (a ∷ b ∷ [])) → (v w : Log → Log → Type 0)
+    → Gives v (MeansUnder reading rows a) → Gives w (MeansUnder reading rows b) → Gives (InSeq 2 (Then v w)) (MeansUnder reading rows n)
+pair_agrees reading rows checked n a b is v w first second =
+    weaker (InSeq 2 (Then v w)) (IsArray (Of reading rows (a ∷ b ∷ []))) (MeansUnder reading rows n)
+    (tuple_means reading rows checked n (a ∷ b ∷ []) is)
+    (in_seq_gives 2 (Then v w) (Of reading rows (a ∷ b ∷ []))
+    (then_give v w (MeansUnder reading rows a) (First (MeansUnder reading rows b) NoItems) first
+    (last_gives w (MeansUnder reading rows b) second)))

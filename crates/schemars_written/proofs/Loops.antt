@@ -10,6 +10,7 @@ use Rattle.serde_json.specs.Sent.{AreTokensOf, IsTextOf}
 use Rattle.serde_json.specs.View.{view}
 use Rattle.serde_json.specs.declared.value.Value.{Value}
 use Rattle.schemars_schema.specs.Json.{Text}
+use Rattle.schemars_schema.specs.Acceptance.{Patterns}
 use Rattle.schemars_shapes.specs.Shape as shape
 use Rattle.schemars_shapes.specs.Shape.{Field, fields_of, field_of, flattened_of, required_of, Payload, Tagging, struct_payload, by_tag, by_tag_and_content, shape_of, payload_of, variant_of, internal_payload_of, internal_variant_of}
 use Rattle.schemars_shapes.specs.declared.variant.Variant as src-variant
@@ -23,8 +24,8 @@ use Rattle.schemars_shapes.specs.declared.shape.Flattened as src-flattened
 use Rattle.schemars_types.specs.Rows.{Row}
 use Rattle.schemars_types.specs.Faults.{IsChecked}
 use Rattle.schemars_written.specs.Gives.{Gives}
-use Rattle.schemars_written.specs.Fits.{Means, HasShape, HasList, HasPart, HasFields, NextField, NextOptional, LastField, HasOwnFields, HasStruct, HasVariant, HasVariantAt}
-use Rattle.schemars_written.specs.Writes.{Belongs, BelongsAsRead}
+use Rattle.schemars_written.specs.Fits.{MeansUnder, HasShape, HasList, HasPart, HasFields, NextField, NextOptional, LastField, HasOwnFields, HasStruct, HasVariant, HasVariantAt}
+use Rattle.schemars_written.specs.Writes.{BelongsUnder, BelongsAsReadUnder}
 use Rattle.schemars_written.proofs.Final.{as_read}
 
 -- of all, P holds of those before the rest
@@ -34,7 +35,8 @@ AllUpTo {A} P all rest = (done : List A) × (all ≡ done ++ rest) × All P done
 pub AllUpTo-start : {A : Type 0} (P : A → Type 0) (all rest : List A) → rest ≡ all → AllUpTo P all rest
 AllUpTo-start P all rest same = ([], sym same, λ k d low. absurd (omega arith))
 
-pub AllUpTo-more : {A : Type 0} (P : A → Type 0) (all rest left : List A) (x : A) → AllUpTo P all rest → rest ≡ x ∷ left → P x → AllUpTo P all left
+pub AllUpTo-more : {A : Type 0} (P : A → Type 0) (all rest left : List A) (x : A) → AllUpTo P all rest → rest ≡ x ∷ left → P x
+    → AllUpTo P all left
 AllUpTo-more P all rest left x h step p =
     (h.0 ++ x ∷ [], h.1 ∙ ap (λ ys. h.0 ++ ys) step ∙ sym (append_assoc h.0 (x ∷ []) left), All-push P h.0 x h.2 p)
 
@@ -62,14 +64,16 @@ has_list rows n x is none list same = (
   (
     is.0,
     is.1,
-    is.2 ∙ ap (λ ps. shape.struct (record { list = map field_of x.list.items; flatten = ps; closed = x.closed })) (no_rows x.flatten.items none)
+    is.2 ∙ ap (λ ps. shape.struct (record { list = map field_of x.list.items; flatten = ps; closed = x.closed }))
+        (no_rows x.flatten.items none)
         ∙ ap (λ fs. shape.struct (record { list = map field_of fs; flatten = []; closed = x.closed })) (sym same),
   ),
 )
 
 -- one row is flattened
 pub has_part : (rows : List Row) (n : ℕ) (x : src-fields.Fields) → HasShape rows n (shape.struct (fields_of x))
-    → (parts : List src-flattened.Flattened) → parts ≡ x.flatten.items → length parts ≡ 1 → (list : List src-field.Field) → list ≡ x.list.items
+    → (parts : List src-flattened.Flattened) → parts ≡ x.flatten.items → length parts ≡ 1 → (list : List src-field.Field)
+    → list ≡ x.list.items
     → (d : src-flattened.Flattened) → HasPart rows n (map field_of list) (slice_index_or parts 0 d).ty
 has_part rows n x is [] same one list listed d = absurd (omega arith)
 has_part rows n x is (p ∷ q ∷ ps) same one list listed d = absurd (omega arith)
@@ -79,22 +83,26 @@ has_part rows n x is (p ∷ []) same one list listed d = (
   (
     is.0,
     is.1,
-    is.2 ∙ ap (λ ps. shape.struct (record { list = map field_of x.list.items; flatten = map flattened_of ps; closed = x.closed })) (sym same)
+    is.2 ∙ ap (λ ps. shape.struct (record { list = map field_of x.list.items; flatten = map flattened_of ps; closed = x.closed }))
+        (sym same)
         ∙ ap (λ fs. shape.struct (record { list = map field_of fs; flatten = flattened_of p ∷ []; closed = x.closed })) (sym listed),
   ),
 )
 
 -- ---- results
 
-pub value_belongs : {E : Type 0} (rows : List Row) → IsChecked rows → (n : ℕ) → n < length rows → (sends : Log → Log → Type 0) → Gives sends (Means rows n)
-    → (r : Result Value E) → IfOk r (λ v. (log : Log) × (text : List ℕ) × sends (Some []) log × AreTokensOf true log (tokens text) × (read text ≡ Some (view v)))
-    → IfOk r (λ v. Belongs rows n (view v))
+pub value_belongs : {E : Type 0} {reading : Patterns → Type 0} (rows : List Row) → IsChecked rows → (n : ℕ) → n < length rows
+    → (sends : Log → Log → Type 0) → Gives sends (MeansUnder reading rows n)
+    → (r : Result Value E)
+    → IfOk r (λ v. (log : Log) × (text : List ℕ) × sends (Some []) log × AreTokensOf true log (tokens text) × (read text ≡ Some (view v)))
+    → IfOk r (λ v. BelongsUnder reading rows n (view v))
 value_belongs rows checked n low sends given (Ok v) h = as_read true rows checked n low sends given h.0 h.1 h.2 h.3 (view v) h.4
 value_belongs rows checked n low sends given (Err e) h = h
 
-pub text_belongs : {E : Type 0} (rows : List Row) → IsChecked rows → (n : ℕ) → n < length rows → (sends : Log → Log → Type 0) → Gives sends (Means rows n)
+pub text_belongs : {E : Type 0} {reading : Patterns → Type 0} (rows : List Row) → IsChecked rows → (n : ℕ) → n < length rows
+    → (sends : Log → Log → Type 0) → Gives sends (MeansUnder reading rows n)
     → (r : Result (String Global) E) → IfOk r (λ s. (log : Log) × sends (Some []) log × IsTextOf log (string_bytes s))
-    → IfOk r (λ s. BelongsAsRead rows n (string_bytes s))
+    → IfOk r (λ s. BelongsAsReadUnder reading rows n (string_bytes s))
 text_belongs rows checked n low sends given (Ok s) h = as_read false rows checked n low sends given h.0 (string_bytes s) h.1 h.2.0
 text_belongs rows checked n low sends given (Err e) h = h
 
@@ -123,7 +131,8 @@ pub optional_at : (name : Text) (R : ℕ → Type 0) (others : List Field → Ty
     → a ≡ get_or xs i a → i < length xs → string_bytes a.name ≡ name → R a.ty → a.required.serialize ≡ false
     → others (map field_of (drop (suc i) xs)) → NextOptional name R others (map field_of (drop i xs))
 optional_at name R others xs i a is low named row free more =
-    subst (λ (ys : List src-field.Field). NextOptional name R others (map field_of ys)) (sym (drop_at xs i a low is)) (named, row, free, more)
+    subst (λ (ys : List src-field.Field). NextOptional name R others (map field_of ys)) (sym (drop_at xs i a low is))
+    (named, row, free, more)
 
 pub last_at : (xs : List src-field.Field) (i : ℕ) → length xs ≤ i → LastField (map field_of (drop i xs))
 last_at xs i all = subst (λ (ys : List src-field.Field). LastField (map field_of ys)) (sym (none_left xs i all)) tt
@@ -133,8 +142,10 @@ pub to_fields : (rows : List Row) (n : ℕ) (P : List Field → Type 0) (xs : Li
 to_fields rows n P xs is p = (map field_of xs, is.0, is.1, p)
 
 -- the fields of a variant
-pub to_struct : (rows : List Row) (n : ℕ) (tagging : Tagging) (name : Text) (x : src-fields.Fields) → HasVariantAt rows n tagging name (struct_payload (fields_of x))
-    → (xs : List src-field.Field) → HasOwnFields x (map field_of xs) → (P : List Field → Type 0) → P (map field_of (drop 0 xs)) → HasStruct rows n tagging name P
+pub to_struct : (rows : List Row) (n : ℕ) (tagging : Tagging) (name : Text) (x : src-fields.Fields)
+    → HasVariantAt rows n tagging name (struct_payload (fields_of x))
+    → (xs : List src-field.Field) → HasOwnFields x (map field_of xs) → (P : List Field → Type 0) → P (map field_of (drop 0 xs))
+    → HasStruct rows n tagging name P
 to_struct rows n tagging name x row xs own P p =
     (map field_of xs, x.closed, (row.0, row.1, subst (λ y. HasVariant name (struct_payload y) row.0) own row.2), p)
 
@@ -144,10 +155,15 @@ pub variant_at : (name : Text) (xs : List src-variant.Variant) (i : ℕ) (x : sr
     → string_bytes x.name ≡ name → HasVariant name (payload_of x.payload) (map variant_of xs)
 variant_at name [] i x is low named = absurd (omega arith)
 variant_at name (y ∷ ys) zero x is low named =
-    inl (ap (λ (z : src-variant.Variant). string_bytes z.name) (sym is) ∙ named, ap (λ (z : src-variant.Variant). payload_of z.payload) (sym is))
+    inl (
+      ap (λ (z : src-variant.Variant). string_bytes z.name) (sym is) ∙ named,
+      ap (λ (z : src-variant.Variant). payload_of z.payload)
+          (sym is),
+    )
 variant_at name (y ∷ ys) (suc i) x is low named = inr (variant_at name ys i x is (omega arith) named)
 
-pub inside_at : (name : Text) (xs : List src-internal.InternalVariant) (i : ℕ) (x : src-internal.InternalVariant) → x ≡ get_or xs i x → i < length xs
+pub inside_at : (name : Text) (xs : List src-internal.InternalVariant) (i : ℕ) (x : src-internal.InternalVariant) → x ≡ get_or xs i x
+    → i < length xs
     → string_bytes x.name ≡ name → HasVariant name (internal_payload_of x.payload) (map internal_variant_of xs)
 inside_at name [] i x is low named = absurd (omega arith)
 inside_at name (y ∷ ys) zero x is low named = inl (
@@ -159,7 +175,8 @@ inside_at name (y ∷ ys) (suc i) x is low named = inr (inside_at name ys i x is
 -- ---- variants of enums that are tagged by keys
 
 pub inside_named : {B : Type 0} (rows : List Row) (n : ℕ) (x : src-inside.Internal) → HasShape rows n (shape_of (src-shape.Internal x))
-    → (tag name : Text) → string_bytes x.tag ≡ tag → (xs : List src-internal.InternalVariant) → xs ≡ x.variants.items → (o : Option B) (f : B → Payload)
+    → (tag name : Text) → string_bytes x.tag ≡ tag → (xs : List src-internal.InternalVariant) → xs ≡ x.variants.items
+    → (o : Option B) (f : B → Payload)
     → IfSome o (λ p. HasVariant name (f p) (map internal_variant_of xs))
     → IfSome o (λ p. (closed : Bool) × HasVariantAt rows n (by_tag tag closed) name (f p))
 inside_named rows n x is tag name tagged xs same None f has = has
@@ -183,7 +200,8 @@ beside_named rows n x is tag content name tagged keyed xs same (Some p) f has = 
   (
     map variant_of x.variants.items,
     subst (λ (k : Text). HasShape rows n (shape.enum (by_tag_and_content tag k x.closed) (map variant_of x.variants.items))) keyed
-        (subst (λ (t : Text). HasShape rows n (shape.enum (by_tag_and_content t (string_bytes x.content) x.closed) (map variant_of x.variants.items))) tagged is),
+        (subst (λ (t : Text). HasShape rows n
+        (shape.enum (by_tag_and_content t (string_bytes x.content) x.closed) (map variant_of x.variants.items))) tagged is),
     subst (λ ys. HasVariant name (f p) (map variant_of ys)) same has,
   ),
 )

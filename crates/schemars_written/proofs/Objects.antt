@@ -1,10 +1,9 @@
 -- Maps and structs.
-use Rattle.std.proofs.Common.{◌≡◌, ◌⊎◌, inl, inr, ℕ, suc, ◌*◌, ◌<◌, ◌≤◌, List, [], ◌∷◌, ◌++◌, length, map, Bool, true, false, not, ◌&&◌, ◌||◌, Option, Some, None, is_some, refl, sym, ap, ◌∙◌, subst, arith, append_assoc, append-nil}
-use Rattle.std.specs.Prelude.{All, option_map, option_and_then, Contains, bytes_eq, if◌then◌else◌}
+use Rattle.std.proofs.Common.{◌≡◌, ◌⊎◌, inl, inr, ℕ, suc, ◌*◌, ◌<◌, ◌≤◌, List, [], ◌∷◌, ◌++◌, length, map, Bool, true, false, not, ◌||◌, Option, Some, None, is_some, refl, sym, ap, ◌∙◌, subst, arith, append_assoc, append-nil}
+use Rattle.std.specs.Prelude.{option_map, option_and_then, Contains, bytes_eq, if◌then◌else◌}
 use Rattle.std.specs.List.{IsDistinct, AllByRecursion}
 use Rattle.std.specs.Option.{option_map_or}
 use Rattle.std.proofs.lemmas.Grind.{common_steps}
-use Rattle.std.proofs.lemmas.List.Elements.{All-head, All-tail}
 use Rattle.std.proofs.lemmas.Slice.Eq.{bytes_eq-Decides}
 use Rattle.json.specs.Json as json
 use Rattle.json.specs.Json.{Json}
@@ -30,14 +29,12 @@ use Rattle.schemars_flatten.proofs.Kept.{AllMembers, all_put}
 use Rattle.schemars_types.specs.Rows.{Row}
 use Rattle.schemars_types.specs.Edges.{rank}
 use Rattle.schemars_types.specs.Faults.{IsChecked}
-use Rattle.schemars_types.specs.KeyOptions.{key_options, is_key_allowed, all_options, shape_options, distinct_options, or_any_text}
-use Rattle.schemars_types.proofs.Settling.{all_options-shape}
 use Rattle.schemars_types.specs.Meaning.{belongs_within, every_member, field_named, has_fields, is_required}
 use Rattle.schemars_written.proofs.Members.{field_fits, has_each_field, member_at}
 use Rattle.schemars_types.specs.declared.contract.Contract.TheVariants.{Serialize}
 use Rattle.schemars_written.specs.Gives as gives
-use Rattle.schemars_written.specs.Gives.{IsPlain, Gives, GivesMembers, SpellsMembers, LeadsMembers, NoMembers, FirstMember, EachMember, IsObject, Done, Struct}
-use Rattle.schemars_written.specs.Fits.{Fits, Means, HasShape}
+use Rattle.schemars_written.specs.Gives.{IsPlain, Gives, GivesMembers, SpellsMembers, LeadsMembers, NoMembers, FirstMember, IsObject, Done, Struct}
+use Rattle.schemars_written.specs.Fits.{Fits, MeansUnder, HasShape}
 use Rattle.schemars_written.proofs.Atoms.{weaker, step, part_low, known, Some_same}
 use Rattle.schemars_written.proofs.Lists.{closer, shallower, both_true}
 
@@ -46,7 +43,8 @@ use Rattle.schemars_written.proofs.Lists.{closer, shallower, both_true}
 -- what is sent is this key
 abbrev pub GivesKey : (Log → Log → Type 0) → Text → Type 0
 GivesKey sends k = (es : List Event) (new : Log) → sends (Some es) new
-    → (added : List Event) × (new ≡ Some (es ++ added)) × ((rest : List Event) (s last : State) → IsPlain s → TakesAll s (added ++ rest) last
+    → (added : List Event) × (new ≡ Some (es ++ added)) ×
+    ((rest : List Event) (s last : State) → IsPlain s → TakesAll s (added ++ rest) last
     → (mid : State) × IsPlain mid × (mid.tokens ≡ s.tokens ++ token.key k ∷ []) × TakesAll mid rest last)
 
 pub field_key_gives : (name : Text) → GivesKey (λ old new. Logs old new (event.field_key name AsIs)) name
@@ -56,19 +54,6 @@ field_key_gives name es new sent = (
   λ rest s last plain run.
       (run.0, grind (arith, common_steps, run.1), grind (arith, common_steps, run.1, spelled-AsIs kind.Field name), run.2),
 )
-
--- a text between the marks of a key
-abbrev pub SendsKey : Text → Log → Log → Type 0
-SendsKey t old new = (a b : Log) × Logs old a event.key_begins × Logs a b (event.text t) × Logs b new event.key_ends
-
-pub text_key_gives : (t : Text) → GivesKey (SendsKey t) t
-text_key_gives t es new sent =
-    let first : sent.1 ≡ Some ((es ++ event.key_begins ∷ []) ++ event.text t ∷ []) = subst (λ (l : Log). Logs l sent.1 (event.text t)) sent.2 sent.3 in
-    let second : new ≡ Some (((es ++ event.key_begins ∷ []) ++ event.text t ∷ []) ++ event.key_ends ∷ []) = subst (λ (l : Log). Logs l new event.key_ends) first sent.4 in (
-      event.key_begins ∷ event.text t ∷ event.key_ends ∷ [],
-      second ∙ ap Some (append_assoc (es ++ event.key_begins ∷ []) (event.text t ∷ []) (event.key_ends ∷ []) ∙ append_assoc es (event.key_begins ∷ []) (event.text t ∷ event.key_ends ∷ [])),
-      λ rest s last plain run. (run.2.2.0, grind (arith, common_steps, run.1, run.2.1, run.2.2.1), grind (arith, common_steps, run.1, run.2.1, run.2.2.1), run.2.2.2),
-    )
 
 pub done_gives : GivesMembers (λ old new. new ≡ old) NoMembers
 done_gives es new sent = (
@@ -125,8 +110,15 @@ struct_gives n w P given es new sent =
       ended ∙ ap Some (append_assoc begun a.0 (event.map_ends ∷ []) ∙ append_assoc es (event.map_begins (Some n) ∷ []) (a.0 ++ event.map_ends ∷ [])),
       λ rest s last plain run.
           let opened : IsPlain run.0 × (run.0.tokens ≡ s.tokens ++ token.begin_object ∷ []) = grind (arith, common_steps, run.1.1) in
-          let c = a.2 rest run.0 last opened.0 (subst (λ xs. TakesAll run.0 xs last) (append_assoc a.0 (event.map_ends ∷ []) rest) run.2) in
-          (c.0, json.object c.1, c.2, c.3, c.4 ∙ ap (λ xs. xs ++ members_tokens c.1) opened.1 ∙ append_assoc s.tokens (token.begin_object ∷ []) (members_tokens c.1), c.5),
+          let c = a.2 rest run.0 last opened.0 (subst (λ xs. TakesAll run.0 xs last) (append_assoc a.0 (event.map_ends ∷ []) rest) run.2) in (
+            c.0,
+            json.object c.1,
+            c.2,
+            c.3,
+            c.4 ∙ ap (λ xs. xs ++ members_tokens c.1) opened.1 ∙ append_assoc s.tokens
+                (token.begin_object ∷ []) (members_tokens c.1),
+            c.5,
+          ),
     )
 
 -- ---- how members are read
@@ -185,13 +177,15 @@ comes k (json.member l j ms) found all (inr later) reads =
 -- ---- structs
 
 -- the members are those of these fields, in order; one that need not be written may be left out
-abbrev pub Matches : List Row → List Field → json.Members → Type 0
-Matches rows [] ms = NoMembers ms
-Matches rows (f ∷ fs) ms = FirstMember f.name (Means rows f.ty) (Matches rows fs) ms ⊎ ((f.required.serialize ≡ false) × Matches rows fs ms)
+abbrev pub Matches : (Patterns → Type 0) → List Row → List Field → json.Members → Type 0
+Matches reading rows [] ms = NoMembers ms
+Matches reading rows (f ∷ fs) ms =
+    FirstMember f.name (MeansUnder reading rows f.ty) (Matches reading rows fs) ms ⊎
+    ((f.required.serialize ≡ false) × Matches reading rows fs ms)
 
 -- a member is of the field of its name
-abbrev pub OfField : List Row → List Field → Text → Json → Type 0
-OfField rows fs k j = (f : Field) × (field_named fs k ≡ Some f) × Means rows f.ty j
+abbrev pub OfField : (Patterns → Type 0) → List Row → List Field → Text → Json → Type 0
+OfField reading rows fs k j = (f : Field) × (field_named fs k ≡ Some f) × MeansUnder reading rows f.ty j
 
 -- the names of fields differ
 abbrev pub Apart : List Field → Type 0
@@ -213,20 +207,22 @@ name_of_found g (h ∷ fs) t k apart at = go (bytes_eq h.name k) refl (name_of_f
     go true is later = subst (λ (x : Text). bytes_eq t x ≡ false) ((bytes_eq-Decides h.name k).0 is) apart.0
     go false is later = later (sym (named_later h fs k is) ∙ at)
 
-wider : (rows : List Row) (f : Field) (fs : List Field) → AllByRecursion (λ y. bytes_eq f.name y ≡ false) (map (λ x. x.name) fs)
-    → (ms : json.Members) → EachJson (OfField rows fs) ms → EachJson (OfField rows (f ∷ fs)) ms
-wider rows f fs apart json.no_members each = tt
-wider rows f fs apart (json.member k j ms) each =
-    ((each.0.0, named_later f fs k (name_of_found each.0.0 fs f.name k apart each.0.1) ∙ each.0.1, each.0.2), wider rows f fs apart ms each.1)
+wider : (reading : Patterns → Type 0) (rows : List Row) (f : Field) (fs : List Field)
+    → AllByRecursion (λ y. bytes_eq f.name y ≡ false) (map (λ x. x.name) fs)
+    → (ms : json.Members) → EachJson (OfField reading rows fs) ms → EachJson (OfField reading rows (f ∷ fs)) ms
+wider reading rows f fs apart json.no_members each = tt
+wider reading rows f fs apart (json.member k j ms) each =
+    ((each.0.0, named_later f fs k (name_of_found each.0.0 fs f.name k apart each.0.1) ∙ each.0.1, each.0.2), wider reading rows f fs apart ms each.1)
 
-pub of_fields : (rows : List Row) (fs : List Field) → Apart fs → (ms : json.Members) → Matches rows fs ms → EachJson (OfField rows fs) ms
+pub of_fields : (reading : Patterns → Type 0) (rows : List Row) (fs : List Field) → Apart fs → (ms : json.Members)
+    → Matches reading rows fs ms → EachJson (OfField reading rows fs) ms
 unfolding IsDistinct
-of_fields rows [] apart json.no_members given = tt
-of_fields rows [] apart (json.member k j ms) given = absurd given
-of_fields rows (f ∷ fs) apart json.no_members (inl given) = absurd given
-of_fields rows (f ∷ fs) apart (json.member k j ms) (inl given) =
-    ((f, named_here f fs k given.0, given.1), wider rows f fs apart.0 ms (of_fields rows fs apart.1 ms given.2))
-of_fields rows (f ∷ fs) apart ms (inr given) = wider rows f fs apart.0 ms (of_fields rows fs apart.1 ms given.1)
+of_fields reading rows [] apart json.no_members given = tt
+of_fields reading rows [] apart (json.member k j ms) given = absurd given
+of_fields reading rows (f ∷ fs) apart json.no_members (inl given) = absurd given
+of_fields reading rows (f ∷ fs) apart (json.member k j ms) (inl given) =
+    ((f, named_here f fs k given.0, given.1), wider reading rows f fs apart.0 ms (of_fields reading rows fs apart.1 ms given.2))
+of_fields reading rows (f ∷ fs) apart ms (inr given) = wider reading rows f fs apart.0 ms (of_fields reading rows fs apart.1 ms given.1)
 
 -- a field whose row is a row
 pub named_number : (fs : List Field) (k : Text) (f : Field) → field_named fs k ≡ Some f → Contains (map (λ x. x.ty) fs) f.ty
@@ -268,164 +264,102 @@ fields_hold rows patterns fs list closed steps h (member k d ms) known same many
     (every_member (λ k w. field_fits (belongs_within rows Serialize patterns steps) list closed k w) ms) first
     (fields_hold rows patterns fs list closed steps h ms known same many (omega arith) all.1)
 
-pub has_keys_of : (rows : List Row) (part : ℕ → Data → Bool) (fs : List Field) (ms : json.Members) → Matches rows fs ms → (all found : Members) → of_members ms found ≡ Some all
+pub has_keys_of : (reading : Patterns → Type 0) (rows : List Row) (part : ℕ → Data → Bool) (fs : List Field) (ms : json.Members)
+    → Matches reading rows fs ms → (all found : Members) → of_members ms found ≡ Some all
     → has_each_field part fs all ≡ true
-has_keys_of rows part [] ms given all found reads = refl
-has_keys_of rows part (f ∷ fs) json.no_members (inl given) all found reads = absurd given
-has_keys_of rows part (f ∷ fs) (json.member k j ms) (inl given) all found reads =
+has_keys_of reading rows part [] ms given all found reads = refl
+has_keys_of reading rows part (f ∷ fs) json.no_members (inl given) all found reads = absurd given
+has_keys_of reading rows part (f ∷ fs) (json.member k j ms) (inl given) all found reads =
     let r = member_parts (of_json j) (λ d. of_members ms (put k d found)) all reads in
     let here : is_some (get_member f.name all) ≡ true =
     ap is_some (ap (λ (x : Text). get_member x all) (sym given.0))
     ∙ stays k ms (put k r.0 found) all (ap is_some (get_member-put k r.0 found)) r.2 in
     both_true (not (is_required Serialize f.required) || is_some (get_member f.name all)) (has_each_field part fs all)
     (or_right (not (is_required Serialize f.required)) (is_some (get_member f.name all)) here)
-    (has_keys_of rows part fs ms given.2 all (put k r.0 found) r.2)
+    (has_keys_of reading rows part fs ms given.2 all (put k r.0 found) r.2)
   where
     or_right : (a b : Bool) → b ≡ true → (a || b) ≡ true
     or_right true b h = refl
     or_right false b h = h
-has_keys_of rows part (f ∷ fs) ms (inr given) all found reads =
+has_keys_of reading rows part (f ∷ fs) ms (inr given) all found reads =
     both_true (not (is_required Serialize f.required) || is_some (get_member f.name all)) (has_each_field part fs all)
     (ap (λ (b : Bool). not b || is_some (get_member f.name all)) given.0)
-    (has_keys_of rows part fs ms given.1 all found reads)
+    (has_keys_of reading rows part fs ms given.1 all found reads)
 
-members_are : (rows : List Row) (fs : List Field) (patterns : Patterns) (ms : json.Members) → EachJson (OfField rows fs) ms
+members_are : (reading : Patterns → Type 0) (rows : List Row) (fs : List Field) (patterns : Patterns) → reading patterns
+    → (ms : json.Members) → EachJson (OfField reading rows fs) ms
     → EachJson (λ k j. (d : Data) → of_json j ≡ Some d → (f : Field) × (field_named fs k ≡ Some f) × Fits rows patterns f.ty d) ms
-members_are rows fs patterns json.no_members each = tt
-members_are rows fs patterns (json.member k j ms) each =
-    (λ d reads. (each.0.0, each.0.1, each.0.2 patterns d reads), members_are rows fs patterns ms each.1)
+members_are reading rows fs patterns takes json.no_members each = tt
+members_are reading rows fs patterns takes (json.member k j ms) each =
+    (λ d reads. (each.0.0, each.0.1, each.0.2 patterns takes d reads), members_are reading rows fs patterns takes ms each.1)
 
 abbrev pub plain_fields : List Field → Bool → shape.Fields
 plain_fields fs closed = record { list = fs; flatten = []; closed = closed }
 
 -- members of fields are what a struct of them has
-pub fields_belong : (rows : List Row) (patterns : Patterns) (fs : List Field) (closed : Bool) (ms : json.Members) (d : Data) (steps : ℕ)
-    → ((m : ℕ) → Contains (map (λ f. f.ty) fs) m → (m < length rows) × (rank rows m < length rows)) → Apart fs → Matches rows fs ms
+pub fields_belong : (reading : Patterns → Type 0) (rows : List Row) (patterns : Patterns) → reading patterns
+    → (fs : List Field) (closed : Bool) (ms : json.Members) (d : Data) (steps : ℕ)
+    → ((m : ℕ) → Contains (map (λ f. f.ty) fs) m → (m < length rows) × (rank rows m < length rows)) → Apart fs → Matches reading rows fs ms
     → of_json (json.object ms) ≡ Some d → depth d * length rows ≤ steps
     → has_fields Serialize (belongs_within rows Serialize patterns steps) [] (fs ++ []) closed d ≡ true
-fields_belong rows patterns fs closed ms d steps low apart all reads few =
+fields_belong reading rows patterns takes fs closed ms d steps low apart all reads few =
     let r = object_parts (of_members ms no_members) d reads in
     let enough : suc (members_depth r.0) * length rows ≤ steps = subst (λ v. depth v * length rows ≤ steps) (sym r.2) few in
     let each = read_members (λ k d. (f : Field) × (field_named fs k ≡ Some f) × Fits rows patterns f.ty d) ms no_members r.0
-    (members_are rows fs patterns ms (of_fields rows fs apart ms all)) tt r.1 in
+    (members_are reading rows fs patterns takes ms (of_fields reading rows fs apart ms all)) tt r.1 in
     subst (λ v. has_fields Serialize (belongs_within rows Serialize patterns steps) [] (fs ++ []) closed v ≡ true) r.2
     (both_true (every_member (λ k w. field_fits (belongs_within rows Serialize patterns steps) (fs ++ []) closed k w) r.0)
     (has_each_field (belongs_within rows Serialize patterns steps) (fs ++ []) r.0)
     (fields_hold rows patterns fs (fs ++ []) closed steps (members_depth r.0) r.0 low (append-nil fs) enough (omega arith) each)
-    (subst (λ (l : List Field). has_each_field (belongs_within rows Serialize patterns steps) l r.0 ≡ true) (sym (append-nil fs)) (has_keys_of rows (belongs_within rows Serialize patterns steps) fs ms all r.0 no_members r.1)))
+    (subst (λ (l : List Field). has_each_field (belongs_within rows Serialize patterns steps) l r.0 ≡ true) (sym (append-nil fs))
+    (has_keys_of reading rows (belongs_within rows Serialize patterns steps) fs ms all r.0 no_members r.1)))
 
 -- the own names of a struct differ
 pub names_apart : (rows : List Row) → IsChecked rows → (n : ℕ) (x : shape.Fields) → HasShape rows n (shape.struct x) → Apart x.list
 names_apart rows checked n x is = (subst (λ (ls : List (List Text)). AreDistinctLists ls)
     (ap (λ o. option_map_or (λ (e : Entry). names_of e.shape) o []) is.1 ∙ ap names_of is.2) (checked.names_differ n)).0
 
-pub struct_means : (rows : List Row) → IsChecked rows → (n : ℕ) (fs : List Field) (closed : Bool) → HasShape rows n (shape.struct (plain_fields fs closed))
-    → (j : Json) → IsObject (Matches rows fs) j → Means rows n j
-struct_means rows checked n fs closed is json.null all = absurd all
-struct_means rows checked n fs closed is (json.boolean b) all = absurd all
-struct_means rows checked n fs closed is (json.number s) all = absurd all
-struct_means rows checked n fs closed is (json.string s) all = absurd all
-struct_means rows checked n fs closed is (json.array js) all = absurd all
-struct_means rows checked n fs closed is (json.object ms) all = λ patterns d reads.
+pub struct_means : (reading : Patterns → Type 0) (rows : List Row) → IsChecked rows → (n : ℕ) (fs : List Field) (closed : Bool)
+    → HasShape rows n (shape.struct (plain_fields fs closed))
+    → (j : Json) → IsObject (Matches reading rows fs) j → MeansUnder reading rows n j
+struct_means reading rows checked n fs closed is json.null all = absurd all
+struct_means reading rows checked n fs closed is (json.boolean b) all = absurd all
+struct_means reading rows checked n fs closed is (json.number s) all = absurd all
+struct_means reading rows checked n fs closed is (json.string s) all = absurd all
+struct_means reading rows checked n fs closed is (json.array js) all = absurd all
+struct_means reading rows checked n fs closed is (json.object ms) all = λ patterns takes d reads.
     step rows patterns n (shape.struct (plain_fields fs closed)) d is (λ steps few.
-    fields_belong rows patterns fs closed ms d steps
+    fields_belong reading rows patterns takes fs closed ms d steps
     (λ m c. let low = part_low rows checked n m (shape.struct (plain_fields fs closed)) is
     (subst (λ (xs : List ℕ). Contains xs m) (sym (append-nil (map (λ f. f.ty) fs))) c) in (low, checked.rank_bound m low))
     (names_apart rows checked n (plain_fields fs closed) is) all reads (omega arith))
 
-pub struct_agrees : (rows : List Row) → IsChecked rows → (n : ℕ) (fs : List Field) (closed : Bool) → HasShape rows n (shape.struct (plain_fields fs closed))
-    → (count : ℕ) (w : Log → Log → Type 0) → GivesMembers w (Matches rows fs) → Gives (Struct count w) (Means rows n)
-struct_agrees rows checked n fs closed is count w given =
-    weaker (Struct count w) (IsObject (Matches rows fs)) (Means rows n) (struct_means rows checked n fs closed is)
-    (struct_gives count w (Matches rows fs) given)
+pub struct_agrees : (reading : Patterns → Type 0) (rows : List Row) → IsChecked rows → (n : ℕ) (fs : List Field) (closed : Bool)
+    → HasShape rows n (shape.struct (plain_fields fs closed))
+    → (count : ℕ) (w : Log → Log → Type 0) → GivesMembers w (Matches reading rows fs) → Gives (Struct count w) (MeansUnder reading rows n)
+struct_agrees reading rows checked n fs closed is count w given =
+    weaker (Struct count w) (IsObject (Matches reading rows fs)) (MeansUnder reading rows n)
+    (struct_means reading rows checked n fs closed is)
+    (struct_gives count w (Matches reading rows fs) given)
 
 -- a field, and then the others
-pub field_gives : (rows : List Row) (name : Text) (f : Field) (fs : List Field) (w ws : Log → Log → Type 0) → f.name ≡ name
-    → Gives w (Means rows f.ty) → GivesMembers ws (Matches rows fs) → GivesMembers (gives.Field name w ws) (Matches rows (f ∷ fs))
-field_gives rows name f fs w ws same value others es new sent =
-    let a = member_gives name (λ old new. Logs old new (event.field_key name AsIs)) w ws (Means rows f.ty) (Matches rows fs)
+pub field_gives : (reading : Patterns → Type 0) (rows : List Row) (name : Text) (f : Field) (fs : List Field) (w ws : Log → Log → Type 0)
+    → f.name ≡ name
+    → Gives w (MeansUnder reading rows f.ty) → GivesMembers ws (Matches reading rows fs)
+    → GivesMembers (gives.Field name w ws) (Matches reading rows (f ∷ fs))
+field_gives reading rows name f fs w ws same value others es new sent =
+    let a = member_gives name (λ old new. Logs old new (event.field_key name AsIs)) w ws (MeansUnder reading rows f.ty)
+    (Matches reading rows fs)
     (field_key_gives name) value others es new sent in
-    let b = subst (λ (k : Text). (added : List Event) × (new ≡ Some (es ++ added)) × SpellsMembers (FirstMember k (Means rows f.ty) (Matches rows fs)) added) (sym same) a in
+    let b = subst (λ (k : Text). (added : List Event) × (new ≡ Some (es ++ added)) × SpellsMembers (FirstMember k (MeansUnder reading rows f.ty) (Matches reading rows fs)) added) (sym same) a in
     (b.0, b.1, λ rest s last plain run. let c = b.2 rest s last plain run in (c.0, c.1, inl c.2, c.3, c.4, c.5))
 
 -- a field that may be left out, and then the others
-pub field_if_gives : (rows : List Row) (b : Bool) (name : Text) (f : Field) (fs : List Field) (w ws : Log → Log → Type 0) → f.name ≡ name
-    → f.required.serialize ≡ false → Gives w (Means rows f.ty) → GivesMembers ws (Matches rows fs)
-    → GivesMembers (gives.FieldIf b name w ws) (Matches rows (f ∷ fs))
-field_if_gives rows true name f fs w ws same free value others = field_gives rows name f fs w ws same value others
-field_if_gives rows false name f fs w ws same free value others = λ es new sent.
+pub field_if_gives : (reading : Patterns → Type 0) (rows : List Row) (b : Bool) (name : Text) (f : Field) (fs : List Field)
+    (w ws : Log → Log → Type 0) → f.name ≡ name
+    → f.required.serialize ≡ false → Gives w (MeansUnder reading rows f.ty) → GivesMembers ws (Matches reading rows fs)
+    → GivesMembers (gives.FieldIf b name w ws) (Matches reading rows (f ∷ fs))
+field_if_gives reading rows true name f fs w ws same free value others = field_gives reading rows name f fs w ws same value others
+field_if_gives reading rows false name f fs w ws same free value others = λ es new sent.
     let a = others es new sent in
     (a.0, a.1, λ rest s last plain run. let c = a.2 rest s last plain run in (c.0, c.1, inr (free, c.2), c.3, c.4, c.5))
-
--- ---- maps with texts as keys
-
--- any text is a key
-keys_free : (rows : List Row) → IsChecked rows → (key : ℕ) → HasShape rows key shape.text → (patterns : Patterns) (k : Text)
-    → is_key_allowed patterns (key_options rows key) k ≡ true
-keys_free rows checked key is patterns k =
-    let options = all_options-shape rows checked key is.0 is.1 ∙ ap (shape_options (all_options rows)) is.2 in
-    ap (λ o. is_key_allowed patterns (distinct_options (or_any_text o)) k) options
-
-members_hold : (rows : List Row) (patterns : Patterns) (value steps h : ℕ) (allowed : Text → Bool) (ms : Members) → ((k : Text) → allowed k ≡ true)
-    → value < length rows → rank rows value < length rows → suc h * length rows ≤ steps → members_depth ms ≤ h
-    → AllMembers (λ k d. Fits rows patterns value d) ms
-    → every_member (λ k w. allowed k && belongs_within rows Serialize patterns steps value w) ms ≡ true
-members_hold rows patterns value steps h allowed no_members free known low many deep all = refl
-members_hold rows patterns value steps h allowed (member k d ms) free known low many deep all =
-    both_true (allowed k && belongs_within rows Serialize patterns steps value d)
-    (every_member (λ k w. allowed k && belongs_within rows Serialize patterns steps value w) ms)
-    (both_true (allowed k) (belongs_within rows Serialize patterns steps value d) (free k)
-    (small rows patterns steps h d many (omega arith) value known low all.0))
-    (members_hold rows patterns value steps h allowed ms free known low many (omega arith) all.1)
-
-each_read : (rows : List Row) (patterns : Patterns) (value : ℕ) (ms : json.Members) → EachMember (Means rows value) ms
-    → EachJson (λ k j. (d : Data) → of_json j ≡ Some d → Fits rows patterns value d) ms
-each_read rows patterns value json.no_members each = tt
-each_read rows patterns value (json.member k j ms) each = (λ d reads. each.0 patterns d reads, each_read rows patterns value ms each.1)
-
-pub map_means : (rows : List Row) → IsChecked rows → (n key value : ℕ) → HasShape rows n (shape.map_from key value) → HasShape rows key shape.text
-    → (j : Json) → IsObject (EachMember (Means rows value)) j → Means rows n j
-map_means rows checked n key value is texts json.null all = absurd all
-map_means rows checked n key value is texts (json.boolean b) all = absurd all
-map_means rows checked n key value is texts (json.number s) all = absurd all
-map_means rows checked n key value is texts (json.string s) all = absurd all
-map_means rows checked n key value is texts (json.array js) all = absurd all
-map_means rows checked n key value is texts (json.object ms) all = λ patterns d reads.
-    let r = object_parts (of_members ms no_members) d reads in
-    let low = part_low rows checked n value (shape.map_from key value) is (1, omega arith, refl) in
-    let each = read_members (λ k d. Fits rows patterns value d) ms no_members r.0 (each_read rows patterns value ms all) tt r.1 in
-    subst (λ x. Fits rows patterns n x) r.2 (step rows patterns n (shape.map_from key value) (object r.0) is (λ steps few.
-    members_hold rows patterns value steps (members_depth r.0) (is_key_allowed patterns (key_options rows key)) r.0
-    (keys_free rows checked key texts patterns) low (checked.rank_bound value low) (omega arith) (omega arith) each))
-
-entries_give : {K A : Type 0} (bytes : K → Text) (w : A → Log → Log → Type 0) (V : A → Type 0) (P : Json → Type 0) → ((x : A) → V x → Gives (w x) P)
-    → (es : List (K × A)) → All (λ e. V e.1) es
-    → GivesMembers (WritesEach (WritesEntry (λ k old new. Logs old new (event.text (bytes k))) w) es) (EachMember P)
-entries_give bytes w V P given [] all es new sent =
-    let a = done_gives es new sent in
-    (a.0, a.1, λ rest s last plain run. let b = a.2 rest s last plain run in (b.0, b.1, none b.1 b.2, b.3, b.4, b.5))
-  where
-    none : (ms : json.Members) → NoMembers ms → EachMember P ms
-    none json.no_members h = tt
-    none (json.member k j ms) h = absurd h
-entries_give bytes w V P given (e ∷ more) all es new sent =
-    let whole = member_gives (bytes e.0) (SendsKey (bytes e.0)) (w e.1)
-    (WritesEach (WritesEntry (λ k old new. Logs old new (event.text (bytes k))) w) more) P (EachMember P)
-    (text_key_gives (bytes e.0)) (given e.1 (All-head (λ x. V x.1) e more all))
-    (entries_give bytes w V P given more (All-tail (λ x. V x.1) e more all)) in
-    let a = whole es new (sent.1.2, sent.0, (sent.1.0, sent.1.1, sent.1.3, sent.1.4, sent.1.5), sent.1.6, sent.2) in
-    (a.0, a.1, λ rest s last plain run. let b = a.2 rest s last plain run in (b.0, b.1, first b.1 b.2, b.3, b.4, b.5))
-  where
-    first : (ms : json.Members) → FirstMember (bytes e.0) P (EachMember P) ms → EachMember P ms
-    first json.no_members h = absurd h
-    first (json.member k j ms) h = (h.1, h.2)
-
-pub map_agrees : {K A : Type 0} (rows : List Row) → IsChecked rows → (n key value : ℕ) → HasShape rows n (shape.map_from key value)
-    → HasShape rows key shape.text → (bytes : K → Text) (w : A → Log → Log → Type 0) (V : A → Type 0)
-    → ((x : A) → V x → Gives (w x) (Means rows value)) → (es : List (K × A)) → All (λ e. V e.1) es
-    → Gives (WritesMap (λ k old new. Logs old new (event.text (bytes k))) w es) (Means rows n)
-map_agrees rows checked n key value is texts bytes w V given es all =
-    weaker (WritesMap (λ k old new. Logs old new (event.text (bytes k))) w es) (IsObject (EachMember (Means rows value))) (Means rows n)
-    (map_means rows checked n key value is texts)
-    (struct_gives (length es) (WritesEach (WritesEntry (λ k old new. Logs old new (event.text (bytes k))) w) es) (EachMember (Means rows value))
-    (entries_give bytes w V (Means rows value) given es all))

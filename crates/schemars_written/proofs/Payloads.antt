@@ -21,7 +21,7 @@ use Rattle.schemars_types.specs.Effective.{expanded_payload, flattened_fields, f
 use Rattle.schemars_types.specs.Meaning.{belongs_within, choices_within, each_of, has_fields, has_payload, holds, matches_of}
 use Rattle.schemars_types.specs.declared.contract.Contract.TheVariants.{Serialize}
 use Rattle.schemars_written.specs.Gives.{IsArray, IsObject}
-use Rattle.schemars_written.specs.Fits.{Means, HasShape, HasVariant}
+use Rattle.schemars_written.specs.Fits.{MeansUnder, HasShape, HasVariant}
 use Rattle.schemars_written.proofs.Atoms.{part_low, Some_same}
 use Rattle.schemars_written.proofs.Lists.{Of, array_parts, parts_fit}
 use Rattle.schemars_written.proofs.Objects.{Apart, Matches, fields_belong}
@@ -72,7 +72,8 @@ enum_lists : (rows : List Row) → IsChecked rows → (n : ℕ) (tagging : Taggi
 enum_lists rows checked n tagging xs is = subst (λ (ls : List (List Text)). AreDistinctLists ls)
     (ap (λ o. option_map_or (λ (e : Entry). names_of e.shape) o []) is.1 ∙ ap names_of is.2) (checked.names_differ n)
 
-pub payload_apart : (rows : List Row) → IsChecked rows → (n : ℕ) (tagging : Tagging) (xs : List Variant) → HasShape rows n (shape.enum tagging xs)
+pub payload_apart : (rows : List Row) → IsChecked rows → (n : ℕ) (tagging : Tagging) (xs : List Variant)
+    → HasShape rows n (shape.enum tagging xs)
     → (name : Text) (p : Payload) → HasVariant name p xs → IsDistinct bytes_eq (payload_names p)
 payload_apart rows checked n tagging xs is name p has =
     names_in name p xs has (later_lists (tagging_keys tagging) (variant_names xs) (enum_lists rows checked n tagging xs is)).1
@@ -83,7 +84,8 @@ unfolding IsDistinct
 keys_apart rows checked n tag content closed xs is = (enum_lists rows checked n (by_tag_and_content tag content closed) xs is).0.0.0
 
 -- the rows of a variant are rows
-pub payload_low : (rows : List Row) → IsChecked rows → (n : ℕ) (tagging : Tagging) (xs : List Variant) → HasShape rows n (shape.enum tagging xs)
+pub payload_low : (rows : List Row) → IsChecked rows → (n : ℕ) (tagging : Tagging) (xs : List Variant)
+    → HasShape rows n (shape.enum tagging xs)
     → (name : Text) (p : Payload) → HasVariant name p xs → (m : ℕ) → Contains (payload_numbers p) m
     → (m < length rows) × (rank rows m < length rows)
 payload_low rows checked n tagging xs is name p has m c =
@@ -93,11 +95,11 @@ payload_low rows checked n tagging xs is name p has m c =
 -- ---- what payloads mean
 
 -- the JSON of a payload; that of a unit is null
-abbrev pub PayloadMeans : List Row → Payload → Json → Type 0
-PayloadMeans rows no_payload j = j ≡ json.null
-PayloadMeans rows (newtype_payload m) j = Means rows m j
-PayloadMeans rows (tuple_payload ns) j = IsArray (Of rows ns) j
-PayloadMeans rows (struct_payload x) j = (x.flatten ≡ []) × IsObject (Matches rows x.list) j
+abbrev pub PayloadMeans : (Patterns → Type 0) → List Row → Payload → Json → Type 0
+PayloadMeans reading rows no_payload j = j ≡ json.null
+PayloadMeans reading rows (newtype_payload m) j = MeansUnder reading rows m j
+PayloadMeans reading rows (tuple_payload ns) j = IsArray (Of reading rows ns) j
+PayloadMeans reading rows (struct_payload x) j = (x.flatten ≡ []) × IsObject (Matches reading rows x.list) j
 
 -- so many steps are enough at this depth
 abbrev pub Enough : List Row → Payload → ℕ → ℕ → Type 0
@@ -107,47 +109,52 @@ Enough rows (tuple_payload ns) h steps = h * length rows ≤ steps
 Enough rows (struct_payload x) h steps = h * length rows ≤ steps
 
 abbrev pub Holds : List Row → Patterns → ℕ → Payload → Data → Type 0
-Holds rows patterns steps p d = has_payload Serialize (belongs_within rows Serialize patterns steps) (choices_within rows Serialize patterns steps)
+Holds rows patterns steps p d =
+    has_payload Serialize (belongs_within rows Serialize patterns steps) (choices_within rows Serialize patterns steps)
     (expanded_payload (flattened_in rows) (part_enums rows) p) d ≡ true
 
-tuple_holds : (rows : List Row) (patterns : Patterns) (ns : List ℕ) (j : Json) (d : Data) (steps : ℕ)
-    → ((m : ℕ) → Contains ns m → rank rows m < length rows) → IsArray (Of rows ns) j → of_json j ≡ Some d → depth d * length rows ≤ steps
+tuple_holds : (reading : Patterns → Type 0) (rows : List Row) (patterns : Patterns) → reading patterns
+    → (ns : List ℕ) (j : Json) (d : Data) (steps : ℕ)
+    → ((m : ℕ) → Contains ns m → rank rows m < length rows) → IsArray (Of reading rows ns) j → of_json j ≡ Some d
+    → depth d * length rows ≤ steps
     → holds (as_array d) (each_of (belongs_within rows Serialize patterns steps) ns) ≡ true
-tuple_holds rows patterns ns json.null d steps low all reads few = absurd all
-tuple_holds rows patterns ns (json.boolean b) d steps low all reads few = absurd all
-tuple_holds rows patterns ns (json.number s) d steps low all reads few = absurd all
-tuple_holds rows patterns ns (json.string s) d steps low all reads few = absurd all
-tuple_holds rows patterns ns (json.object ms) d steps low all reads few = absurd all
-tuple_holds rows patterns ns (json.array js) d steps low all reads few =
+tuple_holds reading rows patterns takes ns json.null d steps low all reads few = absurd all
+tuple_holds reading rows patterns takes ns (json.boolean b) d steps low all reads few = absurd all
+tuple_holds reading rows patterns takes ns (json.number s) d steps low all reads few = absurd all
+tuple_holds reading rows patterns takes ns (json.string s) d steps low all reads few = absurd all
+tuple_holds reading rows patterns takes ns (json.object ms) d steps low all reads few = absurd all
+tuple_holds reading rows patterns takes ns (json.array js) d steps low all reads few =
     let r = array_parts (of_items js) d reads in
     let enough : suc (items_depth r.0) * length rows ≤ steps = subst (λ v. depth v * length rows ≤ steps) (sym r.2) few in
     subst (λ v. holds (as_array v) (each_of (belongs_within rows Serialize patterns steps) ns) ≡ true) r.2
-    (parts_fit rows patterns ns js r.0 low all r.1 (items_depth r.0) steps (omega arith) enough)
+    (parts_fit reading rows patterns takes ns js r.0 low all r.1 (items_depth r.0) steps (omega arith) enough)
 
-struct_holds : (rows : List Row) (patterns : Patterns) (fs : List Field) (closed : Bool) (j : Json) (d : Data) (steps : ℕ)
+struct_holds : (reading : Patterns → Type 0) (rows : List Row) (patterns : Patterns) → reading patterns
+    → (fs : List Field) (closed : Bool) (j : Json) (d : Data) (steps : ℕ)
     → ((m : ℕ) → Contains (map (λ f. f.ty) fs) m → (m < length rows) × (rank rows m < length rows)) → Apart fs
-    → IsObject (Matches rows fs) j → of_json j ≡ Some d → depth d * length rows ≤ steps
+    → IsObject (Matches reading rows fs) j → of_json j ≡ Some d → depth d * length rows ≤ steps
     → has_fields Serialize (belongs_within rows Serialize patterns steps) [] (fs ++ []) closed d ≡ true
-struct_holds rows patterns fs closed json.null d steps low apart all reads few = absurd all
-struct_holds rows patterns fs closed (json.boolean b) d steps low apart all reads few = absurd all
-struct_holds rows patterns fs closed (json.number s) d steps low apart all reads few = absurd all
-struct_holds rows patterns fs closed (json.string s) d steps low apart all reads few = absurd all
-struct_holds rows patterns fs closed (json.array js) d steps low apart all reads few = absurd all
-struct_holds rows patterns fs closed (json.object ms) d steps low apart all reads few =
-    fields_belong rows patterns fs closed ms d steps low apart all reads few
+struct_holds reading rows patterns takes fs closed json.null d steps low apart all reads few = absurd all
+struct_holds reading rows patterns takes fs closed (json.boolean b) d steps low apart all reads few = absurd all
+struct_holds reading rows patterns takes fs closed (json.number s) d steps low apart all reads few = absurd all
+struct_holds reading rows patterns takes fs closed (json.string s) d steps low apart all reads few = absurd all
+struct_holds reading rows patterns takes fs closed (json.array js) d steps low apart all reads few = absurd all
+struct_holds reading rows patterns takes fs closed (json.object ms) d steps low apart all reads few =
+    fields_belong reading rows patterns takes fs closed ms d steps low apart all reads few
 
-pub payload_holds : (rows : List Row) (patterns : Patterns) (p : Payload) (j : Json) (d : Data) (steps : ℕ)
+pub payload_holds : (reading : Patterns → Type 0) (rows : List Row) (patterns : Patterns) → reading patterns
+    → (p : Payload) (j : Json) (d : Data) (steps : ℕ)
     → ((m : ℕ) → Contains (payload_numbers p) m → (m < length rows) × (rank rows m < length rows))
-    → IsDistinct bytes_eq (payload_names p) → PayloadMeans rows p j → of_json j ≡ Some d → Enough rows p (depth d) steps
+    → IsDistinct bytes_eq (payload_names p) → PayloadMeans reading rows p j → of_json j ≡ Some d → Enough rows p (depth d) steps
     → Holds rows patterns steps p d
-payload_holds rows patterns no_payload j d steps low apart means reads few =
+payload_holds reading rows patterns takes no_payload j d steps low apart means reads few =
     subst (λ v. is_null v ≡ true) (Some_same null d (ap of_json (sym means) ∙ reads)) refl
-payload_holds rows patterns (newtype_payload m) j d steps low apart means reads few = means patterns d reads steps few
-payload_holds rows patterns (tuple_payload ns) j d steps low apart means reads few =
-    tuple_holds rows patterns ns j d steps (λ m c. (low m c).1) means reads few
-payload_holds rows patterns (struct_payload x) j d steps low apart means reads few =
+payload_holds reading rows patterns takes (newtype_payload m) j d steps low apart means reads few = means patterns takes d reads steps few
+payload_holds reading rows patterns takes (tuple_payload ns) j d steps low apart means reads few =
+    tuple_holds reading rows patterns takes ns j d steps (λ m c. (low m c).1) means reads few
+payload_holds reading rows patterns takes (struct_payload x) j d steps low apart means reads few =
     subst (λ (ps : List Flattened). has_fields Serialize (belongs_within rows Serialize patterns steps)
     (matches_of (choices_within rows Serialize patterns steps) (map enum_at (flattened_enums (part_enums rows) ps)) d)
     (x.list ++ flattened_fields (flattened_in rows) ps) x.closed d ≡ true) (sym means.0)
-    (struct_holds rows patterns x.list x.closed j d steps
+    (struct_holds reading rows patterns takes x.list x.closed j d steps
     (λ m c. low m (Contains-append_left (map (λ f. f.ty) x.list) (map (λ p. p.ty) x.flatten) m c)) apart means.1 reads few)

@@ -29,7 +29,8 @@ use Rattle.schemars_types.specs.Rows.{Row}
 use Rattle.schemars_types.specs.Faults.{IsChecked}
 use Rattle.schemars_types.specs.Meaning.{is_of_kind}
 use Rattle.schemars_written.specs.Gives.{Gives}
-use Rattle.schemars_written.specs.Fits.{MeansJust, HasShape, IsWithin64}
+use Rattle.schemars_written.specs.Readings.{AnyReading, IsWithin64}
+use Rattle.schemars_written.specs.Fits.{MeansJust, HasShape}
 use Rattle.schemars_written.proofs.Digits.{number_of-decimal, number_of-negative}
 use Rattle.schemars_written.proofs.Atoms.{one, step, known, unsigned_gives, signed_gives, natural_means, integer_means, one_character}
 use Rattle.schemars_written.proofs.Laws.{within}
@@ -56,7 +57,11 @@ pub bool_shows : (rows : List Row) (n : ℕ) (b : Bool) → HasShape rows n shap
     → Gives (λ old new. Logs old new (event.boolean b)) (MeansJust rows n (boolean b))
 bool_shows rows n b is = one (event.boolean b) (MeansJust rows n (boolean b)) (λ s mid plain took. (
   json.boolean b,
-  (known rows n (json.boolean b) (boolean b) refl (λ patterns. step rows patterns n shape.bool (boolean b) is (λ steps low. refl)), refl),
+  (
+    known AnyReading rows n (json.boolean b) (boolean b) refl
+        (λ patterns. step rows patterns n shape.bool (boolean b) is (λ steps low. refl)),
+    refl,
+  ),
   grind (arith, common_steps, took),
   grind (arith, common_steps, took),
 ))
@@ -65,7 +70,11 @@ pub text_shows : (rows : List Row) (n : ℕ) (t : List ℕ) → HasShape rows n 
     → Gives (λ old new. Logs old new (event.text t)) (MeansJust rows n (string t))
 text_shows rows n t is = one (event.text t) (MeansJust rows n (string t)) (λ s mid plain took. (
   json.string t,
-  (known rows n (json.string t) (string t) refl (λ patterns. step rows patterns n shape.text (string t) is (λ steps low. refl)), refl),
+  (
+    known AnyReading rows n (json.string t) (string t) refl
+        (λ patterns. step rows patterns n shape.text (string t) is (λ steps low. refl)),
+    refl,
+  ),
   grind (arith, common_steps, took),
   grind (arith, common_steps, took),
 ))
@@ -75,7 +84,7 @@ pub char_shows : (rows : List Row) (n c : ℕ) → HasShape rows n shape.char
 char_shows rows n c is = one (event.character c) (MeansJust rows n (string (encode_utf8 c))) (λ s mid plain took. (
   json.string (encode_utf8 c),
   (
-    known rows n (json.string (encode_utf8 c)) (string (encode_utf8 c)) refl (λ patterns.
+    known AnyReading rows n (json.string (encode_utf8 c)) (string (encode_utf8 c)) refl (λ patterns.
         step rows patterns n shape.char (string (encode_utf8 c)) is (λ steps low. one_character c)),
     refl,
   ),

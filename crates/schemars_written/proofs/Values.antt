@@ -57,14 +57,14 @@ number_parts None d h = absurd (cc)
 number_parts (Some x) d h = (x, Some_same (number x) d h)
 
 pub number_means : (rows : List Row) (n : ℕ) → HasShape rows n shape.number → (s : List ℕ) → Means rows n (json.number s)
-number_means rows n is s patterns d reads =
+number_means rows n is s patterns takes d reads =
     let x = number_parts (number_of s) d reads in
     subst (λ v. Fits rows patterns n v) x.1 (step rows patterns n shape.number (number x.0) is (λ steps low. refl))
 
 -- and so it is in a row that has every number
 numeral_means : (rows : List Row) (n : ℕ) → IsNumberRow rows n → (s : List ℕ) → Means rows n (json.number s)
 numeral_means rows n (inl is) s = number_means rows n is s
-numeral_means rows n (inr is) s = λ patterns d reads.
+numeral_means rows n (inr is) s = λ patterns takes d reads.
     let x = number_parts (number_of s) d reads in
     subst (λ v. Fits rows patterns n v) x.1 (step rows patterns n (shape.literal is.0) (number x.0) is.1 (λ steps low. is.2 patterns x.0))
 
@@ -160,4 +160,4 @@ mutual
 
 pub value_agrees : (rows : List Row) (n : ℕ) (d : Data) → HasShape rows n shape.any → Gives (SendsValue d) (Means rows n)
 value_agrees rows n d is = weaker (SendsValue d) Any (Means rows n)
-    (λ j any patterns v reads. step rows patterns n shape.any v is (λ steps low. refl)) (value_gives d)
+    (λ j any patterns takes v reads. step rows patterns n shape.any v is (λ steps low. refl)) (value_gives d)

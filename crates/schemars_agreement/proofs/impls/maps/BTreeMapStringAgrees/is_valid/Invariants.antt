@@ -1,5 +1,0 @@
-use Rattle.schemars_written.proofs.Loops.{AllUpTo}
-use Rattle.schemars_agreement.proofs.impls.maps.BTreeMapStringAgrees.is_valid.Given as goal
-
-abbrev pub invariant-loop-key : goal.invariant-loop-key
-invariant-loop-key g l = AllUpTo (λ e. g.T.Agrees.valid e.1) l.self.entries l.key-iterator
