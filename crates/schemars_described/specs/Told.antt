@@ -56,22 +56,6 @@ triple_row t u v = tuple_row (and_parts t (and_parts u (and_parts v no_parts)))
 abbrev pub quadruple_row : TypeRow → TypeRow → TypeRow → TypeRow → TypeRow
 quadruple_row t u v w = tuple_row (and_parts t (and_parts u (and_parts v (and_parts w no_parts))))
 
--- ---- structs
-
--- the entry of a struct of two fields that have to be there, and of no other keys
-abbrev pub two_entry : Text → Text → ℕ → ℕ → Entry
-two_entry first second n m = without_notes false (struct (bare_fields (needed first n ∷ (needed second m ∷ [])) true))
-
--- a struct with such an entry, whose name is its id
-abbrev pub two_fields : Text → Text → TypeRow → Text → TypeRow → TypeRow
-two_fields name first t second u = record {
-  id = name;
-  name = name;
-  inline = false;
-  making = OfTwo t.id u.id (two_entry first second);
-  parts = λ d. IsIn t d × IsIn u d;
-}
-
 -- ---- tables
 
 -- The table follows a dictionary that tells the rows of a type and of its parts.
