@@ -1,6 +1,8 @@
 //! Values that are written beside the rows that their types describe.
 #![tactic(auto)]
 
+mod action;
+mod action_schema;
 mod label;
 mod label_schema;
 mod list;
@@ -11,6 +13,7 @@ mod reading_schema;
 mod sensor;
 mod sensor_schema;
 
+pub use action::Action;
 pub use label::Label;
 pub use list::{accepted_list, written_list};
 pub use memo::Memo;

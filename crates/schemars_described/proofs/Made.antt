@@ -1,6 +1,6 @@
 -- How the entries of structs and enums are made, as their parts are added one after another: a term of one word for each call, in the
 -- order of the calls, whose arguments are the calls' clauses.
-use Rattle.std.proofs.Common.{◌≡◌, ℕ, List, [], ◌∷◌, ◌++◌, Bool, false, Option, Some, None, map, option_map, option_and_then, refl, sym, ap, ◌∙◌, subst, append_assoc, append-nil}
+use Rattle.std.proofs.Common.{◌≡◌, ℕ, List, [], ◌∷◌, ◌++◌, Bool, false, Option, Some, None, map, option_map, option_and_then, refl, sym, ap, ◌∙◌, append_assoc, append-nil}
 use Rattle.schemars_schema.specs.Json.{Text}
 use Rattle.schemars_shapes.specs.Shape.{Field, Payload, no_payload, newtype_payload, tuple_payload, struct_payload, Variant, Tagging, struct, enum, Entry, without_notes, bare_fields, field_of, variant_of, internal_variant_of}
 use Rattle.schemars_shapes.specs.declared.shape.Field as src-field

@@ -1,17 +1,15 @@
 -- The row of a type in a table whose rows are as a dictionary tells.
-use Rattle.std.proofs.Common.{◌≡◌, inl, inr, arith, ℕ, List, [], ◌∷◌, ◌++◌, Bool, true, false, Option, Some, None, IsSome, option_map, option_and_then, refl, sym, ap, ◌∙◌, subst, if◌then◌else◌, ◌==◌}
+use Rattle.std.proofs.Common.{◌≡◌, inl, inr, arith, ℕ, List, [], ◌∷◌, Bool, true, false, Option, Some, None, IsSome, option_map, option_and_then, refl, sym, ap, ◌∙◌, subst, if◌then◌else◌, ◌==◌}
 use Rattle.std.proofs.lemmas.Bool.Decides.{nat_tests}
 use Rattle.schemars_schema.specs.Json.{Text}
-use Rattle.schemars_shapes.specs.Shape.{Shape, Entry, in_place, option, seq, set, map_from, array, tuple, Field, struct, bare_fields, needed, without_notes}
+use Rattle.schemars_shapes.specs.Shape.{Shape, Entry, in_place, option, seq, set, map_from, array, tuple}
 use Rattle.schemars_types.specs.Rows.{Row, place_of, entry_at}
 use Rattle.schemars_types.specs.Faults.{IsChecked}
 use Rattle.schemars_types.proofs.Registered.{place_of-below}
-use Rattle.schemars_written.specs.Fits.{HasShape, IsArrayRow, HasFields, NextField, LastField}
+use Rattle.schemars_written.specs.Fits.{HasShape, IsArrayRow}
 use Rattle.schemars_impls.specs.Describes.{places_of}
 use Rattle.schemars_impls.specs.Dictionary.{Dictionary, Told, TypeRow, told_of, IsIn, IsTold, IsEntryOf, IsRowOf, Follows, Pending, staged, alone, of_one, of_two}
 use Rattle.schemars_impls.specs.Containers.{option_row, seq_row, set_row, map_row, array_row, PartRows, tuple_row, HasItems}
-use Rattle.schemars_impls.specs.Keeps.{Keeps}
-use Rattle.schemars_impls.proofs.Keeping.{place_of-kept}
 use Rattle.schemars_described.specs.Told.{Tells, OfItems, AreAsTold, IsToldIn, telling, single_row, pair_row, triple_row, quadruple_row}
 
 -- ---- a table that follows a dictionary

@@ -1,8 +1,6 @@
 -- Dictionaries that tell the rows of a type and of its parts, and tables whose rows are as they tell.
 use Rattle.std.specs.Prelude.{◌≡◌, ◌⊎◌, ℕ, Bool, true, false, List, [], ◌∷◌, Option, Some, None, bytes_eq, if◌then◌else◌}
 use Rattle.schemars_schema.specs.Json.{Text}
-use Rattle.schemars_shapes.specs.Shape.{Entry, without_notes, struct, bare_fields, needed}
-use Rattle.schemars_impls.specs.Describes.{OfTwo}
 use Rattle.schemars_types.specs.Rows.{Row, place_of, entry_at}
 use Rattle.schemars_types.specs.Faults.{Refusal}
 use Rattle.schemars_types.specs.declared.error.TypesError.{TypesError}
