@@ -9,19 +9,24 @@ use Rattle.schemars_types.specs.declared.contract.Contract.TheVariants.{Serializ
 use Rattle.schemars_documents.specs.PlainTable.{IsPlainTable}
 use Rattle.schemars_headline.specs.Drafts.{Draft, dialect_of}
 use Rattle.schemars_headline.specs.Headline.{IsDraftPath}
-use Rattle.schemars_headline.specs.State.{HasOwnDefinitions, path_of}
-use Rattle.schemars_generate.specs.Generator.{Generator, state, transforms_of}
+use Rattle.schemars_headline.specs.State.{HasOwnDefinitions, stripped}
+use Rattle.schemars_generate.specs.Generator.{Generator, settings_of, state}
+use Rattle.schemars_generate.specs.declared.settings.SchemaSettings.{SchemaSettings}
 use Rattle.schemars_generate.specs.Settings.{transforms_for}
 use Rattle.schemars_agreement.specs.declared.error.WriteError.TheVariants.{NotInJson}
 use Rattle.schemars_accepted.specs.declared.error.RootError.{RootError}
 use Rattle.schemars_accepted.specs.declared.error.RootError.TheVariants.{OutOfMemory, NotPlain, Generate, Write}
 
--- A generator of documents for what is written: its contract says so, its transforms are those of the draft, its definitions are at the
--- path of a draft, and the caller changed none of them.
+-- Settings for documents of what is written: their contract says so, their transforms are those of the draft, and their definitions are
+-- at the path of a draft.
+pub record AreForWriting {O : Type 0} (draft : Draft) (s : SchemaSettings O) : Type 0 where
+  pub contract : (settings_of s).contract ≡ Serialize
+  pub transforms : s.transforms.items ≡ transforms_for draft
+  pub path : IsDraftPath (stripped (settings_of s).definitions_path)
+
+-- A generator with such settings, of whose definitions the caller changed none.
 pub record IsForWriting {O : Type 0} (draft : Draft) (g : Generator O) : Type 0 where
-  pub contract : (state g).settings.contract ≡ Serialize
-  pub transforms : transforms_of g ≡ transforms_for draft
-  pub path : IsDraftPath (path_of (state g))
+  pub settings : AreForWriting draft g.settings
   pub own : HasOwnDefinitions (state g)
 
 -- in the draft, under every reading of patterns, the document with definitions at the path accepts the value, from the bound on

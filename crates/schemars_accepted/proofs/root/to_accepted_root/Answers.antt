@@ -28,7 +28,7 @@ returns-in-Ok-to_value-clause-accepted g c = λ draft writing.
     let plain : IsPlainTable rows = subst (λ rows. IsPlainTable rows) c.types.ensures.table
     (c.in-Ok-true.ensures.0 c.in-Ok-true.field-0-test) in
     root_accepts draft g.T.JsonSchema.says (state c.args.generator.now).settings rows root.n c.in-Ok.document (view c.in-Ok-to_value.written)
-    (c.in-Ok.ensures.means draft (state c.args.generator.now).settings refl writing.transforms writing.own writing.path) number plain writing.contract
+    (c.in-Ok.ensures.means draft (state c.args.generator.now).settings refl writing.settings.transforms writing.own writing.settings.path) number plain writing.settings.contract
     (as_read true rows checked root.n (place_of-below g.T.JsonSchema.says.id rows root.n number) (g.T.Described.writes c.args.value.now)
     (g.met.T.Agrees.agrees rows root.n c.args.value.now checked row (c.if-not-is_valid.ensures.passes refl))
     h.0 h.1 h.2 h.3 (view c.in-Ok-to_value.written) h.4) c.look.ensures
