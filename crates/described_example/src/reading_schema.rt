@@ -1,15 +1,17 @@
 //! How the struct describes itself, and that its values agree with that.
 #![tactic(auto, using(schemars_impls::proofs::OwnTypes::own_types), unfolding(schemars_impls::specs::Dictionary::alone))]
 
-ghost use Rattle.std.specs.Prelude.{codes, ◌++◌, ◌∷◌, IfOk};
+ghost use Rattle.std.specs.Prelude.{codes, true, refl, ◌++◌, ◌∷◌, IfOk};
 ghost use Rattle.serde_json.specs.View.{view};
-ghost use Rattle.schemars_written.specs.Fits.{HasShape};
 ghost use Rattle.schemars_written.specs.Writes.{Belongs};
-ghost use Rattle.schemars_described.specs.Told.{tell, TellsWith, two_fields};
-ghost use Rattle.schemars_described.specs.Laws.{alone_in, alone_row, tells_in, two_fields_at};
+ghost use Rattle.schemars_described.specs.Told.{tell, TellsWith};
+ghost use Rattle.schemars_described.specs.Laws.{tells_in};
+ghost use Rattle.schemars_described.specs.Numbered.{fields_row, and_field, no_field, required};
+ghost use Rattle.schemars_described.specs.OwnLaws.{fields_row_at};
+ghost use Rattle.schemars_described.specs.contracts.impls.primitives.StringAgreesAsDescribed.TheImpl.Laws as string;
+ghost use Rattle.schemars_described.specs.contracts.impls.primitives.U8AgreesAsDescribed.TheImpl.Laws as u8_impl;
 
 use crate::reading::Reading;
-use schemars_agreement::Agrees;
 use schemars_described::{AgreesAsDescribed, DescribedError, to_described_value};
 use schemars_impls::{JsonSchema, REQUIRED, add_field, struct_entry};
 use schemars_types::{TypeEntry, TypeNo, Types, TypesError};
@@ -18,8 +20,9 @@ use std::alloc::{AllocError, Global};
 use std::borrow::CowStr;
 
 impl JsonSchema for Reading {
-    ghost says = { two_fields (codes "Reading") (codes "name") ⟦<String as JsonSchema>⟧.says
-        (codes "value") ⟦<u8 as JsonSchema>⟧.says };
+    ghost says = { fields_row (codes "Reading") true
+        (and_field (codes "name") required ⟦<String as JsonSchema>⟧.says
+        (and_field (codes "value") required ⟦<u8 as JsonSchema>⟧.says no_field)) };
 
     fn inline_schema() -> bool {
         false
@@ -49,13 +52,15 @@ impl AgreesAsDescribed for Reading {
         (λ d. ⟦<String as AgreesAsDescribed>⟧.is_told d × ⟦<u8 as AgreesAsDescribed>⟧.is_told d) };
 
     ghost is_in = { λ d told. tells_in _ d told.0
-        (alone_in _ _ _ _ _ told.1.0, alone_in _ _ _ _ _ told.1.1) };
+        (string.is_in-law _ told.1.0, (u8_impl.is_in-law _ told.1.1, tt)) };
 
-    ghost described = { λ d rows n told are checked there. two_fields_at
-        (codes "Reading") (codes "name") (codes "value") _ _
-        ⟦<String as Agrees>⟧.is_row ⟦<u8 as Agrees>⟧.is_row d rows n told.0 are checked there
-        (λ m at. alone_row _ _ _ _ _ rows m told.1.0 are checked at)
-        (λ m at. alone_row _ _ _ _ _ rows m told.1.1 are checked at) };
+    ghost described = { λ d rows n told are checked there. fields_row_at _ _ _ _ _
+        d rows n told.0 are checked there
+        (λ number at. (
+          refl,
+          string.described-law _ rows _ told.1.0 are checked at.0,
+          (refl, u8_impl.described-law _ rows _ told.1.1 are checked at.1.0, tt),
+        )) };
 }
 
 /// Returns a table, the number of the row of readings, and what serde writes for this one, which

@@ -1,18 +1,16 @@
 -- The row of a type in a table whose rows are as a dictionary tells.
-use Rattle.std.proofs.Common.{◌≡◌, inl, inr, arith, ℕ, List, [], ◌∷◌, ◌++◌, Bool, true, false, Option, Some, None, IsSome, option_map, option_and_then, refl, sym, ap, ◌∙◌, subst, if◌then◌else◌, ◌==◌}
+use Rattle.std.proofs.Common.{◌≡◌, inl, inr, arith, ℕ, List, [], ◌∷◌, Bool, true, false, Option, Some, None, IsSome, option_map, option_and_then, refl, sym, ap, ◌∙◌, subst, if◌then◌else◌, ◌==◌}
 use Rattle.std.proofs.lemmas.Bool.Decides.{nat_tests}
 use Rattle.schemars_schema.specs.Json.{Text}
-use Rattle.schemars_shapes.specs.Shape.{Shape, Entry, in_place, option, seq, set, map_from, array, tuple, Field, struct, bare_fields, needed, without_notes}
+use Rattle.schemars_shapes.specs.Shape.{Shape, Entry, in_place, option, seq, set, map_from, array, tuple}
 use Rattle.schemars_types.specs.Rows.{Row, place_of, entry_at}
 use Rattle.schemars_types.specs.Faults.{IsChecked}
 use Rattle.schemars_types.proofs.Registered.{place_of-below}
-use Rattle.schemars_written.specs.Fits.{HasShape, IsArrayRow, HasFields, NextField, LastField}
+use Rattle.schemars_written.specs.Fits.{HasShape, IsArrayRow}
 use Rattle.schemars_impls.specs.Describes.{places_of}
 use Rattle.schemars_impls.specs.Dictionary.{Dictionary, Told, TypeRow, told_of, IsIn, IsTold, IsEntryOf, IsRowOf, Follows, Pending, staged, alone, of_one, of_two}
 use Rattle.schemars_impls.specs.Containers.{option_row, seq_row, set_row, map_row, array_row, PartRows, tuple_row, HasItems}
-use Rattle.schemars_impls.specs.Keeps.{Keeps}
-use Rattle.schemars_impls.proofs.Keeping.{place_of-kept}
-use Rattle.schemars_described.specs.Told.{Tells, OfItems, AreAsTold, IsToldIn, telling, two_entry, two_fields, single_row, pair_row, triple_row, quadruple_row}
+use Rattle.schemars_described.specs.Told.{Tells, OfItems, AreAsTold, IsToldIn, telling, single_row, pair_row, triple_row, quadruple_row}
 
 -- ---- a table that follows a dictionary
 
@@ -205,7 +203,7 @@ array_at t len R told d rows n tells of are checked there part =
 
 -- ---- tuples
 
-next_place : (id : Text) (ids : List Text) (rows : List Row) (ns : List ℕ) → places_of (id ∷ ids) rows ≡ Some ns
+pub next_place : (id : Text) (ids : List Text) (rows : List Row) (ns : List ℕ) → places_of (id ∷ ids) rows ≡ Some ns
     → (m : ℕ) × (ms : List ℕ) × (place_of id rows ≡ Some m) × (places_of ids rows ≡ Some ms) × (ns ≡ m ∷ ms)
 next_place id ids rows ns placed = go (place_of id rows) (places_of ids rows) placed
   where
@@ -218,7 +216,7 @@ next_place id ids rows ns placed = go (place_of id rows) (places_of ids rows) pl
 no_place : (rows : List Row) (ns : List ℕ) → places_of [] rows ≡ Some ns → ns ≡ []
 no_place rows ns placed = cc
 
-made_of_all : (make : List ℕ → Entry) (o : Option (List ℕ)) (e : Entry) → option_map make o ≡ Some e
+pub made_of_all : (make : List ℕ → Entry) (o : Option (List ℕ)) (e : Entry) → option_map make o ≡ Some e
     → (ns : List ℕ) × (o ≡ Some ns) × (e ≡ make ns)
 made_of_all make None e made = cc
 made_of_all make (Some ns) e made = (ns, refl, cc)
@@ -301,40 +299,3 @@ quadruple_at t u v w T U V W d rows n tells are checked there is_t is_u is_v is_
     let from_b : a.1 ≡ b.0 ∷ c.0 ∷ d.0 ∷ [] = longer b.0 a.1 b.1 (c.0 ∷ d.0 ∷ []) b.4 from_c in
     let is : p.0 ≡ a.0 ∷ b.0 ∷ c.0 ∷ d.0 ∷ [] = longer a.0 p.0 a.1 (b.0 ∷ c.0 ∷ d.0 ∷ []) a.4 from_b in
     (a.0, b.0, c.0, d.0, has_tuple rows n p.0 (a.0 ∷ b.0 ∷ c.0 ∷ d.0 ∷ []) is p.2, is_t a.0 a.2, is_u b.0 b.2, is_v c.0 c.2, is_w d.0 d.2)
-
--- ---- structs
-
-pub two_fields_at : (name first second : Text) (t u : TypeRow) (T U : List Row → ℕ → Type 0) (d : Dictionary) (rows : List Row) (n : ℕ)
-    → Tells (two_fields name first t second u) d → AreAsTold d.told rows → IsChecked rows → place_of name rows ≡ Some n
-    → ((m : ℕ) → place_of t.id rows ≡ Some m → T rows m) → ((m : ℕ) → place_of u.id rows ≡ Some m → U rows m)
-    → HasFields rows n (NextField first (T rows) (NextField second (U rows) LastField))
-two_fields_at name first second t u T U d rows n tells are checked there is_t is_u =
-    let r = row_of (two_fields name first t second u) d rows n tells are checked there in
-    let p = made_of_two (λ a b. two_entry first second a b)
-    (place_of t.id rows) (place_of u.id rows) r.described.given r.described.made in (
-      needed first p.0 ∷ (needed second p.1 ∷ []),
-      true,
-      (r.entry, r.is, ap (λ (e : Entry). e.shape) r.described.is ∙ ap (λ (e : Entry). e.shape) p.4),
-      (refl, is_t p.0 p.2, (refl, is_u p.1 p.3, tt)),
-    )
-
--- what is made by adding the fields one after another
-pub two_fields_made : (a b first second : Text) (old new : List Row) (f1 f2 : List Field)
-    → option_map (λ n. needed first n ∷ []) (place_of a old) ≡ Some f1 → Keeps old new
-    → option_map (λ m. f1 ++ needed second m ∷ []) (place_of b new) ≡ Some f2
-    → option_and_then (λ n. option_map (λ m. two_entry first second n m)
-    (place_of b new)) (place_of a new) ≡ Some (without_notes false (struct (bare_fields f2 true)))
-two_fields_made a b first second old new f1 f2 one kept two =
-    go (place_of a old) (place_of b new) one two (λ n is. place_of-kept a n kept is)
-  where
-    go : (o p : Option ℕ) → option_map (λ n. needed first n ∷ []) o ≡ Some f1 → option_map (λ m. f1 ++ needed second m ∷ []) p ≡ Some f2
-        → ((n : ℕ) → o ≡ Some n → place_of a new ≡ Some n)
-        → option_and_then (λ n. option_map (λ m. two_entry first second n m) p)
-        (place_of a new) ≡ Some (without_notes false (struct (bare_fields f2 true)))
-    go None p h k same = cc
-    go (Some n) None h k same = cc
-    go (Some n) (Some m) h k same =
-        let f1_is : (needed first n ∷ []) ≡ f1 = cc in
-        let f2_is : f1 ++ needed second m ∷ [] ≡ f2 = cc in
-        rw (same n refl) (ap (λ fs. Some (without_notes false (struct (bare_fields fs true))))
-        (ap (λ fs. fs ++ needed second m ∷ []) f1_is ∙ f2_is))

@@ -1,8 +1,6 @@
 -- Dictionaries that tell the rows of a type and of its parts, and tables whose rows are as they tell.
 use Rattle.std.specs.Prelude.{◌≡◌, ◌⊎◌, ℕ, Bool, true, false, List, [], ◌∷◌, Option, Some, None, bytes_eq, if◌then◌else◌}
 use Rattle.schemars_schema.specs.Json.{Text}
-use Rattle.schemars_shapes.specs.Shape.{Entry, without_notes, struct, bare_fields, needed}
-use Rattle.schemars_impls.specs.Describes.{OfTwo}
 use Rattle.schemars_types.specs.Rows.{Row, place_of, entry_at}
 use Rattle.schemars_types.specs.Faults.{Refusal}
 use Rattle.schemars_types.specs.declared.error.TypesError.{TypesError}
@@ -55,22 +53,6 @@ triple_row t u v = tuple_row (and_parts t (and_parts u (and_parts v no_parts)))
 
 abbrev pub quadruple_row : TypeRow → TypeRow → TypeRow → TypeRow → TypeRow
 quadruple_row t u v w = tuple_row (and_parts t (and_parts u (and_parts v (and_parts w no_parts))))
-
--- ---- structs
-
--- the entry of a struct of two fields that have to be there, and of no other keys
-abbrev pub two_entry : Text → Text → ℕ → ℕ → Entry
-two_entry first second n m = without_notes false (struct (bare_fields (needed first n ∷ (needed second m ∷ [])) true))
-
--- a struct with such an entry, whose name is its id
-abbrev pub two_fields : Text → Text → TypeRow → Text → TypeRow → TypeRow
-two_fields name first t second u = record {
-  id = name;
-  name = name;
-  inline = false;
-  making = OfTwo t.id u.id (two_entry first second);
-  parts = λ d. IsIn t d × IsIn u d;
-}
 
 -- ---- tables
 

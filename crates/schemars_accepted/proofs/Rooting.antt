@@ -1,0 +1,39 @@
+-- The root document of a type accepts what is written.
+use Rattle.std.proofs.Common.{◌≡◌, ℕ, List, Some, inl, sym, ap, ◌∙◌}
+use Rattle.serde_json.specs.Data.{Data}
+use Rattle.schemars_schema.specs.Json.{IsJson}
+use Rattle.schemars_schema.specs.Verdict.{verdict}
+use Rattle.schemars_types.specs.Meaning.{belongs}
+use Rattle.schemars_types.specs.Rows.{Row, place_of}
+use Rattle.schemars_types.specs.Faults.{IsChecked}
+use Rattle.schemars_types.specs.declared.contract.Contract.TheVariants.{Serialize}
+use Rattle.schemars_documents.specs.PlainTable.{IsPlainTable}
+use Rattle.schemars_headline.specs.Drafts.{Draft}
+use Rattle.schemars_headline.specs.State.{Settings, stripped}
+use Rattle.schemars_generate.specs.ByType.{MeansType, IsJoined}
+use Rattle.schemars_impls.specs.Dictionary.{Dictionary, TypeRow, IsIn}
+use Rattle.schemars_written.specs.Writes.{Belongs}
+use Rattle.schemars_described.specs.Told.{AreAsTold, IsToldIn}
+use Rattle.schemars_described.specs.Laws.{follows_told}
+use Rattle.schemars_accepted.specs.Rooted.{AcceptsWritten}
+
+-- the row of a type that has joined a table describes the type
+pub joined_row : (t : TypeRow) (told : Dictionary → Type 0) (R : List Row → ℕ → Type 0) → ((d : Dictionary) → told d → IsIn t d)
+    → ((d : Dictionary) (rows : List Row) (n : ℕ) → told d → AreAsTold d.told rows → IsChecked rows → place_of t.id rows ≡ Some n → R rows n)
+    → (old new : List Row) (n : ℕ) → IsToldIn told old → IsJoined t old new n → IsChecked new → R new n
+joined_row t told R is_in described old new n is joined checked =
+    let d = is.dictionary in
+    let follows = joined.registered.follows.each d (is_in d is.tells) is.follows in
+    described d new n is.tells (follows_told d new follows) checked joined.registered.added.number
+
+-- a document that means the type accepts what belongs to its row
+pub root_accepts : (draft : Draft) (t : TypeRow) (s : Settings) (rows : List Row) (n : ℕ) (document v : Data)
+    → MeansType draft t s rows document → place_of t.id rows ≡ Some n → IsPlainTable rows → s.contract ≡ Serialize → Belongs rows n v
+    → IsJson v → AcceptsWritten draft (stripped s.definitions_path) document v
+unfolding MeansType
+root_accepts draft t s rows n document v means number plain contract belongs_to json patterns followed bounded =
+    let found : Some means.n ≡ Some n = sym means.number ∙ number in
+    let same : means.n ≡ n = cc in
+    (means.headline (inl plain)).accepts_its_values patterns v json followed bounded
+    ∙ ap verdict (ap (λ c. belongs rows c patterns means.n v) contract ∙ ap (λ k. belongs rows Serialize patterns k v) same
+    ∙ belongs_to patterns)

@@ -1,0 +1,27 @@
+use Rattle.std.proofs.Common.{◌≡◌, List, [], sym, ap, subst, IfOk}
+use Rattle.std.proofs.lemmas.Result.{IfErr-weaker}
+use Rattle.serde_json.specs.View.{view}
+use Rattle.schemars_headline.specs.State.{path_of}
+use Rattle.schemars_types.specs.Rows.{Row}
+use Rattle.schemars_generate.specs.Generator.{Generator, state}
+use Rattle.schemars_described.specs.Laws.{told_in_empty}
+use Rattle.schemars_accepted.specs.Rooted.{AcceptsWritten, AreForWriting, RefusesRoot}
+use Rattle.schemars_accepted.proofs.root.to_accepted_document.Goals as goal
+
+pub to_accepted_root-requires : goal.to_accepted_root-requires
+to_accepted_root-requires g c =
+    let empty : c.new-generator.result.rows ≡ [] = ap (λ (x : Generator _). x.rows) c.new-generator.ensures.made in
+    record { told = told_in_empty g.T.AgreesAsDescribed.is_told g.T.AgreesAsDescribed.tells c.requires.told c.new-generator.result.rows empty }
+
+pub returns-clause-accepted : goal.returns-clause-accepted
+returns-clause-accepted g c = λ draft writing.
+    subst (λ (x : Generator _). IfOk c.to_accepted_root.result (λ r. AcceptsWritten draft (path_of (state x)) r.0 (view r.1)))
+    c.new-generator.ensures.made (c.to_accepted_root.ensures.accepted draft (record {
+      settings = subst (λ (x : Generator _). AreForWriting draft x.settings) (sym c.new-generator.ensures.made) writing;
+      own = c.new-generator.ensures.own;
+    }))
+
+pub returns-clause-refused : goal.returns-clause-refused
+returns-clause-refused g c = IfErr-weaker c.to_accepted_root.result (RefusesRoot (g.T.Agrees.valid c.args.value.now) c.to_accepted_root.new.generator.rows)
+    (λ e. (rows : List Row) × RefusesRoot (g.T.Agrees.valid c.args.value.now) rows e) (λ e is. (c.to_accepted_root.new.generator.rows, is))
+    c.to_accepted_root.ensures.refused

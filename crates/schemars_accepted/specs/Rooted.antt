@@ -1,0 +1,42 @@
+-- What is promised of the root document of a type and of a value of the type that is written.
+use Rattle.std.specs.Prelude.{◌≡◌, ◌≤◌, ℕ, List}
+use Rattle.serde_json.specs.Data.{Data}
+use Rattle.schemars_schema.specs.Json.{Text}
+use Rattle.schemars_schema.specs.Verdict.{Yes}
+use Rattle.schemars_schema.specs.Acceptance.{Patterns, accepts, bound}
+use Rattle.schemars_types.specs.Rows.{Row}
+use Rattle.schemars_types.specs.declared.contract.Contract.TheVariants.{Serialize}
+use Rattle.schemars_documents.specs.PlainTable.{IsPlainTable}
+use Rattle.schemars_headline.specs.Drafts.{Draft, dialect_of}
+use Rattle.schemars_headline.specs.Headline.{IsDraftPath}
+use Rattle.schemars_headline.specs.State.{HasOwnDefinitions, stripped}
+use Rattle.schemars_generate.specs.Generator.{Generator, settings_of, state}
+use Rattle.schemars_generate.specs.declared.settings.SchemaSettings.{SchemaSettings}
+use Rattle.schemars_generate.specs.Settings.{transforms_for}
+use Rattle.schemars_agreement.specs.declared.error.WriteError.TheVariants.{NotInJson}
+use Rattle.schemars_accepted.specs.declared.error.RootError.{RootError}
+use Rattle.schemars_accepted.specs.declared.error.RootError.TheVariants.{OutOfMemory, NotPlain, Generate, Write}
+
+-- Settings for documents of what is written: their contract says so, their transforms are those of the draft, and their definitions are
+-- at the path of a draft.
+pub record AreForWriting {O : Type 0} (draft : Draft) (s : SchemaSettings O) : Type 0 where
+  pub contract : (settings_of s).contract ≡ Serialize
+  pub transforms : s.transforms.items ≡ transforms_for draft
+  pub path : IsDraftPath (stripped (settings_of s).definitions_path)
+
+-- A generator with such settings, of whose definitions the caller changed none.
+pub record IsForWriting {O : Type 0} (draft : Draft) (g : Generator O) : Type 0 where
+  pub settings : AreForWriting draft g.settings
+  pub own : HasOwnDefinitions (state g)
+
+-- in the draft, under every reading of patterns, the document with definitions at the path accepts the value, from the bound on
+abbrev pub AcceptsWritten : Draft → Text → Data → Data → Type 0
+AcceptsWritten draft path document v = (patterns : Patterns) (followed : ℕ) → bound path document v ≤ followed
+    → accepts (dialect_of draft) document patterns followed document v ≡ Yes
+
+-- The table is refused only if it is not plain, and the value only if JSON does not have it.
+abbrev pub RefusesRoot : Type 0 → List Row → RootError → Type 0
+RefusesRoot Valid rows OutOfMemory = Unit {0}
+RefusesRoot Valid rows NotPlain = IsPlainTable rows → ⊥
+RefusesRoot Valid rows (Generate e) = Unit {0}
+RefusesRoot Valid rows (Write e) = e ≡ NotInJson → Valid → ⊥

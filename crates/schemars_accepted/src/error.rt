@@ -1,0 +1,21 @@
+//! Why a value is not written beside the document of its type.
+use schemars_agreement::WriteError;
+use schemars_generate::GenerateError;
+use thiserror::Error;
+
+/// Why a value is not written beside the document of its type.
+#[derive(Debug, Drop, Error)]
+pub enum RootError {
+    /// Out of memory.
+    #[error("OutOfMemory")]
+    OutOfMemory,
+    /// The table is not plain, so that nothing is promised of its documents.
+    #[error("NotPlain")]
+    NotPlain,
+    /// The document is not generated.
+    #[error(transparent)]
+    Generate(#[from] GenerateError),
+    /// The value is not written.
+    #[error(transparent)]
+    Write(#[from] WriteError),
+}

@@ -1,0 +1,82 @@
+//! The root document of a type, and a value that it accepts.
+ghost use Rattle.std.specs.Prelude.{List, IfOk, IfErr};
+ghost use Rattle.serde_json.specs.View.{view};
+ghost use Rattle.schemars_headline.specs.Drafts.{Draft};
+ghost use Rattle.schemars_headline.specs.State.{path_of, stripped};
+ghost use Rattle.schemars_generate.specs.Generator.{settings_of, state};
+ghost use Rattle.schemars_types.specs.Rows.{Row};
+ghost use Rattle.schemars_written.specs.Writes.{IsWritten};
+ghost use Rattle.schemars_described.specs.Told.{IsToldIn, telling};
+ghost use Rattle.schemars_accepted.specs.Rooted.{AcceptsWritten, AreForWriting, IsForWriting, RefusesRoot};
+
+use crate::error::RootError;
+use schemars_agreement::WriteError;
+use schemars_described::AgreesAsDescribed;
+use schemars_generate::{SchemaGenerator, SchemaSettings};
+use schemars_plain::is_plain;
+use schemars_schema::Schema;
+use schemars_validate::look;
+use schemars_walk::Transform;
+use serde_json::Value;
+use std::alloc::Global;
+
+/// Makes the root document of a type, as `SchemaGenerator::root_schema_for` does, and returns it
+/// with what serde writes for a value of the type, as `serde_json::to_value` does. The document
+/// accepts what is written, if the generator is one for what is written.
+///
+/// # Errors
+///
+/// `NotPlain` if the table is not plain with the type; those of `root_schema_for` and of
+/// `to_member_value`.
+pub fn to_accepted_root<T: AgreesAsDescribed, O: Transform + Drop>(
+    alloc: Global,
+    generator: &mut SchemaGenerator<O>,
+    value: &T,
+) -> Result<(Schema, Value), RootError>
+    requires told { IsToldIn T.is_told generator.old.rows }
+    ensures written { IfOk result (λ r. IsWritten (T.writes value.now) (view r.1)) }
+    ensures accepted { (draft : Draft) → IsForWriting draft generator.old → IfOk result
+        (λ r. AcceptsWritten draft (path_of (state generator.old)) r.0 (view r.1)) }
+    ensures refused { IfErr result (RefusesRoot (T.valid value.now) generator.new.rows) }
+{
+    if !value.is_valid() {
+        return Err(RootError::Write(WriteError::NotInJson));
+    }
+    let document = match generator.root_schema_for::<T>(alloc) {
+        Ok(document) => document,
+        Err(error) => return Err(RootError::Generate(error)),
+    };
+    match is_plain(alloc, generator.types()) {
+        Ok(true) => {}
+        Ok(false) => return Err(RootError::NotPlain),
+        Err(_) => return Err(RootError::OutOfMemory),
+    }
+    match serde_json::to_value(alloc, value) {
+        Ok(written) => {
+            look(&written);
+            Ok((document, written))
+        }
+        Err(error) => Err(RootError::Write(WriteError::Json(error))),
+    }
+}
+
+/// Makes the root document of a type by a new generator with these settings, and returns it with
+/// what serde writes for a value of the type, as `to_accepted_root` does.
+///
+/// # Errors
+///
+/// Those of `to_accepted_root`.
+pub fn to_accepted_document<T: AgreesAsDescribed, O: Transform + Drop>(
+    alloc: Global,
+    settings: SchemaSettings<O>,
+    value: &T,
+) -> Result<(Schema, Value), RootError>
+    requires told { T.is_told (telling T.tells) }
+    ensures written { IfOk result (λ r. IsWritten (T.writes value.now) (view r.1)) }
+    ensures accepted { (draft : Draft) → AreForWriting draft settings → IfOk result (λ r.
+        AcceptsWritten draft (stripped (settings_of settings).definitions_path) r.0 (view r.1)) }
+    ensures refused { IfErr result (λ e. (rows : List Row) × RefusesRoot (T.valid value.now) rows e) }
+{
+    let mut generator = SchemaGenerator::new(alloc, settings);
+    to_accepted_root(alloc, &mut generator, value)
+}
