@@ -2,6 +2,7 @@
 use Rattle.std.proofs.Common.{◌≡◌, ℕ, List, Some, inl, sym, ap, ◌∙◌}
 use Rattle.serde_json.specs.Data.{Data}
 use Rattle.schemars_schema.specs.Json.{IsJson}
+use Rattle.schemars_schema.specs.Acceptance.{Patterns}
 use Rattle.schemars_schema.specs.Verdict.{verdict}
 use Rattle.schemars_types.specs.Meaning.{belongs}
 use Rattle.schemars_types.specs.Rows.{Row, place_of}
@@ -12,7 +13,7 @@ use Rattle.schemars_headline.specs.Drafts.{Draft}
 use Rattle.schemars_headline.specs.State.{Settings, stripped}
 use Rattle.schemars_generate.specs.ByType.{MeansType, IsJoined}
 use Rattle.schemars_impls.specs.Dictionary.{Dictionary, TypeRow, IsIn}
-use Rattle.schemars_written.specs.Writes.{Belongs}
+use Rattle.schemars_written.specs.Writes.{BelongsUnder}
 use Rattle.schemars_described.specs.Told.{AreAsTold, IsToldIn}
 use Rattle.schemars_described.specs.Laws.{follows_told}
 use Rattle.schemars_accepted.specs.Rooted.{AcceptsWritten}
@@ -27,13 +28,13 @@ joined_row t told R is_in described old new n is joined checked =
     described d new n is.tells (follows_told d new follows) checked joined.registered.added.number
 
 -- a document that means the type accepts what belongs to its row
-pub root_accepts : (draft : Draft) (t : TypeRow) (s : Settings) (rows : List Row) (n : ℕ) (document v : Data)
-    → MeansType draft t s rows document → place_of t.id rows ≡ Some n → IsPlainTable rows → s.contract ≡ Serialize → Belongs rows n v
-    → IsJson v → AcceptsWritten draft (stripped s.definitions_path) document v
+pub root_accepts : (reading : Patterns → Type 0) (draft : Draft) (t : TypeRow) (s : Settings) (rows : List Row) (n : ℕ) (document v : Data)
+    → MeansType draft t s rows document → place_of t.id rows ≡ Some n → IsPlainTable rows → s.contract ≡ Serialize
+    → BelongsUnder reading rows n v → IsJson v → AcceptsWritten reading draft (stripped s.definitions_path) document v
 unfolding MeansType
-root_accepts draft t s rows n document v means number plain contract belongs_to json patterns followed bounded =
+root_accepts reading draft t s rows n document v means number plain contract belongs_to json patterns takes followed bounded =
     let found : Some means.n ≡ Some n = sym means.number ∙ number in
     let same : means.n ≡ n = cc in
     (means.headline (inl plain)).accepts_its_values patterns v json followed bounded
     ∙ ap verdict (ap (λ c. belongs rows c patterns means.n v) contract ∙ ap (λ k. belongs rows Serialize patterns k v) same
-    ∙ belongs_to patterns)
+    ∙ belongs_to patterns takes)

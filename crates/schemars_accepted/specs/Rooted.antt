@@ -11,6 +11,7 @@ use Rattle.schemars_headline.specs.Drafts.{Draft, dialect_of}
 use Rattle.schemars_headline.specs.Headline.{IsDraftPath}
 use Rattle.schemars_headline.specs.State.{HasOwnDefinitions, stripped}
 use Rattle.schemars_generate.specs.Generator.{Generator, settings_of, state}
+use Rattle.schemars_generate.specs.declared.error.GenerateError.{GenerateError}
 use Rattle.schemars_generate.specs.declared.settings.SchemaSettings.{SchemaSettings}
 use Rattle.schemars_generate.specs.Settings.{transforms_for}
 use Rattle.schemars_agreement.specs.declared.error.WriteError.TheVariants.{NotInJson}
@@ -29,14 +30,22 @@ pub record IsForWriting {O : Type 0} (draft : Draft) (g : Generator O) : Type 0 
   pub settings : AreForWriting draft g.settings
   pub own : HasOwnDefinitions (state g)
 
--- in the draft, under every reading of patterns, the document with definitions at the path accepts the value, from the bound on
-abbrev pub AcceptsWritten : Draft → Text → Data → Data → Type 0
-AcceptsWritten draft path document v = (patterns : Patterns) (followed : ℕ) → bound path document v ≤ followed
+-- in the draft, under each such reading of patterns, the document with definitions at the path accepts the value, from the bound on
+abbrev pub AcceptsWritten : (Patterns → Type 0) → Draft → Text → Data → Data → Type 0
+AcceptsWritten reading draft path document v =
+    (patterns : Patterns) → reading patterns → (followed : ℕ) → bound path document v ≤ followed
     → accepts (dialect_of draft) document patterns followed document v ≡ Yes
 
--- The table is refused only if it is not plain, and the value only if JSON does not have it.
-abbrev pub RefusesRoot : Type 0 → List Row → RootError → Type 0
-RefusesRoot Valid rows OutOfMemory = Unit {0}
-RefusesRoot Valid rows NotPlain = IsPlainTable rows → ⊥
-RefusesRoot Valid rows (Generate e) = Unit {0}
-RefusesRoot Valid rows (Write e) = e ≡ NotInJson → Valid → ⊥
+-- The table is refused only if it is not plain, and the value only if JSON does not have it; the document for a cause.
+abbrev pub RefusesRoot : (GenerateError → Type 0) → Type 0 → List Row → RootError → Type 0
+RefusesRoot Cause Valid rows OutOfMemory = Unit {0}
+RefusesRoot Cause Valid rows NotPlain = IsPlainTable rows → ⊥
+RefusesRoot Cause Valid rows (Generate e) = Cause e
+RefusesRoot Cause Valid rows (Write e) = e ≡ NotInJson → Valid → ⊥
+
+-- a refusal before the document is made, or because it is not
+abbrev pub IsBeforeDocument : RootError → Type 0
+IsBeforeDocument OutOfMemory = ⊥
+IsBeforeDocument NotPlain = ⊥
+IsBeforeDocument (Generate e) = Unit {0}
+IsBeforeDocument (Write e) = e ≡ NotInJson

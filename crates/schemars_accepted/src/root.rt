@@ -1,13 +1,14 @@
 //! The root document of a type, and a value that it accepts.
-ghost use Rattle.std.specs.Prelude.{List, IfOk, IfErr};
+ghost use Rattle.std.specs.Prelude.{◌≡◌, [], IfOk, IfErr};
 ghost use Rattle.serde_json.specs.View.{view};
 ghost use Rattle.schemars_headline.specs.Drafts.{Draft};
 ghost use Rattle.schemars_headline.specs.State.{path_of, stripped};
-ghost use Rattle.schemars_generate.specs.Generator.{settings_of, state};
-ghost use Rattle.schemars_types.specs.Rows.{Row};
+ghost use Rattle.schemars_generate.specs.ByType.{IsJoined, IsRootOfTypeRefusal};
+ghost use Rattle.schemars_generate.specs.Generator.{Generator, generator_over, held_transforms, settings_of, state};
+ghost use Rattle.schemars_written.specs.Readings.{IsAmong};
 ghost use Rattle.schemars_written.specs.Writes.{IsWritten};
 ghost use Rattle.schemars_described.specs.Told.{IsToldIn, telling};
-ghost use Rattle.schemars_accepted.specs.Rooted.{AcceptsWritten, AreForWriting, IsForWriting, RefusesRoot};
+ghost use Rattle.schemars_accepted.specs.Rooted.{AcceptsWritten, AreForWriting, IsBeforeDocument, IsForWriting, RefusesRoot};
 
 use crate::error::RootError;
 use schemars_agreement::WriteError;
@@ -22,12 +23,14 @@ use std::alloc::Global;
 
 /// Makes the root document of a type, as `SchemaGenerator::root_schema_for` does, and returns it
 /// with what serde writes for a value of the type, as `serde_json::to_value` does. The document
-/// accepts what is written, if the generator is one for what is written.
+/// accepts what is written, if the generator is one for what is written, under the readings of
+/// patterns that the type asks for.
 ///
 /// # Errors
 ///
 /// `NotPlain` if the table is not plain with the type; those of `root_schema_for` and of
-/// `to_member_value`.
+/// `to_member_value`. The generator is unchanged, apart from the state of user-defined transforms,
+/// if the document is not generated or JSON does not have the value.
 pub fn to_accepted_root<T: AgreesAsDescribed, O: Transform + Drop>(
     alloc: Global,
     generator: &mut SchemaGenerator<O>,
@@ -36,8 +39,13 @@ pub fn to_accepted_root<T: AgreesAsDescribed, O: Transform + Drop>(
     requires told { IsToldIn T.is_told generator.old.rows }
     ensures written { IfOk result (λ r. IsWritten (T.writes value.now) (view r.1)) }
     ensures accepted { (draft : Draft) → IsForWriting draft generator.old → IfOk result
-        (λ r. AcceptsWritten draft (path_of (state generator.old)) r.0 (view r.1)) }
-    ensures refused { IfErr result (RefusesRoot (T.valid value.now) generator.new.rows) }
+        (λ r. AcceptsWritten (IsAmong T.readings value.now) draft (path_of (state generator.old))
+        r.0 (view r.1)) }
+    ensures refused { IfErr result (RefusesRoot (IsRootOfTypeRefusal O.makes
+        (held_transforms generator.old) (held_transforms generator.new) (state generator.old) T.says
+        (IsJoined T.says generator.old.rows)) (T.valid value.now) generator.new.rows) }
+    ensures unchanged { IfErr result
+        (λ e. IsBeforeDocument e → state generator.new ≡ state generator.old) }
 {
     if !value.is_valid() {
         return Err(RootError::Write(WriteError::NotInJson));
@@ -74,8 +82,11 @@ pub fn to_accepted_document<T: AgreesAsDescribed, O: Transform + Drop>(
     requires told { T.is_told (telling T.tells) }
     ensures written { IfOk result (λ r. IsWritten (T.writes value.now) (view r.1)) }
     ensures accepted { (draft : Draft) → AreForWriting draft settings → IfOk result (λ r.
-        AcceptsWritten draft (stripped (settings_of settings).definitions_path) r.0 (view r.1)) }
-    ensures refused { IfErr result (λ e. (rows : List Row) × RefusesRoot (T.valid value.now) rows e) }
+        AcceptsWritten (IsAmong T.readings value.now) draft
+        (stripped (settings_of settings).definitions_path) r.0 (view r.1)) }
+    ensures refused { IfErr result (λ e. (new : Generator O) × RefusesRoot (IsRootOfTypeRefusal O.makes
+        settings.transforms (held_transforms new) (state (generator_over settings [])) T.says
+        (IsJoined T.says [])) (T.valid value.now) new.rows e) }
 {
     let mut generator = SchemaGenerator::new(alloc, settings);
     to_accepted_root(alloc, &mut generator, value)

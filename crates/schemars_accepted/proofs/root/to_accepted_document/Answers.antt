@@ -2,8 +2,9 @@ use Rattle.std.proofs.Common.{◌≡◌, List, [], sym, ap, subst, IfOk}
 use Rattle.std.proofs.lemmas.Result.{IfErr-weaker}
 use Rattle.serde_json.specs.View.{view}
 use Rattle.schemars_headline.specs.State.{path_of}
-use Rattle.schemars_types.specs.Rows.{Row}
-use Rattle.schemars_generate.specs.Generator.{Generator, state}
+use Rattle.schemars_generate.specs.ByType.{IsJoined, IsRootOfTypeRefusal}
+use Rattle.schemars_generate.specs.Generator.{Generator, held_transforms, state}
+use Rattle.schemars_written.specs.Readings.{IsAmong}
 use Rattle.schemars_described.specs.Laws.{told_in_empty}
 use Rattle.schemars_accepted.specs.Rooted.{AcceptsWritten, AreForWriting, RefusesRoot}
 use Rattle.schemars_accepted.proofs.root.to_accepted_document.Goals as goal
@@ -15,13 +16,16 @@ to_accepted_root-requires g c =
 
 pub returns-clause-accepted : goal.returns-clause-accepted
 returns-clause-accepted g c = λ draft writing.
-    subst (λ (x : Generator _). IfOk c.to_accepted_root.result (λ r. AcceptsWritten draft (path_of (state x)) r.0 (view r.1)))
+    subst (λ (x : Generator _). IfOk c.to_accepted_root.result (λ r. AcceptsWritten (IsAmong g.T.Agrees.readings c.args.value.now) draft (path_of (state x)) r.0 (view r.1)))
     c.new-generator.ensures.made (c.to_accepted_root.ensures.accepted draft (record {
       settings = subst (λ (x : Generator _). AreForWriting draft x.settings) (sym c.new-generator.ensures.made) writing;
       own = c.new-generator.ensures.own;
     }))
 
 pub returns-clause-refused : goal.returns-clause-refused
-returns-clause-refused g c = IfErr-weaker c.to_accepted_root.result (RefusesRoot (g.T.Agrees.valid c.args.value.now) c.to_accepted_root.new.generator.rows)
-    (λ e. (rows : List Row) × RefusesRoot (g.T.Agrees.valid c.args.value.now) rows e) (λ e is. (c.to_accepted_root.new.generator.rows, is))
+returns-clause-refused g c =
+    let after = c.to_accepted_root.new.generator in
+    IfErr-weaker c.to_accepted_root.result _ _ (λ e is. (after, subst (λ (x : Generator _). RefusesRoot
+    (IsRootOfTypeRefusal g.O.Transform.makes (held_transforms x) (held_transforms after) (state x) g.T.JsonSchema.says
+    (IsJoined g.T.JsonSchema.says x.rows)) (g.T.Agrees.valid c.args.value.now) after.rows e) c.new-generator.ensures.made is))
     c.to_accepted_root.ensures.refused

@@ -4,6 +4,7 @@ use Rattle.schemars_types.proofs.Registered.{place_of-below}
 use Rattle.schemars_types.specs.Faults.{IsChecked}
 use Rattle.schemars_documents.specs.PlainTable.{IsPlainTable}
 use Rattle.schemars_generate.specs.Generator.{state}
+use Rattle.schemars_written.specs.Readings.{IsAmong}
 use Rattle.schemars_written.proofs.Final.{as_read}
 use Rattle.schemars_accepted.proofs.Rooting.{joined_row, root_accepts}
 use Rattle.schemars_accepted.proofs.root.to_accepted_root.Goals as goal
@@ -27,7 +28,7 @@ returns-in-Ok-to_value-clause-accepted g c = λ draft writing.
     let h = c.in-Ok-to_value.ensures.events in
     let plain : IsPlainTable rows = subst (λ rows. IsPlainTable rows) c.types.ensures.table
     (c.in-Ok-true.ensures.0 c.in-Ok-true.field-0-test) in
-    root_accepts draft g.T.JsonSchema.says (state c.args.generator.now).settings rows root.n c.in-Ok.document (view c.in-Ok-to_value.written)
+    root_accepts (IsAmong g.T.Agrees.readings c.args.value.now) draft g.T.JsonSchema.says (state c.args.generator.now).settings rows root.n c.in-Ok.document (view c.in-Ok-to_value.written)
     (c.in-Ok.ensures.means draft (state c.args.generator.now).settings refl writing.settings.transforms writing.own writing.settings.path) number plain writing.settings.contract
     (as_read true rows checked root.n (place_of-below g.T.JsonSchema.says.id rows root.n number) (g.T.Described.writes c.args.value.now)
     (g.met.T.Agrees.agrees rows root.n c.args.value.now checked row (c.if-not-is_valid.ensures.passes refl))
