@@ -70,20 +70,43 @@ impl AgreesAsDescribed for Action {
         (λ d. ⟦<String as AgreesAsDescribed>⟧.is_told d × ⟦<i8 as AgreesAsDescribed>⟧.is_told d
         × ⟦<Option<u8> as AgreesAsDescribed>⟧.is_told d) };
 
-    ghost is_in = { λ d told. tells_in _ d told.0 (string.is_in-law _ told.1.0,
-        ((i8_impl.is_in-law _ told.1.1, (i8_impl.is_in-law _ told.1.1, tt)),
-        ((string.is_in-law _ told.1.0, (option_in _ _ told.1.2.0 (u8_impl.is_in-law _ told.1.2.1), tt)),
-        tt))) };
+    ghost is_in = { λ d told. tells_in _ d told.0 (
+      string.is_in-law _ told.1.0,
+      (
+        (i8_impl.is_in-law _ told.1.1, (i8_impl.is_in-law _ told.1.1, tt)),
+        (
+          (string.is_in-law _ told.1.0, (option_in _ _ told.1.2.0 (u8_impl.is_in-law _ told.1.2.1), tt)),
+          tt,
+        ),
+      ),
+    ) };
 
     ghost described = { λ d rows n told are checked there.
-        let v = variants_row_at _ _ _ _ d rows n told.0 are checked there in
-        ((_, v.1, inl (refl, refl)),
-        (_, (_, v.1, inr (inl (refl, refl))), string.described-law _ rows _ told.1.0 are checked v.2.0),
-        (_, (_, v.1, inr (inr (inl (refl, refl)))),
-        (i8_impl.described-law _ rows _ told.1.1 are checked v.2.1.0,
-        (i8_impl.described-law _ rows _ told.1.1 are checked v.2.1.1.0, tt))),
-        (_, _, (_, v.1, inr (inr (inr (inl (refl, refl))))),
-        (refl, string.described-law _ rows _ told.1.0 are checked v.2.1.1.1.0,
-        (refl, option_at _ ⟦<u8 as Agrees>⟧.is_row _ rows _ told.1.2.0 are checked v.2.1.1.1.1.0
-        (λ k at. u8_impl.described-law _ rows k told.1.2.1 are checked at), tt)))) };
+        let v = variants_row_at _ _ _ _ d rows n told.0 are checked there in (
+          (_, v.1, inl (refl, refl)),
+          (_, (_, v.1, inr (inl (refl, refl))), string.described-law _ rows _ told.1.0 are checked v.2.0),
+          (
+            _,
+            (_, v.1, inr (inr (inl (refl, refl)))),
+            (
+              i8_impl.described-law _ rows _ told.1.1 are checked v.2.1.0,
+              (i8_impl.described-law _ rows _ told.1.1 are checked v.2.1.1.0, tt),
+            ),
+          ),
+          (
+            _,
+            _,
+            (_, v.1, inr (inr (inr (inl (refl, refl))))),
+            (
+              refl,
+              string.described-law _ rows _ told.1.0 are checked v.2.1.1.1.0,
+              (
+                refl,
+                option_at _ ⟦<u8 as Agrees>⟧.is_row _ rows _ told.1.2.0 are checked v.2.1.1.1.1.0
+                    (λ k at. u8_impl.described-law _ rows k told.1.2.1 are checked at),
+                tt,
+              ),
+            ),
+          ),
+        ) };
 }

@@ -3,6 +3,7 @@
 
 mod action;
 mod action_schema;
+mod document;
 mod label;
 mod label_schema;
 mod list;
@@ -14,6 +15,7 @@ mod sensor;
 mod sensor_schema;
 
 pub use action::Action;
+pub use document::accepted_memo;
 pub use label::Label;
 pub use list::{accepted_list, written_list};
 pub use memo::Memo;
