@@ -1,4 +1,4 @@
-use Rattle.std.proofs.Common.{◌≡◌, List, [], sym, ap, subst, IfOk}
+use Rattle.std.proofs.Common.{◌≡◌, [], sym, ap, subst, IfOk}
 use Rattle.std.proofs.lemmas.Result.{IfErr-weaker}
 use Rattle.serde_json.specs.View.{view}
 use Rattle.schemars_headline.specs.State.{path_of}
