@@ -35,7 +35,8 @@ row_then {f = f} {fields = fields} {a = a} {b = b} {c = c} {p = p} {q = q} {r = 
   after_is = λ number are.
       rest.after_is number are.1 ∙ ap (λ t. t ++ fields_by number fields) is
       ∙ append_assoc p (plain_field f.name n f.required ∷ []) (fields_by number fields)
-      ∙ ap (λ m. p ++ plain_field f.name m f.required ∷ fields_by number fields) (sym (number_is f.id n (number f.id) rest.kept there are.0));
+      ∙ ap (λ m. p ++ plain_field f.name m f.required ∷ fields_by number fields)
+      (sym (number_is f.id n (number f.id) rest.kept there are.0));
 }
 
 made_by : {A : Type 0} (make : ℕ → A) (o : Option ℕ) (q : A) → option_map make o ≡ Some q → (n : ℕ) × (o ≡ Some n) × (q ≡ make n)
@@ -51,19 +52,21 @@ field_then {f = f} {b = b} {p = p} {q = q} is kept rest =
     row_then at.1 at.2 kept rest
 
 -- what the entry of a struct is made of, whose fields were added to an empty list
-pub struct_made : (fields : List FieldTold) (closed : Bool) (items : List src-field.Field) (old new : List Row) (after : List Field) (e : Entry)
-    → e ≡ without_notes false (struct (bare_fields after closed)) → items ≡ [] → FieldsAdded fields old (map field_of items) new after
+pub struct_made : (fields : List FieldTold) (closed : Bool) (items : List src-field.Field) (old new : List Row)
+    (after : List Field) (e : Entry) → e ≡ without_notes false (struct (bare_fields after closed)) → items ≡ [] → FieldsAdded fields old (map field_of items) new after
     → IsMade (fields_made closed fields) new e
 unfolding fields_made
 struct_made fields closed items old new after e is empty added =
-    is_made_of_ids (field_ids fields) (λ number. without_notes false (struct (bare_fields (fields_by number fields) closed))) new e added.are
+    is_made_of_ids (field_ids fields)
+    (λ number. without_notes false (struct (bare_fields (fields_by number fields) closed))) new e added.are
     (λ number are. is ∙ ap (λ fs. without_notes false (struct (bare_fields fs closed)))
     (added.after_is number are ∙ ap (λ (xs : List src-field.Field). map field_of xs ++ fields_by number fields) empty))
 
 -- ---- variants
 
 -- These variants were added, in a table that keeps its rows and has theirs.
-pub record VariantsAdded (variants : List VariantTold) (old : List Row) (before : List Variant) (new : List Row) (after : List Variant) : Type 0 where
+pub record VariantsAdded (variants : List VariantTold) (old : List Row) (before : List Variant) (new : List Row)
+    (after : List Variant) : Type 0 where
   pub kept : Keeps old new
   pub are : ArePlaced new (variant_ids variants)
   pub after_is : (number : Text → ℕ) → AreNumbers new number (variant_ids variants) → after ≡ before ++ variants_by number variants
@@ -75,7 +78,8 @@ variants_none {rows = rows} {p = p} = record { kept = keeps-refl rows; are = tt;
 -- What a variant has beside its name is made of the numbers of these rows.
 record HasPayload (payload : PayloadTold) (rows : List Row) (has : Payload) : Type 0 where
   are : ArePlaced rows (payload_ids payload)
-  has_is : {new : List Row} → Keeps rows new → (number : Text → ℕ) → AreNumbers new number (payload_ids payload) → has ≡ payload_by number payload
+  has_is : {new : List Row} → Keeps rows new → (number : Text → ℕ) → AreNumbers new number (payload_ids payload)
+      → has ≡ payload_by number payload
 
 variant_then : (name : Text) (payload : PayloadTold) (variants : List VariantTold) (a b c : List Row) (p q r : List Variant) (has : Payload)
     → q ≡ p ++ bare_variant name has ∷ [] → HasPayload payload b has → Keeps a b → VariantsAdded variants b q c r
@@ -111,7 +115,8 @@ value_then {name = name} {id = id} {variants = variants} {a = a} {b = b} {c = c}
 
 -- a variant as `add_newtype` adds it, and then others
 pub newtype_then : {name id : Text} {variants : List VariantTold} {a b c : List Row} {p q r : List Variant}
-    → option_map (λ n. p ++ bare_variant name (newtype_payload n) ∷ []) (place_of id b) ≡ Some q → Keeps a b → VariantsAdded variants b q c r
+    → option_map (λ n. p ++ bare_variant name (newtype_payload n) ∷ []) (place_of id b) ≡ Some q → Keeps a b
+    → VariantsAdded variants b q c r
     → VariantsAdded (record { name = name; payload = OneValue id } ∷ variants) a p c r
 newtype_then {name = name} {id = id} {b = b} {p = p} {q = q} is kept rest =
     let at = made_by (λ n. p ++ bare_variant name (newtype_payload n) ∷ []) (place_of id b) q is in
@@ -156,7 +161,8 @@ pub members_then : {name : Text} {closed : Bool} {fields : List FieldTold} {item
     {a b c : List Row} {p q r : List Variant} {fs : List Field} → q ≡ p ++ bare_variant name (struct_payload (bare_fields fs closed)) ∷ []
     → items ≡ [] → FieldsAdded fields a (map field_of items) b fs → VariantsAdded variants b q c r
     → VariantsAdded (record { name = name; payload = Members closed fields } ∷ variants) a p c r
-members_then {name = name} {closed = closed} {fields = fields} {variants = variants} {a = a} {b = b} {c = c} {p = p} {q = q} {r = r} {fs = fs} is empty added rest =
+members_then {name = name} {closed = closed} {fields = fields} {variants = variants} {a = a} {b = b} {c = c} {p = p} {q = q} {r = r} {fs = fs}
+    is empty added rest =
     let holds : HasPayload (Members closed fields) b (struct_payload (bare_fields fs closed)) = record {
       are = added.are;
       has_is = λ kept number are. ap (λ t. struct_payload (bare_fields t closed))
@@ -178,7 +184,8 @@ made_of_variants variants tagging old new none after e is empty added =
 pub enum_made : (variants : List VariantTold) (tagging : Tagging) (items : List src-variant.Variant) (old new : List Row)
     (after : List Variant) (e : Entry) → e ≡ without_notes false (enum tagging after) → items ≡ []
     → VariantsAdded variants old (map variant_of items) new after → IsMade (variants_made tagging variants) new e
-enum_made variants tagging items old new after e is empty added = made_of_variants variants tagging old new (map variant_of items) after e is
+enum_made variants tagging items old new after e is empty added =
+    made_of_variants variants tagging old new (map variant_of items) after e is
     (ap (λ (xs : List src-variant.Variant). map variant_of xs) empty) added
 
 -- the same of an enum that is tagged by a member of its variants

@@ -33,11 +33,13 @@ pub both_placed : (rows : List Row) (ids more : List Text) → ArePlaced rows id
 both_placed rows [] more are also = also
 both_placed rows (id ∷ ids) more are also = (are.0, both_placed rows ids more are.1 also)
 
-pub first_numbers : (rows : List Row) (number : Text → ℕ) (ids more : List Text) → AreNumbers rows number (ids ++ more) → AreNumbers rows number ids
+pub first_numbers : (rows : List Row) (number : Text → ℕ) (ids more : List Text)
+    → AreNumbers rows number (ids ++ more) → AreNumbers rows number ids
 first_numbers rows number [] more are = tt
 first_numbers rows number (id ∷ ids) more are = (are.0, first_numbers rows number ids more are.1)
 
-pub other_numbers : (rows : List Row) (number : Text → ℕ) (ids more : List Text) → AreNumbers rows number (ids ++ more) → AreNumbers rows number more
+pub other_numbers : (rows : List Row) (number : Text → ℕ) (ids more : List Text)
+    → AreNumbers rows number (ids ++ more) → AreNumbers rows number more
 other_numbers rows number [] more are = are
 other_numbers rows number (id ∷ ids) more are = other_numbers rows number ids more are.1
 

@@ -28,7 +28,7 @@ told_in_empty told entries is rows empty =
 
 -- ---- in a dictionary
 
-is_told : (o : Option Told) (t : TypeRow) → o ≡ Some (told_of t) → IsTold o t
+pub is_told : (o : Option Told) (t : TypeRow) → o ≡ Some (told_of t) → IsTold o t
 is_told o t is = subst (λ x. IsTold x t) (sym is) refl
 
 pub tells_in : (t : TypeRow) (d : Dictionary) → Tells t d → t.parts (staged t.id Pending d) → IsIn t d

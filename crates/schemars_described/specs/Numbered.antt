@@ -48,7 +48,8 @@ fields_by number (f ∷ fs) = plain_field f.name (number f.id) f.required ∷ fi
 
 -- a struct with these fields
 unfoldable pub fields_made : Bool → List FieldTold → Making
-fields_made closed fields = of_ids (field_ids fields) (λ number. without_notes false (struct (bare_fields (fields_by number fields) closed)))
+fields_made closed fields =
+    of_ids (field_ids fields) (λ number. without_notes false (struct (bare_fields (fields_by number fields) closed)))
 
 -- the fields of a struct, and that their types are in a dictionary
 pub record FieldRows : Type 1 where
