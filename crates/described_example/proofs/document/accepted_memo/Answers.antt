@@ -4,6 +4,7 @@ use Rattle.schemars_headline.specs.Drafts.{Draft2020_12}
 use Rattle.schemars_headline.specs.State.{Settings, stripped, settings2020_12}
 use Rattle.schemars_types.specs.declared.contract.Contract.TheVariants.{Serialize}
 use Rattle.schemars_generate.specs.Generator.{settings_of}
+use Rattle.schemars_written.specs.Readings.{AnyReading}
 use Rattle.schemars_accepted.specs.Rooted.{AcceptsWritten}
 use Rattle.schemars_accepted.proofs.Drafts.{written_2020_12}
 use Rattle.described_example.proofs.document.accepted_memo.Goals as goal
@@ -15,5 +16,5 @@ returns c =
     c.for_serialize-settings.ensures.settings ∙ ap (λ (s : Settings). record s { contract = Serialize }) c.draft2020_12.ensures.settings in
     let none : settings.transforms.items ≡ [] =
     ap (λ (t : _). t.items) c.for_serialize-settings.ensures.transforms ∙ c.draft2020_12.ensures.transforms in
-    subst (λ (s : Settings). IfOk c.to_accepted_document.result (λ r. AcceptsWritten Draft2020_12 (stripped s.definitions_path) r.0 (view r.1))) is
+    subst (λ (s : Settings). IfOk c.to_accepted_document.result (λ r. AcceptsWritten AnyReading Draft2020_12 (stripped s.definitions_path) r.0 (view r.1))) is
     (c.to_accepted_document.ensures.accepted Draft2020_12 (written_2020_12 settings is none))
