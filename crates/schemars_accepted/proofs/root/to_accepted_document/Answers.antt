@@ -25,7 +25,10 @@ returns-clause-accepted g c = λ draft writing.
 pub returns-clause-refused : goal.returns-clause-refused
 returns-clause-refused g c =
     let after = c.to_accepted_root.new.generator in
-    IfErr-weaker c.to_accepted_root.result _ _ (λ e is. (after, subst (λ (x : Generator _). RefusesRoot
-    (IsRootOfTypeRefusal g.O.Transform.makes (held_transforms x) (held_transforms after) (state x) g.T.JsonSchema.says
-    (IsJoined g.T.JsonSchema.says x.rows)) (g.T.Agrees.valid c.args.value.now) after.rows e) c.new-generator.ensures.made is))
+    IfErr-weaker c.to_accepted_root.result _ _ (λ e is. (
+      after,
+      subst (λ (x : Generator _). RefusesRoot
+          (IsRootOfTypeRefusal g.O.Transform.makes (held_transforms x) (held_transforms after) (state x) g.T.JsonSchema.says
+          (IsJoined g.T.JsonSchema.says x.rows)) (g.T.Agrees.valid c.args.value.now) after.rows e) c.new-generator.ensures.made is,
+    ))
     c.to_accepted_root.ensures.refused
