@@ -1,5 +1,6 @@
 //! What has notes in a row: the row itself, its fields and its variants.
-use crate::variants::{AnyVariant, Named, named_in};
+use crate::variants::{Named, named_in};
+use schemars_shapes::AnyVariant;
 use schemars_types::{Field, TypeEntry};
 use serde_json::{Map, Value};
 use std::alloc::{AllocError, Global};

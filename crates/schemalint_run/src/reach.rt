@@ -1,5 +1,5 @@
 //! Rows that a row leads to.
-use schemars_shapes::numbers;
+use schemars_shapes::{Rows, rows};
 use schemars_types::{TypeNo, Types};
 use std::alloc::{AllocError, Global};
 
@@ -14,7 +14,7 @@ pub fn reached(alloc: Global, types: &Types, root: TypeNo) -> Result<Vec<bool>, 
             break;
         };
         if let Some(entry) = types.entry(n) {
-            for m in &numbers(alloc, &entry.shape)? {
+            for m in &rows(alloc, &entry.shape, Rows::All)? {
                 meet(&mut met, &mut waiting, *m)?;
             }
         }

@@ -1,11 +1,12 @@
 //! Why a table is not plain.
 use crate::findings::{Finding, Kind, add_at_row};
 use crate::owners::owners_in;
-use crate::variants::{AnyVariant, Named, named_in};
+use crate::variants::{Named, named_in};
 use schemars_plain::{
     all_fields, are_notes, has_one_value, is_annotation, is_plain_member, is_plain_row,
 };
 use schemars_schema::Schema;
+use schemars_shapes::AnyVariant;
 use schemars_types::{
     Fields, Flattened, Internal, InternalPayload, Shape, TypeEntry, TypeNo, Types,
 };

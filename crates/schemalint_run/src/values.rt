@@ -1,11 +1,8 @@
 //! Types to which no value belongs.
 use crate::findings::{Finding, Kind, add_at_row};
 use schemars_schema::Schema;
-use schemars_shapes::numbers;
-use schemars_types::{
-    Fields, Flattened, InternalPayload, InternalVariant, Payload, Shape, TypeNo, Types, Variant,
-    row_inside,
-};
+use schemars_shapes::{AnyPayload, AnyVariant, Rows, rows};
+use schemars_types::{Fields, Flattened, Shape, TypeNo, Types, row_inside};
 use serde_json::Value;
 use std::alloc::{AllocError, Global};
 
@@ -59,7 +56,7 @@ fn parents_of(alloc: Global, types: &Types) -> Result<(Vec<Vec<TypeNo>>, usize),
     let mut edges: usize = 0;
     for n in 0..types.len() {
         if let Some(entry) = types.entry(n) {
-            for m in &numbers(alloc, &entry.shape)? {
+            for m in &rows(alloc, &entry.shape, Rows::All)? {
                 if let Some(above) = parents.get_mut(*m) {
                     above.push(n)?;
                     edges = edges.saturating_add(1);
@@ -92,7 +89,7 @@ fn has_value(types: &Types, known: &[bool], n: TypeNo) -> bool {
         Shape::External(variants) | Shape::Untagged(variants) => {
             some_has_value(types, known, variants)
         }
-        Shape::Internal(internal) => some_inside_has_value(types, known, &internal.variants),
+        Shape::Internal(internal) => some_has_value(types, known, &internal.variants),
         Shape::Adjacent(adjacent) => some_has_value(types, known, &adjacent.variants),
         Shape::Literal(schema) => literal_has_value(schema),
     }
@@ -126,27 +123,13 @@ fn part_has_value(types: &Types, known: &[bool], part: &Flattened) -> bool {
     row_inside(types, part.ty).is_some() || is_known(known, part.ty)
 }
 
-fn some_has_value(types: &Types, known: &[bool], variants: &[Variant]) -> bool {
+fn some_has_value<V: AnyVariant>(types: &Types, known: &[bool], variants: &[V]) -> bool {
     for variant in variants {
-        let has = match &variant.payload {
-            Payload::Unit => true,
-            Payload::Newtype(n) => is_known(known, *n),
-            Payload::Tuple(items) => all_known(known, items),
-            Payload::Struct(fields) => fields_have_values(types, known, fields),
-        };
-        if has {
-            return true;
-        }
-    }
-    false
-}
-
-fn some_inside_has_value(types: &Types, known: &[bool], variants: &[InternalVariant]) -> bool {
-    for variant in variants {
-        let has = match &variant.payload {
-            InternalPayload::Unit => true,
-            InternalPayload::Newtype(n) => is_known(known, *n),
-            InternalPayload::Struct(fields) => fields_have_values(types, known, fields),
+        let has = match variant.payload() {
+            AnyPayload::Unit => true,
+            AnyPayload::Newtype(n) => is_known(known, n),
+            AnyPayload::Tuple(items) => all_known(known, items),
+            AnyPayload::Struct(fields) => fields_have_values(types, known, fields),
         };
         if has {
             return true;

@@ -13,14 +13,13 @@ use Rattle.std.proofs.lemmas.Option.{slice_get-map, slice_get-get_or}
 use Rattle.std.proofs.Math.Bool.{or-false}
 use Rattle.schemars_schema.specs.Json.{Text}
 use Rattle.schemars_text.proofs.Members.{bytes_eq_comm}
-use Rattle.schemars_shapes.specs.declared.shape.Fields as src-fields
-use Rattle.schemars_shapes.specs.declared.variant.Payload as src-payload
-use Rattle.schemars_shapes.specs.declared.variant.Payload.TheVariants as payload
-use Rattle.schemars_shapes.specs.declared.variant.InternalPayload as src-internal_payload
-use Rattle.schemars_shapes.specs.declared.variant.InternalPayload.TheVariants as inside
-use Rattle.schemars_shapes.specs.Shape.{payload_of, internal_payload_of, payload_names}
 use Rattle.schemars_shapes.specs.Repeated.{IsRepeated}
 use Rattle.schemars_shapes.proofs.FieldLemmas.{Contains-from_any}
+
+-- among no names
+pub none_twice : IsDistinct bytes_eq []
+unfolding IsDistinct
+none_twice = tt
 
 list_any-push : (test : Text → Bool) (xs : List Text) (y : Text) → list_any test (xs ++ y ∷ []) ≡ list_any test xs || test y
 list_any-push test [] y = or-false (test y)
@@ -123,19 +122,3 @@ from_not_false a false e h = cc
 pub from_not_true : (a b : Bool) → a ≡ not b → a ≡ true → b ≡ false
 from_not_true a true e h = cc
 from_not_true a false e h = refl
-
--- no payload but a struct has fields
-pub no_fields : (p : src-payload.Payload) → ((fields : src-fields.Fields) → p ≡ payload.Struct fields → ⊥)
-    → IsDistinct bytes_eq (payload_names (payload_of p))
-unfolding IsDistinct
-no_fields (payload.Struct fields) other = absurd (other fields refl)
-no_fields payload.Unit other = tt
-no_fields (payload.Newtype n) other = tt
-no_fields (payload.Tuple ns) other = tt
-
-pub no_inside_fields : (p : src-internal_payload.InternalPayload)
-    → ((fields : src-fields.Fields) → p ≡ inside.Struct fields → ⊥) → IsDistinct bytes_eq (payload_names (internal_payload_of p))
-unfolding IsDistinct
-no_inside_fields (inside.Struct fields) other = absurd (other fields refl)
-no_inside_fields inside.Unit other = tt
-no_inside_fields (inside.Newtype n) other = tt

@@ -1,6 +1,7 @@
 pub mod IntKind
 pub mod IntegerKeys
 pub mod Shape
+pub mod AnyPayload
 pub mod Equality
 pub mod Repeated
 pub mod Decimals

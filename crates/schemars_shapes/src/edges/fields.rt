@@ -3,25 +3,27 @@ ghost use Rattle.std.specs.Prelude.{◌≡◌, ◌++◌, nat_le, find, map, byte
 ghost use Rattle.std.specs.List.{IsDistinct};
 ghost use Rattle.schemars_shapes.specs.Shape.{field_of, fields_of, fields_numbers, flattened_rows};
 ghost use Rattle.schemars_shapes.specs.Repeated.{IsRepeated};
+ghost use Rattle.schemars_shapes.specs.Rows.{field_rows};
 
 use crate::edges::names::first_repeated;
+use crate::edges::rows::Rows;
 use crate::shape::{Fields, TypeNo};
 use std::alloc::{AllocError, Global};
 
-pub(crate) fn numbers(alloc: Global, fields: &Fields) -> Result<Vec<TypeNo>, AllocError>
-    ensures { IfOk result (λ v. v.items ≡ fields_numbers (fields_of fields.now)) }
+/// Adds the rows of this kind: all, or those that are flattened.
+pub(crate) fn add_rows(
+    fields: &Fields,
+    kind: Rows,
+    rows: &mut Vec<TypeNo>,
+) -> Result<(), AllocError>
+    ensures { OnOk result (rows.new.items
+        ≡ rows.old.items ++ field_rows kind (fields_of fields.now)) }
 {
-    let mut numbers = Vec::new(alloc);
-    add_numbers(fields, &mut numbers)?;
-    Ok(numbers)
-}
-
-pub(crate) fn add_numbers(fields: &Fields, numbers: &mut Vec<TypeNo>) -> Result<(), AllocError>
-    ensures { OnOk result (numbers.new.items
-        ≡ numbers.old.items ++ fields_numbers (fields_of fields.now)) }
-{
-    add_types(fields, numbers)?;
-    add_flattened(fields, numbers)
+    match kind {
+        Rows::All => add_types(fields, rows)?,
+        Rows::Flattened | Rows::Same | Rows::Asked => {}
+    }
+    add_flattened(fields, rows)
 }
 
 fn add_types(fields: &Fields, numbers: &mut Vec<TypeNo>) -> Result<(), AllocError>
@@ -34,7 +36,7 @@ fn add_types(fields: &Fields, numbers: &mut Vec<TypeNo>) -> Result<(), AllocErro
     Ok(())
 }
 
-pub(crate) fn add_flattened(fields: &Fields, numbers: &mut Vec<TypeNo>) -> Result<(), AllocError>
+fn add_flattened(fields: &Fields, numbers: &mut Vec<TypeNo>) -> Result<(), AllocError>
     ensures { OnOk result (numbers.new.items
         ≡ numbers.old.items ++ flattened_rows (fields_of fields.now)) }
 {
@@ -42,14 +44,6 @@ pub(crate) fn add_flattened(fields: &Fields, numbers: &mut Vec<TypeNo>) -> Resul
         numbers.push(flattened.ty)?;
     }
     Ok(())
-}
-
-pub(crate) fn flattened_rows(alloc: Global, fields: &Fields) -> Result<Vec<TypeNo>, AllocError>
-    ensures { IfOk result (λ v. v.items ≡ flattened_rows (fields_of fields.now)) }
-{
-    let mut numbers = Vec::new(alloc);
-    add_flattened(fields, &mut numbers)?;
-    Ok(numbers)
 }
 
 pub(crate) fn first_unknown(fields: &Fields, len: usize) -> Option<TypeNo>

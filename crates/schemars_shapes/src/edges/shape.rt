@@ -1,11 +1,15 @@
 //! What a shape refers to, and its names.
 ghost use Rattle.std.specs.Prelude.{◌≡◌, nat_le, find, string_bytes, IfOk, MatchOption};
-ghost use Rattle.schemars_shapes.specs.Shape.{shape_of, numbers_of, same_value_numbers, flattened_numbers, asked_numbers, names_of};
+ghost use Rattle.schemars_shapes.specs.Shape.{shape_of, map_from, numbers_of, names_of};
+ghost use Rattle.schemars_shapes.specs.AnyPayload.{any_payload_of};
+ghost use Rattle.schemars_shapes.specs.Rows.{rows_of, payload_rows};
 ghost use Rattle.schemars_shapes.specs.Repeated.{AreDistinctLists, IsFirstRepeated};
 
+use crate::any_variant::AnyPayload;
+use crate::edges::rows::Rows;
 use crate::edges::unknown::first_unknown_among;
-use crate::edges::variant::{Rows, first_unknown_in, repeated_in, rows_in};
-use crate::edges::{adjacent, fields, internal};
+use crate::edges::variant::{add_payload_rows, first_unknown_in, repeated_in, rows_in};
+use crate::edges::{adjacent, fields};
 use crate::shape::{Shape, TypeNo};
 use std::alloc::{AllocError, Global};
 
@@ -21,7 +25,7 @@ pub fn first_unknown(shape: &Shape, len: usize) -> Option<TypeNo>
         Shape::Result(n, m) | Shape::Either(n, m) => first_unknown_among(&[*n, *m], len),
         Shape::Map(key, value) => first_unknown_among(&[*key, *value], len),
         Shape::External(variants) | Shape::Untagged(variants) => first_unknown_in(variants, len),
-        Shape::Internal(internal) => internal::first_unknown(internal, len),
+        Shape::Internal(internal) => first_unknown_in(&internal.variants, len),
         Shape::Adjacent(adjacent) => first_unknown_in(&adjacent.variants, len),
         Shape::Tuple(parts) => first_unknown_among(parts, len),
         Shape::Struct(fields) => fields::first_unknown(fields, len),
@@ -31,97 +35,52 @@ pub fn first_unknown(shape: &Shape, len: usize) -> Option<TypeNo>
     }
 }
 
-/// The rows that the shape refers to, as they are written.
-pub fn numbers(alloc: Global, shape: &Shape) -> Result<Vec<TypeNo>, AllocError>
-    ensures { IfOk result (λ v. v.items ≡ numbers_of (shape_of shape.now)) }
+/// The rows of this kind that the shape refers to.
+pub fn rows(alloc: Global, shape: &Shape, kind: Rows) -> Result<Vec<TypeNo>, AllocError>
+    ensures { IfOk result (λ v. v.items ≡ rows_of kind (shape_of shape.now)) }
 {
     match shape {
-        Shape::Option(n) | Shape::Newtype(n) => Ok(vec![in alloc; *n]?),
-        Shape::Seq(n) | Shape::Set(n) => Ok(vec![in alloc; *n]?),
-        Shape::Array(n, _) | Shape::UpTo(n, _) => Ok(vec![in alloc; *n]?),
-        Shape::Bound(n) | Shape::Range(n) => Ok(vec![in alloc; *n]?),
-        Shape::Result(n, m) | Shape::Either(n, m) => Ok(vec![in alloc; *n, *m]?),
-        Shape::Map(key, value) => Ok(vec![in alloc; *key, *value]?),
-        Shape::External(variants) | Shape::Untagged(variants) => rows_in(
-            alloc,
-            Rows::All,
-            variants,
-        ),
-        Shape::Internal(internal) => internal::rows(alloc, internal, Rows::All),
-        Shape::Adjacent(adjacent) => rows_in(alloc, Rows::All, &adjacent.variants),
-        Shape::Tuple(parts) => parts.clone(),
-        Shape::Struct(fields) => fields::numbers(alloc, fields),
+        Shape::Option(n) | Shape::Newtype(n) => own_rows(alloc, AnyPayload::Newtype(*n), kind),
+        Shape::Seq(n) | Shape::Set(n) => own_rows(alloc, AnyPayload::Tuple(&[*n]), kind),
+        Shape::Array(n, _) | Shape::UpTo(n, _) => own_rows(alloc, AnyPayload::Tuple(&[*n]), kind),
+        Shape::Bound(n) | Shape::Range(n) => own_rows(alloc, AnyPayload::Tuple(&[*n]), kind),
+        Shape::Result(n, m) | Shape::Either(n, m) => {
+            own_rows(alloc, AnyPayload::Tuple(&[*n, *m]), kind)
+        }
+        Shape::Map(key, value) => map_rows(alloc, *key, *value, kind),
+        Shape::Tuple(parts) => own_rows(alloc, AnyPayload::Tuple(parts), kind),
+        Shape::Struct(fields) => own_rows(alloc, AnyPayload::Struct(fields), kind),
+        Shape::External(variants) => rows_in(alloc, variants, kind.under_key()),
+        Shape::Untagged(variants) => rows_in(alloc, variants, kind),
+        Shape::Internal(internal) => rows_in(alloc, &internal.variants, kind.beside_tag()),
+        Shape::Adjacent(adjacent) => rows_in(alloc, &adjacent.variants, kind.under_key()),
         Shape::Null | Shape::Bool | Shape::Int(_) | Shape::NonZero(_) => Ok(Vec::new(alloc)),
         Shape::Number | Shape::Text | Shape::Char | Shape::Formatted(_) => Ok(Vec::new(alloc)),
         Shape::Any | Shape::Bytes | Shape::SchemaItself | Shape::Literal(_) => Ok(Vec::new(alloc)),
     }
 }
 
-/// The rows whose values, or whose members, the shape has itself.
-pub fn same_value_numbers(alloc: Global, shape: &Shape) -> Result<Vec<TypeNo>, AllocError>
-    ensures { IfOk result (λ v. v.items ≡ same_value_numbers (shape_of shape.now)) }
+// Those of a shape that refers to rows as the payload of a variant does.
+fn own_rows(alloc: Global, payload: AnyPayload<'_>, kind: Rows) -> Result<Vec<TypeNo>, AllocError>
+    ensures { IfOk result (λ v. v.items ≡ payload_rows kind (any_payload_of payload.entry)) }
 {
-    match shape {
-        Shape::Option(n) | Shape::Newtype(n) => Ok(vec![in alloc; *n]?),
-        Shape::Struct(fields) => fields::flattened_rows(alloc, fields),
-        Shape::External(variants) => rows_in(alloc, Rows::Flattened, variants),
-        Shape::Untagged(variants) => rows_in(alloc, Rows::Same, variants),
-        Shape::Internal(internal) => internal::rows(alloc, internal, Rows::Same),
-        Shape::Adjacent(adjacent) => rows_in(alloc, Rows::Flattened, &adjacent.variants),
-        Shape::Null | Shape::Bool | Shape::Int(_) | Shape::NonZero(_) => Ok(Vec::new(alloc)),
-        Shape::Number | Shape::Text | Shape::Char | Shape::Formatted(_) => Ok(Vec::new(alloc)),
-        Shape::Any | Shape::Bytes | Shape::SchemaItself | Shape::Literal(_) => Ok(Vec::new(alloc)),
-        Shape::Seq(_) | Shape::Set(_) | Shape::Array(..) | Shape::UpTo(..) => Ok(Vec::new(alloc)),
-        Shape::Tuple(_) | Shape::Result(..) | Shape::Either(..) => Ok(Vec::new(alloc)),
-        Shape::Bound(_) | Shape::Range(_) | Shape::Map(..) => Ok(Vec::new(alloc)),
-    }
+    let mut rows = Vec::new(alloc);
+    add_payload_rows(payload, kind, &mut rows)?;
+    Ok(rows)
 }
 
-/// The rows that are flattened into the shape's maps.
-pub fn flattened_numbers(alloc: Global, shape: &Shape) -> Result<Vec<TypeNo>, AllocError>
-    ensures { IfOk result (λ v. v.items ≡ flattened_numbers (shape_of shape.now)) }
+fn map_rows(
+    alloc: Global,
+    key: TypeNo,
+    value: TypeNo,
+    kind: Rows,
+) -> Result<Vec<TypeNo>, AllocError>
+    ensures { IfOk result (λ v. v.items ≡ rows_of kind (map_from key value)) }
 {
-    match shape {
-        Shape::Struct(fields) => fields::flattened_rows(alloc, fields),
-        Shape::External(variants) | Shape::Untagged(variants) => rows_in(
-            alloc,
-            Rows::Flattened,
-            variants,
-        ),
-        Shape::Internal(internal) => internal::rows(alloc, internal, Rows::Flattened),
-        Shape::Adjacent(adjacent) => rows_in(alloc, Rows::Flattened, &adjacent.variants),
-        Shape::Null | Shape::Bool | Shape::Int(_) | Shape::NonZero(_) => Ok(Vec::new(alloc)),
-        Shape::Number | Shape::Text | Shape::Char | Shape::Formatted(_) => Ok(Vec::new(alloc)),
-        Shape::Any | Shape::Bytes | Shape::SchemaItself | Shape::Literal(_) => Ok(Vec::new(alloc)),
-        Shape::Option(_) | Shape::Newtype(_) | Shape::Seq(_) | Shape::Set(_) => Ok(Vec::new(alloc)),
-        Shape::Array(..) | Shape::UpTo(..) | Shape::Tuple(_) => Ok(Vec::new(alloc)),
-        Shape::Result(..) | Shape::Either(..) => Ok(Vec::new(alloc)),
-        Shape::Bound(_) | Shape::Range(_) | Shape::Map(..) => Ok(Vec::new(alloc)),
-    }
-}
-
-/// The rows that the shape asks at once, whether they are written in place or not: that of a
-/// map's keys, and those whose members are in the shape's own maps.
-pub fn asked_numbers(alloc: Global, shape: &Shape) -> Result<Vec<TypeNo>, AllocError>
-    ensures { IfOk result (λ v. v.items ≡ asked_numbers (shape_of shape.now)) }
-{
-    match shape {
-        Shape::Map(key, _) => Ok(vec![in alloc; *key]?),
-        Shape::Struct(fields) => fields::flattened_rows(alloc, fields),
-        Shape::External(variants) | Shape::Untagged(variants) => rows_in(
-            alloc,
-            Rows::Flattened,
-            variants,
-        ),
-        Shape::Internal(internal) => internal::rows(alloc, internal, Rows::Same),
-        Shape::Adjacent(adjacent) => rows_in(alloc, Rows::Flattened, &adjacent.variants),
-        Shape::Null | Shape::Bool | Shape::Int(_) | Shape::NonZero(_) => Ok(Vec::new(alloc)),
-        Shape::Number | Shape::Text | Shape::Char | Shape::Formatted(_) => Ok(Vec::new(alloc)),
-        Shape::Any | Shape::Bytes | Shape::SchemaItself | Shape::Literal(_) => Ok(Vec::new(alloc)),
-        Shape::Option(_) | Shape::Newtype(_) | Shape::Seq(_) | Shape::Set(_) => Ok(Vec::new(alloc)),
-        Shape::Array(..) | Shape::UpTo(..) | Shape::Tuple(_) => Ok(Vec::new(alloc)),
-        Shape::Result(..) | Shape::Either(..) => Ok(Vec::new(alloc)),
-        Shape::Bound(_) | Shape::Range(_) => Ok(Vec::new(alloc)),
+    match kind {
+        Rows::All => Ok(vec![in alloc; key, value]?),
+        Rows::Asked => Ok(vec![in alloc; key]?),
+        Rows::Flattened | Rows::Same => Ok(Vec::new(alloc)),
     }
 }
 
@@ -135,7 +94,7 @@ pub fn repeated_name(alloc: Global, shape: &Shape) -> Result<Option<String>, All
     match shape {
         Shape::Struct(fields) => fields::repeated_name(alloc, fields),
         Shape::External(variants) | Shape::Untagged(variants) => repeated_in(alloc, variants),
-        Shape::Internal(internal) => internal::repeated_name(alloc, internal),
+        Shape::Internal(internal) => repeated_in(alloc, &internal.variants),
         Shape::Adjacent(adjacent) => adjacent::repeated_name(alloc, adjacent),
         Shape::Null | Shape::Bool | Shape::Int(_) | Shape::NonZero(_) => Ok(None),
         Shape::Number | Shape::Text | Shape::Char | Shape::Formatted(_) => Ok(None),

@@ -11,9 +11,7 @@ ghost use Rattle.schemars_types.specs.Undefined.{IsUndefined};
 use crate::check::cycles::least_on_cycle;
 use crate::optional::row_inside;
 use crate::table::Types;
-use schemars_shapes::{
-    Shape, TypeNo, asked_numbers, flattened_numbers, numbers, same_value_numbers,
-};
+use schemars_shapes::{Rows, Shape, TypeNo, rows};
 use std::alloc::{AllocError, Global};
 
 /// Which edges are followed from row to row.
@@ -142,7 +140,7 @@ fn targets(
     match kind {
         EdgeKind::Direct => direct_targets(alloc, types, &entry.shape),
         EdgeKind::SameValue => {
-            let numbers = same_value_numbers(alloc, &entry.shape)?;
+            let numbers = rows(alloc, &entry.shape, Rows::Same)?;
             Ok(rows_among(types, numbers))
         }
     }
@@ -154,7 +152,7 @@ fn direct_targets(alloc: Global, types: &Types, shape: &Shape) -> Result<Vec<Typ
         ++ filter (is_row types.now)
         (asked_in types.now (shape_of shape.now))) }
 {
-    let mut targets = in_place_among(types, numbers(alloc, shape)?);
+    let mut targets = in_place_among(types, rows(alloc, shape, Rows::All)?);
     let mut asked = rows_among(types, asked(alloc, types, shape)?);
     targets.append(&mut asked)?;
     Ok(targets)
@@ -183,8 +181,8 @@ fn asked(alloc: Global, types: &Types, shape: &Shape) -> Result<Vec<TypeNo>, All
     ensures { IfOk result (λ v. v.items
         ≡ asked_in types.now (shape_of shape.now)) }
 {
-    let mut asked = asked_numbers(alloc, shape)?;
-    let flattened = flattened_numbers(alloc, shape)?;
+    let mut asked = rows(alloc, shape, Rows::Asked)?;
+    let flattened = rows(alloc, shape, Rows::Flattened)?;
     for n in &flattened {
         add_below(types, *n, &mut asked)?;
     }

@@ -3,14 +3,14 @@ use Rattle.std.proofs.Common.{map, drop}
 use Rattle.std.specs.Str.{bytes_eq}
 use Rattle.std.specs.List.{IsDistinct}
 use Rattle.schemars_schema.specs.Json.{Text}
-use Rattle.schemars_shapes.specs.Shape.{variant_of, payload_names}
+use Rattle.schemars_shapes.specs.Shape.{payload_names}
 use Rattle.schemars_shapes.specs.Repeated.{AreDistinctLists, IsFirstRepeated}
 use Rattle.schemars_shapes.proofs.edges.variant.repeated_in.Given as goal
 
 abbrev pub invariant-loop-variant : goal.invariant-loop-variant
-invariant-loop-variant l =
-    IsDistinct bytes_eq (map (λ x. x.name) (map variant_of l.variants))
-    × (AreDistinctLists (map (λ x. payload_names x.payload) (map variant_of (drop l.variant-index l.variants)))
-    → AreDistinctLists (map (λ x. payload_names x.payload) (map variant_of l.variants)))
-    × ((name : Text) → IsFirstRepeated (map (λ x. payload_names x.payload) (map variant_of (drop l.variant-index l.variants))) name
-    → IsFirstRepeated (map (λ x. payload_names x.payload) (map variant_of l.variants)) name)
+invariant-loop-variant g l =
+    IsDistinct bytes_eq (map (λ x. x.name) (map g.V.AnyVariant.says l.variants))
+    × (AreDistinctLists (map (λ x. payload_names x.payload) (map g.V.AnyVariant.says (drop l.variant-index l.variants)))
+    → AreDistinctLists (map (λ x. payload_names x.payload) (map g.V.AnyVariant.says l.variants)))
+    × ((name : Text) → IsFirstRepeated (map (λ x. payload_names x.payload) (map g.V.AnyVariant.says (drop l.variant-index l.variants))) name
+    → IsFirstRepeated (map (λ x. payload_names x.payload) (map g.V.AnyVariant.says l.variants)) name)
