@@ -3,6 +3,7 @@
 
 mod action;
 mod action_schema;
+mod components;
 mod document;
 mod label;
 mod label_schema;
@@ -15,6 +16,7 @@ mod sensor;
 mod sensor_schema;
 
 pub use action::Action;
+pub use components::accepted_components;
 pub use document::accepted_memo;
 pub use label::Label;
 pub use list::{accepted_list, written_list};

@@ -1,7 +1,8 @@
 -- What belongs to a row is accepted.
 use Rattle.std.proofs.Common.{◌≡◌, ◌≤◌, ℕ, List, ap, ◌∙◌}
+use Rattle.std.specs.Str.{IsUtf8}
 use Rattle.serde_json.specs.Data.{Data}
-use Rattle.schemars_schema.specs.Json.{IsJson}
+use Rattle.schemars_schema.specs.Json.{Text, IsJson}
 use Rattle.schemars_schema.specs.Acceptance.{Dialect, Patterns, accepts, bound}
 use Rattle.schemars_schema.specs.Verdict.{verdict, Yes}
 use Rattle.schemars_types.specs.Meaning.{belongs}
@@ -9,13 +10,20 @@ use Rattle.schemars_types.specs.declared.contract.Contract.TheVariants.{Serializ
 use Rattle.schemars_headline.specs.State.{State, path_of, HasOwnDefinitions}
 use Rattle.schemars_headline.specs.Headline.{RootHeadline, IsDraftPath, IsPlainFor}
 use Rattle.schemars_types.specs.Rows.{Row}
-use Rattle.schemars_written.specs.Writes.{BelongsUnder}
-use Rattle.schemars_accepted.specs.Accepted.{IsAcceptedUnder}
+use Rattle.schemars_written.specs.Writes.{BelongsUnder, BelongsAsReadUnder}
+use Rattle.schemars_accepted.specs.Accepted.{IsAcceptedUnder, IsAcceptedAsRead}
+use Rattle.schemars_accepted.proofs.ReadJson.{read_is_json}
 
 pub accepted : (reading : Patterns → Type 0) (rows : List Row) (n : ℕ) (v : Data) → BelongsUnder reading rows n v → IsJson v
     → IsAcceptedUnder reading rows n v
-accepted reading rows n v belongs json dialect path document means patterns takes followed bounded =
-    means.accepts_its_values patterns v json followed bounded ∙ ap verdict (belongs patterns takes)
+accepted reading rows n v belongs json dialect path document schema accepts_values patterns takes followed bounded =
+    accepts_values patterns v json followed bounded ∙ ap verdict (belongs patterns takes)
+
+-- so is what a text in UTF-8 is read as
+pub accepted_as_read : (reading : Patterns → Type 0) (rows : List Row) (n : ℕ) (text : Text) → BelongsAsReadUnder reading rows n text
+    → IsUtf8 text → IsAcceptedAsRead reading rows n text
+accepted_as_read reading rows n text belongs utf8 v reads =
+    accepted reading rows n v (belongs v reads) (read_is_json text v utf8 reads)
 
 -- a root document with the headline accepts what belongs to its row
 pub root_accepted : (reading : Patterns → Type 0) (dialect : Dialect) (s : State) (n : ℕ) (document v : Data)

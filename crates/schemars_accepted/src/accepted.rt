@@ -1,19 +1,20 @@
-//! What is written for a value, and that documents accept it.
-ghost use Rattle.std.specs.Prelude.{◌≡◌, ◌<◌, length, IfOk, IfErr};
+//! What is written for a value, and that the schemas of its type accept it.
+ghost use Rattle.std.specs.Prelude.{◌≡◌, ◌<◌, length, IfOk, IfErr, string_bytes};
 ghost use Rattle.serde_json.specs.View.{view};
 ghost use Rattle.schemars_types.specs.Faults.{IsChecked};
 ghost use Rattle.schemars_written.specs.Readings.{IsAmong};
-ghost use Rattle.schemars_written.specs.Writes.{IsWritten};
-ghost use Rattle.schemars_accepted.specs.Accepted.{IsAcceptedUnder};
+ghost use Rattle.schemars_written.specs.Writes.{IsWritten, IsWrittenText};
+ghost use Rattle.schemars_accepted.specs.Accepted.{IsAcceptedUnder, IsAcceptedAsRead};
 
-use schemars_agreement::{Agrees, WriteError, to_member_value};
+use schemars_agreement::{Agrees, WriteError, to_member_string, to_member_value};
 use schemars_types::{TypeNo, Types};
 use schemars_validate::look;
 use serde_json::Value;
 use std::alloc::Global;
 
 /// Returns what serde writes for a value, as `serde_json::to_value` does. Each root document of row
-/// `n` for what is written accepts it, under the readings of patterns that the type asks for.
+/// `n` for what is written accepts it, and so does each schema of the row in a document, under the
+/// readings of patterns that the type asks for.
 ///
 /// # Errors
 ///
@@ -38,4 +39,28 @@ pub fn to_accepted_value<T: Agrees>(
         }
         Err(error) => Err(error),
     }
+}
+
+/// Returns the text that serde writes for a value, as `serde_json::to_string` does. Each root
+/// document of row `n` for what is written accepts what the text is read as, and so does each
+/// schema of the row in a document, under those readings.
+///
+/// # Errors
+///
+/// Those of `to_member_string`.
+pub fn to_accepted_string<T: Agrees>(
+    alloc: Global,
+    types: &Types,
+    n: TypeNo,
+    value: &T,
+) -> Result<String, WriteError>
+    requires checked { IsChecked types.now }
+    requires known { n < length types.now }
+    requires row { T.is_row types.now n }
+    ensures written { IfOk result (λ s. IsWrittenText (T.writes value.now) (string_bytes s)) }
+    ensures accepted { IfOk result (λ s. IsAcceptedAsRead (IsAmong T.readings value.now)
+        types.now n (string_bytes s)) }
+    ensures refused { IfErr result (λ e. e ≡ WriteError.NotInJson → T.valid value.now → ⊥) }
+{
+    to_member_string(alloc, types, n, value)
 }
