@@ -8,6 +8,26 @@ use schemaderive_definitions::{Choice, Choices, Form, Members, Part, Payload};
 use schemaderive_syntax::Fault;
 use schemaderive_text::{Imports, literal};
 
+// The calls that add a variant with members.
+#[derive(Clone, Copy)]
+struct StructCalls {
+    // the call if all of them are its own
+    own: &'static str,
+    // the call if those of other types are among them
+    flattened: &'static str,
+}
+
+const STRUCT: StructCalls = StructCalls {
+    own: "add_struct",
+    flattened: "add_flat_struct",
+};
+
+// The same in an enum with a tag among the members of its variants.
+const INTERNAL_STRUCT: StructCalls = StructCalls {
+    own: "add_internal_struct",
+    flattened: "add_internal_flat_struct",
+};
+
 impl Body {
     /// Adds the calls that make the list `variants`. What a variant has is collected right before the
     /// variant is added.
@@ -82,7 +102,7 @@ impl Body {
                 self.call("add_tuple", &["alloc", variants.as_str(), name, "numbers"])?;
             }
             Payload::Struct(members) => {
-                self.add_struct(types, imports, ancestors, "add_struct", name, members)?
+                self.add_struct(types, imports, ancestors, STRUCT, name, members)?
             }
         }
         Ok(())
@@ -128,27 +148,32 @@ impl Body {
         Ok(())
     }
 
-    // Adds a variant with members by this call.
+    // Adds a variant with members by one of these calls.
     fn add_struct(
         &mut self,
         types: &Types<'_>,
         imports: &mut Imports,
         ancestors: &[usize],
-        call: &str,
+        calls: StructCalls,
         name: &str,
         members: &Members,
     ) -> Result<(), Fault> {
-        if has_flattened(members) {
-            return Err(flattened(types, members));
-        }
         self.add_members(types, imports, ancestors, members)?;
-        imports.call(call)?;
         let is_closed = if members.is_closed { "true" } else { "false" };
         let variants = self.argument("variants")?;
-        self.call(
-            call,
-            &["alloc", variants.as_str(), name, "fields", is_closed],
-        )?;
+        let mut arguments = Vec::new(self.alloc());
+        arguments.push("alloc")?;
+        arguments.push(variants.as_str())?;
+        arguments.push(name)?;
+        arguments.push("fields")?;
+        let mut call = calls.own;
+        if has_flattened(members) {
+            arguments.push("parts")?;
+            call = calls.flattened;
+        }
+        arguments.push(is_closed)?;
+        imports.call(call)?;
+        self.call(call, &arguments)?;
         Ok(())
     }
 
@@ -176,8 +201,7 @@ impl Body {
                 self.add_registered(types, imports, "add_internal_newtype", name, part)?;
             }
             Payload::Struct(members) => {
-                let call = "add_internal_struct";
-                self.add_struct(types, imports, ancestors, call, name, members)?;
+                self.add_struct(types, imports, ancestors, INTERNAL_STRUCT, name, members)?;
             }
             Payload::Tuple(_) => {
                 let reason = "a variant of an enum with a tag in its content is no tuple";
@@ -195,17 +219,4 @@ fn list_of(form: Form) -> List {
     } else {
         VARIANTS
     }
-}
-
-// The fault of members that have those of another type among them.
-fn flattened(types: &Types<'_>, members: &Members) -> Fault {
-    let reason = "an implementation has no other members among those of a variant";
-    for member in &members.list {
-        if member.name.is_none() {
-            return types
-                .context
-                .refused_name(member.part.place, "flatten", reason);
-        }
-    }
-    Fault::OutOfMemory
 }

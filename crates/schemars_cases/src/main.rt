@@ -15,6 +15,7 @@ mod generators;
 mod line;
 mod lines;
 mod own;
+mod own_actor;
 mod own_enums;
 mod own_transforms;
 mod own_types;

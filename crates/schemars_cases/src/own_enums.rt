@@ -5,6 +5,7 @@ ghost use Rattle.std.specs.Prelude.{codes};
 ghost use Rattle.schemars_impls.specs.Dictionary.{IsIn, own};
 
 use crate::line::line_of;
+use crate::own_actor::Actor;
 use schemars::GenerateError;
 use schemars::impls::{
     JsonSchema, REQUIRED, add_field, add_flat_struct, add_flattened, add_internal_flat_struct,
@@ -111,9 +112,10 @@ impl JsonSchema for Step {
     }
 }
 
-/// Returns the line of one of these enums.
+/// Returns the line of one of these enums, or of `Actor`.
 pub(crate) fn own_enum(alloc: Global, of: &str) -> Result<String, GenerateError> {
     match of {
+        "Actor" => line_of::<Actor>(alloc),
         "Change" => line_of::<Change>(alloc),
         "Step" => line_of::<Step>(alloc),
         _ => Ok(String::from_str(alloc, "no such type")?),

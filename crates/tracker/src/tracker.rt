@@ -1,84 +1,29 @@
 //! A tracker with its areas.
-ghost use Rattle.schemars.specs.Words.{codes, IsIn, IsMapOf, own};
-
 use crate::issues::Issue;
 use crate::people::User;
 use crate::values::{FieldValue, Priority};
-use schemars::impls::{
-    JsonSchema, OPTIONAL, REQUIRED, add_field, add_map_of, note_entry, note_field, struct_entry,
-};
-use schemars::types::{TypeEntry, Types, TypesError};
-use serde_json::Value;
-use std::alloc::{AllocError, Global};
-use std::borrow::CowStr;
 use std::collections::BTreeMap;
 use url::Url;
 
 /// An area with its issues, and the areas that are parts of it by their names.
+// derive(JsonSchema)
 pub struct Area {
     pub page: Url,
     pub priority: Priority,
     pub issues: Vec<Issue>,
+    // serde(default, skip_serializing_if = "BTreeMap::is_empty")
     pub parts: BTreeMap<String, Area>,
 }
 
-impl JsonSchema for Area {
-    ghost says = { own (codes "Area") (λ d. IsIn ⟦<Url as JsonSchema>⟧.says d × IsIn ⟦<Priority as JsonSchema>⟧.says d × IsIn ⟦<Vec<Issue> as JsonSchema>⟧.says d × IsMapOf ⟦<String as JsonSchema>⟧.says (codes "Area") (codes "Area") d) };
-
-    fn inline_schema() -> bool {
-        false
-    }
-
-    fn schema_name(_alloc: Global) -> Result<CowStr<'static>, AllocError> {
-        Ok(CowStr::Borrowed("Area"))
-    }
-
-    fn schema_id(alloc: Global) -> Result<CowStr<'static>, AllocError> {
-        Self::schema_name(alloc)
-    }
-
-    fn json_schema(alloc: Global, types: &mut Types) -> Result<TypeEntry, TypesError> {
-        let mut fields = Vec::new(alloc);
-        add_field::<Url>(alloc, types, &mut fields, "page", REQUIRED)?;
-        add_field::<Priority>(alloc, types, &mut fields, "priority", REQUIRED)?;
-        add_field::<Vec<Issue>>(alloc, types, &mut fields, "issues", REQUIRED)?;
-        add_map_of::<String>(alloc, types, &mut fields, "parts", "Area", "Area", OPTIONAL)?;
-        Ok(struct_entry(alloc, fields, false))
-    }
-}
-
-/// All that a tracker keeps. Its settings are fields that it defines itself.
+/// # An issue tracker
+///
+/// All that it keeps.
+// derive(JsonSchema)
 pub struct Tracker {
     pub users: Vec<User>,
+    /// the areas by their names
     pub areas: BTreeMap<String, Area>,
+    /// the values of the fields that it defines itself
+    // serde(default)
     pub settings: BTreeMap<String, FieldValue>,
-}
-
-impl JsonSchema for Tracker {
-    ghost says = { own (codes "Tracker") (λ d. IsIn ⟦<Vec<User> as JsonSchema>⟧.says d × IsIn ⟦<BTreeMap<String, Area> as JsonSchema>⟧.says d × IsIn ⟦<BTreeMap<String, FieldValue> as JsonSchema>⟧.says d) };
-
-    fn inline_schema() -> bool {
-        false
-    }
-
-    fn schema_name(_alloc: Global) -> Result<CowStr<'static>, AllocError> {
-        Ok(CowStr::Borrowed("Tracker"))
-    }
-
-    fn schema_id(alloc: Global) -> Result<CowStr<'static>, AllocError> {
-        Self::schema_name(alloc)
-    }
-
-    fn json_schema(alloc: Global, types: &mut Types) -> Result<TypeEntry, TypesError> {
-        let mut fields = Vec::new(alloc);
-        add_field::<Vec<User>>(alloc, types, &mut fields, "users", REQUIRED)?;
-        add_field::<BTreeMap<String, Area>>(alloc, types, &mut fields, "areas", REQUIRED)?;
-        let names = Value::try_from_str(alloc, "the areas by their names")?;
-        note_field(alloc, &mut fields, "description", names)?;
-        add_field::<BTreeMap<String, FieldValue>>(alloc, types, &mut fields, "settings", OPTIONAL)?;
-        let mut entry = struct_entry(alloc, fields, false);
-        let title = Value::try_from_str(alloc, "An issue tracker")?;
-        note_entry(alloc, &mut entry, "title", title)?;
-        Ok(entry)
-    }
 }

@@ -1,0 +1,5 @@
+//! The implementations of `JsonSchema`, which `schemaderive` wrote of the declarations.
+mod issues;
+mod people;
+mod tracker;
+mod values;
