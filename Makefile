@@ -13,7 +13,7 @@ deriver = crates/schemaderive/out/schemaderive
 retries = crates/schemars_retries/out/schemars_retries
 library = out/library
 # the crates below the programs, lowest first
-libraries = $(shell sed -n '/^schemagen:/q; s/^\([a-z_]*\):.*/\1/p' crates.txt) $(shell sed -n 's/^\(schemaderive_[a-z]*\):.*/\1/p' crates.txt | grep -v _cases)
+libraries = $(shell sed -n '/^schemagen:/q; s/^\([a-z_]*\):.*/\1/p' crates.txt) schemalint_run schemars_validator schemars_membership $(shell sed -n 's/^\(schemaderive_[a-z]*\):.*/\1/p' crates.txt | grep -v '_cases\|_proved')
 
 help:
 	@echo 'make run [TABLE="FILE.."] [DIALECT=..] [FLAGS=..] prints the document of each table, without proofs'
@@ -52,14 +52,15 @@ validate:
 derive: $(deriver)
 	@tools/derived $(deriver)
 
-# Proves the libraries, which takes about an hour on two cores, and builds the programs.
+# Proves the libraries, which takes some two hours on two cores, and builds the programs.
 program:
 	@started=$$(date +%s); done=0; all=$(words $(libraries)); \
 	for crate in $(libraries); do \
 	    done=$$((done + 1)); \
 	    echo "proving $$crate ($$done of $$all, $$(( ($$(date +%s) - started) / 60 )) minutes so far)" >&2; \
 	    (cd crates/$$crate && rt check >/dev/null) || exit 1; \
-	done
+	done; \
+	echo "proving the programs, after $$(( ($$(date +%s) - started) / 60 )) minutes" >&2
 	@cd crates/schemavalid && rt run < stdin -- 2020-12 data/schema.json >/dev/null || [ $$? = 1 ]
 	@cd $(program) && rt run < ../../examples/vec-option-u8.json -- types 2020-12 >/dev/null
 	@cd crates/schemalint && rt run < ../../examples/linked-list.json >/dev/null
