@@ -6,6 +6,8 @@ names     a tuple of N structs that all have one name
 chain     N structs, each with the next one as its field
 branches  a chain of N structs, each with a branch of N structs that ends in the one before it in the chain
 mixed     the types of an API, at least N: structs with notes, enums of each kind, maps, lists, tuples, flattened structs
+flattened sixteen rows at a time, at least N: a chain of eight structs, each flattened into the one
+          before it, and a struct into which six structs and an enum are flattened
 """
 import json
 import sys
@@ -135,7 +137,39 @@ def branches(n):
     return rows
 
 
-KINDS = {"tree": tree, "names": names, "chain": chain, "branches": branches, "mixed": mixed}
+def flattening(name, own, parts):
+    """A struct with two fields of its own and the members of these parts."""
+    shape = {"fields": listed((f"{own}_count", 1), (f"{own}_name", 2)),
+             "flatten": [{"type": part} for part in parts]}
+    return {"id": name, "name": name, "shape": {"struct": shape}}
+
+
+def tagged(name, tag):
+    """An enum with a tag inside, which is flattened."""
+    variants = [{"name": "open", "payload": fields((f"{tag}_since", 1))},
+                {"name": "shut", "payload": fields((f"{tag}_why", 2))}]
+    return {"id": name, "name": name, "shape": {"internal": {"tag": tag, "variants": variants}}}
+
+
+def flattened(n):
+    rows = [{"id": "All", "name": "All"},
+            {"id": "uint64", "name": "uint64", "inline": True, "shape": {"int": "u64"}},
+            {"id": "string", "name": "string", "inline": True, "shape": "text"}]
+    heads = []
+    for k in range((n + 15) // 16):
+        first = len(rows)
+        for i in range(8):
+            rows.append(flattening(f"Link{k}x{i}", f"link{i}", [first + i + 1] if i < 7 else []))
+        rows += [flattening(f"Part{k}x{i}", f"part{i}", []) for i in range(6)]
+        rows.append(tagged(f"State{k}", "state"))
+        rows.append(flattening(f"Fan{k}", "fan", range(first + 8, first + 15)))
+        heads += [(f"chain{k}", first), (f"fan{k}", first + 15)]
+    rows[0]["shape"] = fields(*heads)
+    return rows
+
+
+KINDS = {"tree": tree, "names": names, "chain": chain, "branches": branches, "mixed": mixed,
+         "flattened": flattened}
 
 
 def main():
