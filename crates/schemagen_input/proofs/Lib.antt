@@ -11,3 +11,6 @@ mod Samples
 mod SampleJson
 pub mod AsRead
 mod Roots
+pub mod OneMember
+pub mod OtherKinds
+pub mod Gathering

@@ -252,17 +252,8 @@ row_parts d r is =
 nothing_said : {T : Type 0} (o : Option T) (x : T) (b : Bool) → o ≡ None → o ≡ Some x → b ≡ false
 nothing_said o x b none some = cc
 
-pub without_heading : (ds : List Data) (d : Data) → heading_in d ≡ None → BeginsNoTable (ds ++ d ∷ [])
-without_heading ds d none more rows e =
-    let s = split_behind ds d more rows e in
-    let parts = row_parts d s.row s.here in
-    nothing_said (heading_in d) parts.0 (is_complete rows) none parts.2
-
-pub without_entry : (ds : List Data) (d : Data) → entry_in d ≡ None → BeginsNoTable (ds ++ d ∷ [])
-without_entry ds d none more rows e =
-    let s = split_behind ds d more rows e in
-    let parts = row_parts d s.row s.here in
-    nothing_said (entry_in d) parts.1 (is_complete rows) none parts.3
+pub without_row : (ds : List Data) (d : Data) → row_in d ≡ None → BeginsNoTable (ds ++ d ∷ [])
+without_row ds d none more rows e = let s = split_behind ds d more rows e in nothing_said (row_in d) s.row (is_complete rows) none s.here
 
 pub with_known_id : (ds : List Data) (d : Data) (hs : List Row) (es : List Entry) (id name : Text) → AreListed ds hs es
     → heading_in d ≡ Some (unentered id name) → is_some (place_of id hs) ≡ true → BeginsNoTable (ds ++ d ∷ [])

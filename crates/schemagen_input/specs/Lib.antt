@@ -6,3 +6,5 @@ pub mod Written
 pub mod Listing
 pub mod SampleInput
 pub mod Texts
+pub mod Tokens
+pub mod Gathered

@@ -1,5 +1,5 @@
 -- The rows of a table while they are read: their headings as a table, and their entries, before it is known whether these refer to rows.
-use Rattle.std.specs.Prelude.{◌≡◌, List, ◌++◌, true, false, Option, Some, None, map, option_and_then, codes, ◌∷◌, []}
+use Rattle.std.specs.Prelude.{◌≡◌, List, ◌++◌, true, false, Option, Some, None, map, option_and_then, codes, string_bytes, ◌∷◌, []}
 use Rattle.serde_json.specs.Data.{Data, Items, Members, object, put}
 use Rattle.serde_json.specs.Find.{as_array, get}
 use Rattle.serde_json.specs.View.{items_of}
@@ -8,8 +8,9 @@ use Rattle.schemagen_json.specs.Members.{has_only}
 use Rattle.schemars_shapes.specs.Shape.{Entry, entry_of}
 use Rattle.schemars_types.specs.Rows.{Row}
 use Rattle.schemagen_input.specs.Forms.{needed_member, read_each, number_in}
-use Rattle.schemagen_input.specs.Input.{heading_in, entry_in, rows_in, ids_differ, ids_of, is_complete}
+use Rattle.schemagen_input.specs.Input.{heading_in, entry_in, row_in, rows_in, unentered, ids_differ, ids_of, is_complete}
 use Rattle.schemagen_input.specs.declared.listing.Listing.{Listing}
+use Rattle.schemagen_input.specs.declared.listing.NewRow.{NewRow}
 use Rattle.schemagen_input.specs.declared.table_members.TableMembers.{TableMembers}
 
 -- the rows that the items of a list say, without their entries
@@ -41,6 +42,11 @@ BeginsNoTable ds = (more : List Data) → IsNoTable (ds ++ more)
 abbrev pub AreBegun : Option Listing → List Data → Type 0
 AreBegun (Some l) ds = IsListing ds l
 AreBegun None ds = BeginsNoTable ds
+
+-- the row that a value says, without its place
+abbrev pub IsRowIn : Option NewRow → Data → Type 0
+IsRowIn (Some r) d = (heading_in d ≡ Some (unentered (string_bytes r.id) (string_bytes r.name))) × (entry_in d ≡ Some (entry_of r.entry))
+IsRowIn None d = row_in d ≡ None
 
 -- ---- the members of a table's object
 

@@ -1,5 +1,5 @@
 //! Why a value is not an input.
-ghost use Rattle.std.specs.Prelude.{◌≡◌};
+ghost use Rattle.std.specs.Prelude.{◌≡◌, Some, None, IfOk, MatchResult};
 ghost use Rattle.schemagen_input.specs.Errors.{as_input};
 
 use schemars_types::TypesError;
@@ -42,5 +42,17 @@ impl From<TypesError> for InputError {
             TypesError::OutOfMemory => InputError::OutOfMemory,
             _ => InputError::BadTable,
         }
+    }
+}
+
+/// What is said, or that it is not of a table.
+pub fn if_said<T>(said: Result<T, InputError>) -> Result<Option<T>, AllocError>
+    ensures { IfOk result (λ found. MatchResult said (λ t. found ≡ Some t)
+        (λ e. (e ≡ InputError.BadTable) × (found ≡ None))) }
+{
+    match said {
+        Ok(found) => Ok(Some(found)),
+        Err(InputError::BadTable) => Ok(None),
+        Err(InputError::OutOfMemory) => Err(AllocError),
     }
 }

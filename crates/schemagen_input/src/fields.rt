@@ -1,8 +1,8 @@
 //! Fields of structs.
 ghost use Rattle.std.specs.Prelude.{◌≡◌, true, None, Some, IfOk, IfErr, option_map, map, codes};
-ghost use Rattle.schemagen_json.specs.BorrowedValue.{data_of};
+ghost use Rattle.schemagen_json.specs.BorrowedValue.{data_of, items_data};
 ghost use Rattle.schemars_shapes.specs.Shape.{shape_of, field_of, flattened_of, fields_of, required_of};
-ghost use Rattle.schemagen_input.specs.Forms.{required, required_each, required_in, field_in, fields_said, struct_in, flattened_from, optional_member, fields_in, all_flattened_in};
+ghost use Rattle.schemagen_input.specs.Forms.{required, required_each, required_in, field_in, fields_said, struct_in, flattened_from, optional_member, fields_in, all_flattened_in, read_each};
 
 use crate::error::InputError;
 use crate::members::{flag_in, items_under, notes_in, number_of, text_in};
@@ -25,7 +25,8 @@ fn required_each(value: &BorrowedValue<'_>) -> Option<Required>
     })
 }
 
-fn required_in(value: &BorrowedValue<'_>) -> Option<Required>
+/// Whether a member has to be there: a truth value says it for both directions.
+pub fn required_in(value: &BorrowedValue<'_>) -> Option<Required>
     ensures { option_map required_of result ≡ required_in (data_of value.now) }
 {
     match value.as_bool() {
@@ -106,16 +107,16 @@ fn flattened_in(value: &BorrowedValue<'_>) -> Option<Flattened>
     Some(Flattened { ty, required })
 }
 
-// The rows flattened into a struct; there are none where they are missing.
-fn all_flattened_in(alloc: Global, value: &BorrowedValue<'_>) -> Result<Vec<Flattened>, InputError>
+/// The rows flattened into a struct that these items say.
+pub fn flattened_each(
+    alloc: Global,
+    items: &[BorrowedValue<'_>],
+) -> Result<Vec<Flattened>, InputError>
     ensures ok { IfOk result
-        (λ v. all_flattened_in (data_of value.now) ≡ Some (map flattened_of v.items)) }
+        (λ v. read_each flattened_from (items_data items.now) ≡ Some (map flattened_of v.items)) }
     ensures bad { IfErr result (λ e. e ≡ InputError.BadTable
-        → all_flattened_in (data_of value.now) ≡ None) }
+        → read_each flattened_from (items_data items.now) ≡ None) }
 {
-    let Some(items) = items_under(value, "flatten") else {
-        return Err(InputError::BadTable);
-    };
     let mut rows = Vec::new(alloc);
     for item in items {
         let Some(row) = flattened_in(item) else {
@@ -124,6 +125,19 @@ fn all_flattened_in(alloc: Global, value: &BorrowedValue<'_>) -> Result<Vec<Flat
         rows.push(row)?;
     }
     Ok(rows)
+}
+
+// The rows flattened into a struct; there are none where they are missing.
+fn all_flattened_in(alloc: Global, value: &BorrowedValue<'_>) -> Result<Vec<Flattened>, InputError>
+    ensures ok { IfOk result
+        (λ v. all_flattened_in (data_of value.now) ≡ Some (map flattened_of v.items)) }
+    ensures bad { IfErr result (λ e. e ≡ InputError.BadTable
+        → all_flattened_in (data_of value.now) ≡ None) }
+{
+    match items_under(value, "flatten") {
+        Some(items) => flattened_each(alloc, items),
+        None => Err(InputError::BadTable),
+    }
 }
 
 /// The fields of a struct, the rows flattened into it, and whether other keys are excluded.

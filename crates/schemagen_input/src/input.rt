@@ -1,11 +1,9 @@
 //! The table that a JSON value says.
-ghost use Rattle.std.specs.Prelude.{◌≡◌, ◌≢◌, ◌<◌, ℕ, List, [], true, None, Some, IfOk, IfErr, option_map, length};
-ghost use Rattle.schemagen_json.specs.BorrowedValue.{data_of, items_data};
-ghost use Rattle.schemagen_input.specs.Forms.{needed_member};
-ghost use Rattle.schemagen_input.specs.Input.{heading_in, unentered, is_complete, table_in, input_of};
+ghost use Rattle.std.specs.Prelude.{◌≡◌, ◌≢◌, ◌<◌, ℕ, List, true, None, Some, IfOk, IfErr, length};
+ghost use Rattle.schemagen_json.specs.BorrowedValue.{data_of};
+ghost use Rattle.schemagen_input.specs.Input.{is_complete, table_in, input_of};
 ghost use Rattle.schemagen_input.specs.Written.{json_of, CanBeWritten};
 ghost use Rattle.schemars_types.specs.Rows.{Row};
-ghost use Rattle.serde_json.specs.Find.{as_array};
 
 use crate::error::InputError;
 use crate::table_members::TableMembers;

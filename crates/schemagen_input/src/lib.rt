@@ -11,6 +11,7 @@ mod sample;
 mod shapes;
 mod table_members;
 mod text;
+mod tokens;
 mod variants;
 
 pub use error::InputError;

@@ -1,12 +1,12 @@
 //! The rows of a table, read one after another.
-ghost use Rattle.std.specs.Prelude.{◌≡◌, ◌++◌, ◌∷◌, [], List, Err, OnOk, IfOk, IfErr, option_map, map};
+ghost use Rattle.std.specs.Prelude.{◌≡◌, ◌++◌, ◌∷◌, [], List, Some, Err, OnOk, IfOk, IfErr, option_map, map};
 ghost use Rattle.serde_json.specs.Data.{Data};
 ghost use Rattle.schemagen_json.specs.BorrowedValue.{data_of};
 ghost use Rattle.schemagen_input.specs.Input.{heading_in, unentered};
 ghost use Rattle.schemars_shapes.specs.Shape.{entry_of};
-ghost use Rattle.schemagen_input.specs.Listing.{AreListed, IsListing, AreBegun, BeginsNoTable, IsTableOf, IsNoTable};
+ghost use Rattle.schemagen_input.specs.Listing.{AreListed, IsListing, AreBegun, IsRowIn, BeginsNoTable, IsTableOf, IsNoTable};
 
-use crate::error::InputError;
+use crate::error::{InputError, if_said};
 use crate::members::text_in;
 use crate::shapes::entry_in;
 use schemagen_json::BorrowedValue;
@@ -23,6 +23,14 @@ pub struct Listing {
     pub entries: Vec<TypeEntry>,
 }
 
+/// A row that is not in the table yet.
+#[derive(Drop)]
+pub struct NewRow {
+    pub id: String,
+    pub name: String,
+    pub entry: TypeEntry,
+}
+
 impl Listing {
     /// No rows.
     pub fn new(alloc: Global) -> Listing
@@ -34,27 +42,22 @@ impl Listing {
         }
     }
 
-    /// Adds the row that a value says.
+    /// Adds a row.
     ///
     /// # Errors
     ///
-    /// `BadTable` if it says none, or one with an id that is there already, and `OutOfMemory`.
-    pub fn add(&mut self, alloc: Global, row: &BorrowedValue<'_>) -> Result<(), InputError>
-        ensures ok { OnOk result ((ds : List Data) → IsListing ds self.old
-            → IsListing (ds ++ data_of row.now ∷ []) self.new) }
-        ensures bad { result ≡ Err InputError.BadTable → (ds : List Data) → IsListing ds self.old
-            → BeginsNoTable (ds ++ data_of row.now ∷ []) }
+    /// `BadTable` if its id is there already, and `OutOfMemory`.
+    pub fn add(&mut self, row: NewRow) -> Result<(), InputError>
+        ensures ok { OnOk result ((ds : List Data) (d : Data) → IsRowIn (Some row) d
+            → IsListing ds self.old → IsListing (ds ++ d ∷ []) self.new) }
+        ensures bad { result ≡ Err InputError.BadTable → (ds : List Data) (d : Data)
+            → IsRowIn (Some row) d → IsListing ds self.old → BeginsNoTable (ds ++ d ∷ []) }
     {
-        let Some((id, name)) = heading_in(row) else {
-            return Err(InputError::BadTable);
-        };
-        if self.types.find(id).is_some() {
+        let NewRow { id, name, entry } = row;
+        if self.types.find(id.as_str()).is_some() {
             return Err(InputError::BadTable);
         }
-        let entry = entry_in(alloc, row)?;
         self.entries.push(entry)?;
-        let id = String::from_str(alloc, id)?;
-        let name = String::from_str(alloc, name)?;
         self.types.reserve(id, name)?;
         Ok(())
     }
@@ -84,6 +87,21 @@ fn heading_in<'a>(value: &BorrowedValue<'a>) -> Option<(&'a str, &'a str)>
     Some((id, name))
 }
 
+// The row that a value says.
+fn row_in(alloc: Global, value: &BorrowedValue<'_>) -> Result<Option<NewRow>, AllocError>
+    ensures { IfOk result (λ row. IsRowIn row (data_of value.now)) }
+{
+    let Some((id, name)) = heading_in(value) else {
+        return Ok(None);
+    };
+    let Some(entry) = if_said(entry_in(alloc, value))? else {
+        return Ok(None);
+    };
+    let id = String::from_str(alloc, id)?;
+    let name = String::from_str(alloc, name)?;
+    Ok(Some(NewRow { id, name, entry }))
+}
+
 // Defines the rows in their order.
 fn define_rows(mut types: Types, entries: Vec<TypeEntry>) -> Result<Types, InputError>
     ensures ok { IfOk result (λ t. (ds : List Data)
@@ -104,25 +122,28 @@ pub fn list_rows(alloc: Global, rows: &[BorrowedValue<'_>]) -> Result<Option<Lis
     ensures { IfOk result (λ listing. AreBegun listing (map data_of rows.now)) }
 {
     let mut listing = Some(Listing::new(alloc));
-    for row in rows {
-        listing = with_row(alloc, listing, row)?;
+    for value in rows {
+        let row = row_in(alloc, value)?;
+        listing = with_row(listing, row)?;
     }
     Ok(listing)
 }
 
 /// The rows so far with one more: none if no list that begins so is that of a table.
 pub fn with_row(
-    alloc: Global,
     listing: Option<Listing>,
-    row: &BorrowedValue<'_>,
+    row: Option<NewRow>,
 ) -> Result<Option<Listing>, AllocError>
-    ensures { IfOk result (λ more. (ds : List Data) → AreBegun listing ds
-        → AreBegun more (ds ++ data_of row.now ∷ [])) }
+    ensures { IfOk result (λ more. (ds : List Data) (d : Data) → IsRowIn row d
+        → AreBegun listing ds → AreBegun more (ds ++ d ∷ [])) }
 {
     let Some(mut listing) = listing else {
         return Ok(None);
     };
-    match listing.add(alloc, row) {
+    let Some(row) = row else {
+        return Ok(None);
+    };
+    match listing.add(row) {
         Ok(()) => Ok(Some(listing)),
         Err(InputError::BadTable) => Ok(None),
         Err(InputError::OutOfMemory) => Err(AllocError),

@@ -63,8 +63,12 @@ fn tuple_in(alloc: Global, value: &BorrowedValue<'_>) -> Result<Option<Shape>, A
     Ok(parts.map(Shape::Tuple))
 }
 
-// The shape that an object with this one member says.
-fn shape_under(alloc: Global, name: &str, value: &BorrowedValue<'_>) -> Result<Shape, InputError>
+/// The shape that an object with this one member says.
+pub fn shape_under(
+    alloc: Global,
+    name: &str,
+    value: &BorrowedValue<'_>,
+) -> Result<Shape, InputError>
     ensures ok { IfOk result (λ s. shape_under name.now (data_of value.now) ≡ Some (shape_of s)) }
     ensures bad { IfErr result
         (λ e. e ≡ InputError.BadTable → shape_under name.now (data_of value.now) ≡ None) }
@@ -186,7 +190,8 @@ fn format_in(alloc: Global, value: &BorrowedValue<'_>) -> Result<Option<Shape>, 
     Ok(Some(Shape::Formatted(String::from_str(alloc, format)?)))
 }
 
-fn shape_in(alloc: Global, value: &BorrowedValue<'_>) -> Result<Shape, InputError>
+/// A shape.
+pub fn shape_in(alloc: Global, value: &BorrowedValue<'_>) -> Result<Shape, InputError>
     ensures ok { IfOk result (λ s. shape_in (data_of value.now) ≡ Some (shape_of s)) }
     ensures bad { IfErr result
         (λ e. e ≡ InputError.BadTable → shape_in (data_of value.now) ≡ None) }

@@ -12,6 +12,7 @@ ghost use Rattle.schemagen_input.specs.Listing.{AreBegun, IsListIn, AreMembersOf
 use crate::error::InputError;
 use crate::listing::{Listing, list_rows, with_row};
 use crate::members::{number_in, number_of};
+use crate::tokens::read_row;
 use json::{Reader, Scratch, Token};
 use schemagen_json::{BorrowedValue, MAX_DEPTH, ParseError, read_value, read_value_from};
 use schemars_types::{TypeNo, Types};
@@ -196,7 +197,7 @@ fn read_rows(alloc: Global, reader: &mut Reader<'_>) -> Result<Option<Listing>, 
     }
 }
 
-// The rows of a list, up to its end. Each is freed as JSON before the next one is read.
+// The rows of a list, up to its end.
 fn read_items(alloc: Global, reader: &mut Reader<'_>) -> Result<Option<Listing>, ParseError>
     ensures ok { IfOk result (λ listing. (ds : List Data)
         × (converted of_items (items (value 125) (length reader.old) reader.old)
@@ -225,6 +226,6 @@ fn with_next_row(
     ensures not_json { result ≡ Err ParseError.NotJson
         → converted of_json (value 125 reader.old) ≡ None }
 {
-    let row = read_value(alloc, reader, ROW_DEPTH)?;
-    Ok(with_row(alloc, listing, &row)?)
+    let row = read_row(alloc, reader, ROW_DEPTH)?;
+    Ok(with_row(listing, row)?)
 }

@@ -1,0 +1,182 @@
+-- What is said of a field, a struct, a row and a shape, with one member more.
+use Rattle.std.proofs.Common.{◌≡◌, List, [], ◌∷◌, ◌++◌, map, Bor, true, false, ◌&&◌, Option, Some, None, option_map, option_and_then, codes, string_bytes, refl, ap, ◌∙◌, sym, subst, true≢false, Ordering, Less, Equal, Greater, is_eq, nat_cmp}
+use Rattle.std.specs.Cmp.Lexicographic.{slice_cmp}
+use Rattle.std.specs.Option.{option_map_or}
+use Rattle.std.specs.Ordering.{match_ordering}
+use Rattle.std.specs.Str.{bytes_eq}
+use Rattle.std.proofs.lemmas.Cmp.{nat_list_cmp_total, tied_itself}
+use Rattle.std.proofs.lemmas.Map.Text.{is_eq-slice_cmp}
+use Rattle.std.proofs.lemmas.Slice.Eq.{bytes_eq-Decides}
+use Rattle.serde_json.specs.Data.{Data, no_items, Members, no_members, member, object, put}
+use Rattle.serde_json.specs.Find.{as_array, as_bool, as_object, as_str, get}
+use Rattle.serde_json.specs.View.{items_of, members_view}
+use Rattle.schemars_schema.specs.Json.{Text}
+use Rattle.schemars_shapes.specs.Shape.{field_of, flattened_of, required_of, shape_of}
+use Rattle.schemars_shapes.specs.declared.shape.Shape as source
+use Rattle.schemars_text.specs.OrderedText.{is_listed}
+use Rattle.schemagen_input.specs.Forms.{field_in, field_names, flattened_from, number_in, optional_member, read_each, read_list, required, required_in}
+use Rattle.schemagen_input.specs.Gathered.{AreOfField, AreOfStruct, AreOfShape, AreOfRow, AreSeveral, can_be_lone}
+use Rattle.schemagen_input.specs.Input.{row_names, shape_in, shape_under}
+use Rattle.schemagen_input.specs.Tokens.{listed, with_last}
+use Rattle.schemagen_input.specs.declared.tokens.field.FieldMembers.{FieldMembers}
+use Rattle.schemagen_input.specs.declared.tokens.fields.StructMembers.{StructMembers}
+use Rattle.schemagen_input.specs.declared.tokens.row.RowMembers.{RowMembers}
+use Rattle.schemagen_input.specs.declared.tokens.shape.ShapeMembers.{ShapeMembers}
+use Rattle.schemagen_input.specs.declared.tokens.shape.ShapeMembers.TheVariants.{Empty, Lone, Several}
+use Rattle.schemagen_input.proofs.OneMember.{Follows, needed_follows, optional_follows, only_follows, other_name, stays}
+
+-- a list that is missing is empty
+list_is : {T : Type 0} (says : Data → Option T) (key : Text) (d : Data) → read_list says key d ≡ optional_member [] (listed says) key d
+list_is {T = T} says key d = by (get key d)
+  where
+    by : (o : Option Data) → option_and_then (read_each says) (option_map_or as_array o (Some no_items)) ≡ option_map_or (listed says) o (Some [])
+    by None = refl
+    by (Some e) = refl
+
+-- what the items so far say, with one more
+pub each_more : {T : Type 0} (says : Data → Option T) (ds : List Data) (d : Data)
+    → read_each says (items_of (ds ++ d ∷ [])) ≡ with_last (read_each says (items_of ds)) (says d)
+each_more {T = T} says [] d = by (says d)
+  where
+    by : (o : Option T) → option_and_then (λ x. option_map (λ xs. x ∷ xs) (Some [])) o ≡ option_map (λ x. x ∷ []) o
+    by None = refl
+    by (Some x) = refl
+each_more {T = T} says (c ∷ ds) d = by (says c) (read_each says (items_of ds)) (says d) _ (each_more says ds d)
+  where
+    by : (first : Option T) (later : Option (List T)) (last : Option T) (all : Option (List T)) → all ≡ with_last later last
+        → option_and_then (λ x. option_map (λ xs. x ∷ xs) all) first ≡ with_last (option_and_then (λ x. option_map (λ xs. x ∷ xs) later) first) last
+    by None later last all is = refl
+    by (Some x) None last all is = ap (option_map (λ xs. x ∷ xs)) is
+    by (Some x) (Some xs) None all is = ap (option_map (λ xs. x ∷ xs)) is
+    by (Some x) (Some xs) (Some y) all is = ap (option_map (λ xs. x ∷ xs)) is
+
+module _ (k : Text) (d : Data) (ms : Members) where
+  pub field_follows : (old new : FieldMembers) → AreOfField old (object ms)
+      → new.only ≡ is_listed k field_names && old.only
+      → Follows (codes "name") as_str k d (option_map string_bytes old.name) (option_map string_bytes new.name)
+      → Follows (codes "type") number_in k d old.ty new.ty
+      → Follows (codes "required") required_in k d (option_map required_of old.required) (option_map required_of new.required)
+      → Follows (codes "notes") as_object k d (option_map (λ n. members_view n.entries) old.notes) (option_map (λ n. members_view n.entries) new.notes)
+      → AreOfField new (object (put k d ms))
+  field_follows old new were only name ty need notes = record {
+    only = only_follows field_names k d ms old.only new.only were.only only;
+    name = needed_follows as_str (codes "name") k d ms _ _ were.name name;
+    ty = needed_follows number_in (codes "type") k d ms _ _ were.ty ty;
+    need = optional_follows required_in (codes "required") k d ms _ _ (required true true) were.need need;
+    notes = optional_follows as_object (codes "notes") k d ms _ _ no_members were.notes notes;
+  }
+
+  pub field_stays : (old : FieldMembers) → bytes_eq k (codes "name") ≡ false → bytes_eq k (codes "type") ≡ false
+      → bytes_eq k (codes "required") ≡ false → bytes_eq k (codes "notes") ≡ false → AreOfField old (object ms)
+      → AreOfField (record old { only = false }) (object (put k d ms))
+  field_stays old name type required notes were =
+      let unknown : is_listed k field_names ≡ false = rw (name, type, required, notes) refl in
+      field_follows old (record old { only = false }) were (sym (ap (λ b. b && old.only) unknown))
+      (stays (codes "name") as_str k d (option_map string_bytes old.name) name)
+      (stays (codes "type") number_in k d old.ty type)
+      (stays (codes "required") required_in k d (option_map required_of old.required) required)
+      (stays (codes "notes") as_object k d (option_map (λ n. members_view n.entries) old.notes) notes)
+
+  pub struct_follows : (old new : StructMembers) → AreOfStruct old (object ms)
+      → new.only ≡ is_listed k (codes "fields" ∷ codes "flatten" ∷ codes "closed" ∷ []) && old.only
+      → Follows (codes "fields") (listed field_in) k d (option_map (λ v. map field_of v.items) old.list) (option_map (λ v. map field_of v.items) new.list)
+      → Follows (codes "flatten") (listed flattened_from) k d (option_map (λ v. map flattened_of v.items) old.flatten)
+      (option_map (λ v. map flattened_of v.items) new.flatten)
+      → Follows (codes "closed") as_bool k d old.closed new.closed
+      → AreOfStruct new (object (put k d ms))
+  struct_follows old new were only list flatten closed = record {
+    only = only_follows (codes "fields" ∷ codes "flatten" ∷ codes "closed" ∷ []) k d ms old.only new.only were.only only;
+    list = optional_follows (listed field_in) (codes "fields") k d ms _ _ [] (were.list ∙ list_is field_in (codes "fields") (object ms)) list
+        ∙ sym (list_is field_in (codes "fields") (object (put k d ms)));
+    flatten = optional_follows (listed flattened_from) (codes "flatten") k d ms _ _ []
+        (were.flatten ∙ list_is flattened_from (codes "flatten") (object ms)) flatten
+        ∙ sym (list_is flattened_from (codes "flatten") (object (put k d ms)));
+    closed = optional_follows as_bool (codes "closed") k d ms _ _ false were.closed closed;
+  }
+
+  pub struct_stays : (old : StructMembers) → bytes_eq k (codes "fields") ≡ false → bytes_eq k (codes "flatten") ≡ false
+      → bytes_eq k (codes "closed") ≡ false → AreOfStruct old (object ms) → AreOfStruct (record old { only = false }) (object (put k d ms))
+  struct_stays old fields flatten closed were =
+      let unknown : is_listed k (codes "fields" ∷ codes "flatten" ∷ codes "closed" ∷ []) ≡ false = rw (fields, flatten, closed) refl in
+      struct_follows old (record old { only = false }) were (sym (ap (λ b. b && old.only) unknown))
+      (stays (codes "fields") (listed field_in) k d (option_map (λ v. map field_of v.items) old.list) fields)
+      (stays (codes "flatten") (listed flattened_from) k d (option_map (λ v. map flattened_of v.items) old.flatten) flatten)
+      (stays (codes "closed") as_bool k d old.closed closed)
+
+  pub row_follows : (old new : RowMembers) → AreOfRow old (object ms)
+      → new.only ≡ is_listed k row_names && old.only
+      → Follows (codes "id") as_str k d (option_map string_bytes old.id) (option_map string_bytes new.id)
+      → Follows (codes "name") as_str k d (option_map string_bytes old.name) (option_map string_bytes new.name)
+      → Follows (codes "inline") as_bool k d old.inline new.inline
+      → Follows (codes "notes") as_object k d (option_map (λ n. members_view n.entries) old.notes) (option_map (λ n. members_view n.entries) new.notes)
+      → Follows (codes "shape") shape_in k d (option_map shape_of old.shape) (option_map shape_of new.shape)
+      → AreOfRow new (object (put k d ms))
+  row_follows old new were only id name inline notes shape = record {
+    only = only_follows row_names k d ms old.only new.only were.only only;
+    id = needed_follows as_str (codes "id") k d ms _ _ were.id id;
+    name = needed_follows as_str (codes "name") k d ms _ _ were.name name;
+    inline = optional_follows as_bool (codes "inline") k d ms _ _ false were.inline inline;
+    notes = optional_follows as_object (codes "notes") k d ms _ _ no_members were.notes notes;
+    shape = needed_follows shape_in (codes "shape") k d ms _ _ were.shape shape;
+  }
+
+  pub row_stays : (old : RowMembers) → bytes_eq k (codes "id") ≡ false → bytes_eq k (codes "name") ≡ false
+      → bytes_eq k (codes "inline") ≡ false → bytes_eq k (codes "notes") ≡ false → bytes_eq k (codes "shape") ≡ false
+      → AreOfRow old (object ms) → AreOfRow (record old { only = false }) (object (put k d ms))
+  row_stays old id name inline notes shape were =
+      let unknown : is_listed k row_names ≡ false = rw (id, name, inline, notes, shape) refl in
+      row_follows old (record old { only = false }) were (sym (ap (λ b. b && old.only) unknown))
+      (stays (codes "id") as_str k d (option_map string_bytes old.id) id)
+      (stays (codes "name") as_str k d (option_map string_bytes old.name) name)
+      (stays (codes "inline") as_bool k d old.inline inline)
+      (stays (codes "notes") as_object k d (option_map (λ n. members_view n.entries) old.notes) notes)
+      (stays (codes "shape") shape_in k d (option_map shape_of old.shape) shape)
+
+-- ---- shapes
+
+equal_texts : (k l : Text) → slice_cmp nat_cmp k l ≡ Equal → k ≡ l
+equal_texts k l is = (bytes_eq-Decides k l).0 (sym (is_eq-slice_cmp k l) ∙ ap is_eq is)
+
+put_some : (k : Text) (d : Data) (l : Text) (e : Data) (ms : Members) (j : Text) (f : Data) → AreSeveral (member j f (put k d (member l e ms)))
+put_some k d l e ms j f = by (slice_cmp nat_cmp k l)
+  where
+    by : (o : Ordering) → AreSeveral (member j f (match_ordering o (member k d (member l e ms)) (member l d ms) (member l e (put k d ms))))
+    by Less = tt
+    by Equal = tt
+    by Greater = tt
+
+several_more : (k : Text) (d : Data) (ms : Members) → AreSeveral ms → AreSeveral (put k d ms)
+several_more k d no_members several = absurd several
+several_more k d (member l e no_members) several = absurd several
+several_more k d (member l e (member m f ms)) several = by (slice_cmp nat_cmp k l) (put_some k d m f ms l e)
+  where
+    by : (o : Ordering) → AreSeveral (member l e (put k d (member m f ms)))
+        → AreSeveral (match_ordering o (member k d (member l e (member m f ms))) (member l d (member m f ms)) (member l e (put k d (member m f ms))))
+    by Less more = tt
+    by Equal more = tt
+    by Greater more = more
+
+two_names : (k l : Text) (d e : Data) → bytes_eq l k ≡ false → AreSeveral (put k d (member l e no_members))
+two_names k l d e apart = by (slice_cmp nat_cmp k l) refl
+  where
+    by : (o : Ordering) → slice_cmp nat_cmp k l ≡ o → AreSeveral (match_ordering o (member k d (member l e no_members)) (member l d no_members) (member l e (member k d no_members)))
+    by Less is = tt
+    by Equal is = absurd (other_name l k apart (equal_texts k l is))
+    by Greater is = tt
+
+module _ (name : Bor Text) (d : Data) (ms : Members) where
+  pub lone_follows : (old : ShapeMembers) (shape : Option source.Shape) → can_be_lone name.now old ≡ true → AreOfShape old ms
+      → option_map shape_of shape ≡ shape_under name.now d → AreOfShape (Lone name shape) (put name.now d ms)
+  lone_follows Empty shape may were said = (d, ap (put name.now d) were, said)
+  lone_follows (Lone lone s) shape may were said =
+      let is : lone.now ≡ name.now = (bytes_eq-Decides lone.now name.now).0 may in (
+        d,
+        ap (put name.now d) were.1 ∙ ap (λ l. put name.now d (member l were.0 no_members)) is ∙ rw (tied_itself nat_list_cmp_total name.now),
+        said,
+      )
+  lone_follows Several shape may were said = absurd (true≢false (sym may))
+
+  pub several_follow : (old : ShapeMembers) → can_be_lone name.now old ≡ false → AreOfShape old ms → AreSeveral (put name.now d ms)
+  several_follow Empty may were = absurd (true≢false may)
+  several_follow (Lone lone s) may were = subst (λ found. AreSeveral (put name.now d found)) (sym were.1) (two_names name.now lone.now d were.0 may)
+  several_follow Several may were = several_more name.now d ms were

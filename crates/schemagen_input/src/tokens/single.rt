@@ -1,0 +1,80 @@
+//! Values that are read whole, as they are short or rare.
+ghost use Rattle.std.specs.Prelude.{◌≡◌, ◌<◌, Err, IfOk, OnOk, length, option_map, string_bytes};
+ghost use Rattle.serde_json.specs.Data.{Data};
+ghost use Rattle.serde_json.specs.Find.{as_bool, as_object, as_str};
+ghost use Rattle.serde_json.specs.View.{members_view};
+ghost use Rattle.schemagen_input.specs.Forms.{number_in};
+ghost use Rattle.schemagen_input.specs.Tokens.{IsNext, IsNoValue};
+
+use crate::members::number_in;
+use json::Reader;
+use schemagen_json::{ParseError, copy_members, read_value};
+use schemars_types::TypeNo;
+use serde_json::{Map, Value};
+use std::alloc::Global;
+
+/// The text that the next value is.
+pub fn read_text(
+    alloc: Global,
+    reader: &mut Reader<'_>,
+    depth: usize,
+) -> Result<Option<String>, ParseError>
+    ensures ok { IfOk result (λ t. (d : Data) × IsNext depth reader.old d reader.new
+        × (option_map string_bytes t ≡ as_str d)) }
+    ensures shorter { OnOk result (length reader.new < length reader.old) }
+    ensures not_json { result ≡ Err ParseError.NotJson → IsNoValue depth reader.old }
+{
+    let value = read_value(alloc, reader, depth)?;
+    match value.as_str() {
+        Some(text) => Ok(Some(String::from_str(alloc, text)?)),
+        None => Ok(None),
+    }
+}
+
+/// The number of a row that the next value is.
+pub fn read_number(
+    alloc: Global,
+    reader: &mut Reader<'_>,
+    depth: usize,
+) -> Result<Option<TypeNo>, ParseError>
+    ensures ok { IfOk result (λ n. (d : Data) × IsNext depth reader.old d reader.new
+        × (n ≡ number_in d)) }
+    ensures shorter { OnOk result (length reader.new < length reader.old) }
+    ensures not_json { result ≡ Err ParseError.NotJson → IsNoValue depth reader.old }
+{
+    let value = read_value(alloc, reader, depth)?;
+    Ok(number_in(&value))
+}
+
+/// The truth value that the next value is.
+pub fn read_flag(
+    alloc: Global,
+    reader: &mut Reader<'_>,
+    depth: usize,
+) -> Result<Option<bool>, ParseError>
+    ensures ok { IfOk result (λ b. (d : Data) × IsNext depth reader.old d reader.new
+        × (b ≡ as_bool d)) }
+    ensures shorter { OnOk result (length reader.new < length reader.old) }
+    ensures not_json { result ≡ Err ParseError.NotJson → IsNoValue depth reader.old }
+{
+    let value = read_value(alloc, reader, depth)?;
+    Ok(value.as_bool())
+}
+
+/// The notes that the next value is.
+pub fn read_notes(
+    alloc: Global,
+    reader: &mut Reader<'_>,
+    depth: usize,
+) -> Result<Option<Map<String, Value>>, ParseError>
+    ensures ok { IfOk result (λ n. (d : Data) × IsNext depth reader.old d reader.new
+        × (option_map (λ m. members_view m.entries) n ≡ as_object d)) }
+    ensures shorter { OnOk result (length reader.new < length reader.old) }
+    ensures not_json { result ≡ Err ParseError.NotJson → IsNoValue depth reader.old }
+{
+    let value = read_value(alloc, reader, depth)?;
+    match value.as_object() {
+        Some(members) => Ok(Some(copy_members(alloc, members)?)),
+        None => Ok(None),
+    }
+}
