@@ -1,8 +1,7 @@
 -- What the members of an object say, one after another, is the table that it says.
-use Rattle.std.proofs.Common.{◌≡◌, ◌≢◌, ℕ, List, [], ◌∷◌, Bool, true, false, ◌&&◌, Option, Some, None, option_and_then, cond, codes, refl, ap, ◌∙◌, sym, true≢false, subst}
+use Rattle.std.proofs.Common.{◌≡◌, ℕ, List, [], ◌∷◌, Bool, true, false, ◌&&◌, Option, Some, None, option_and_then, cond, codes, refl, ap, ◌∙◌, sym, subst}
 use Rattle.std.specs.Str.{bytes_eq}
-use Rattle.std.proofs.lemmas.Slice.Eq.{bytes_eq-Decides}
-use Rattle.serde_json.specs.Data.{Data, Items, no_items, item}
+use Rattle.serde_json.specs.Data.{Data, Items, Members, no_items, item, object, put}
 use Rattle.serde_json.specs.Find.{as_array, get}
 use Rattle.serde_json.specs.View.{items_of}
 use Rattle.serde_json.proofs.Views.{get_member-put, get_member-put_other}
@@ -13,9 +12,10 @@ use Rattle.schemagen_json.specs.Members.{has_only, are_listed}
 use Rattle.schemagen_json.proofs.Members.{are_listed-put}
 use Rattle.schemagen_input.specs.Forms.{number_in, needed_member}
 use Rattle.schemagen_input.specs.Input.{rows_in, is_complete, table_in}
-use Rattle.schemagen_input.specs.Listing.{AreBegun, IsNoTable, IsListIn, AddsMember}
+use Rattle.schemagen_input.specs.Listing.{AreBegun, AreMembersOf, IsNoTable, IsListIn}
 use Rattle.schemagen_input.specs.declared.listing.Listing.{Listing}
 use Rattle.schemagen_input.specs.declared.table_members.TableMembers.{TableMembers}
+use Rattle.schemagen_input.proofs.OneMember.{other_name}
 use Rattle.schemagen_input.proofs.RowByRow.{ends_so}
 
 abbrev table_names : List Text
@@ -102,10 +102,14 @@ list_in (Some l) o ds is begun = (ds, is, begun)
 list_in None o ds is begun = λ es e rows r.
     ends_so ds begun rows (ap rows_in (same_some (items_of ds) (items_of es) (sym is ∙ e)) ∙ r)
 
+-- a value that is no list
+pub not_listed : (d : Data) → as_array d ≡ None → IsListIn None (Some d)
+not_listed d none ds is = cc
+
 -- ---- one more member
 
-other_name : (k l : Text) → bytes_eq k l ≡ false → l ≢ k
-other_name k l other = λ is. true≢false (sym ((bytes_eq-Decides k l).1 (sym is)) ∙ other)
+abbrev pub AddsMember : Text → Data → TableMembers → TableMembers → Type 0
+AddsMember k d old new = (ms : Members) → AreMembersOf old (object ms) → AreMembersOf new (object (put k d ms))
 
 pub adds_types : (d : Data) (old : TableMembers) (listing : Option Listing) → IsListIn listing (Some d)
     → AddsMember (codes "types") d old (record old { listing = listing })
@@ -116,12 +120,12 @@ adds_types d old listing is ms found = record {
       (sym (get_member-put_other (codes "root") (codes "types") d ms (other_name (codes "types") (codes "root") refl)));
 }
 
-pub adds_root : (d : Data) (old : TableMembers) → AddsMember (codes "root") d old (record old { root = number_in d })
-adds_root d old ms found = record {
+pub adds_root : (d : Data) (old : TableMembers) (root : Option ℕ) → root ≡ number_in d → AddsMember (codes "root") d old (record old { root = root })
+adds_root d old root said ms found = record {
   only = found.only ∙ sym (are_listed-put table_names (codes "root") d ms);
   listing = subst (IsListIn old.listing)
       (sym (get_member-put_other (codes "types") (codes "root") d ms (other_name (codes "root") (codes "types") refl))) found.listing;
-  root = sym (ap (option_and_then number_in) (get_member-put (codes "root") d ms));
+  root = said ∙ sym (ap (option_and_then number_in) (get_member-put (codes "root") d ms));
 }
 
 pub adds_other : (k : Text) (d : Data) (old : TableMembers) → bytes_eq k (codes "types") ≡ false → bytes_eq k (codes "root") ≡ false

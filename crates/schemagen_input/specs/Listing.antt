@@ -1,9 +1,8 @@
 -- The rows of a table while they are read: their headings as a table, and their entries, before it is known whether these refer to rows.
 use Rattle.std.specs.Prelude.{◌≡◌, List, ◌++◌, true, false, Option, Some, None, map, option_and_then, codes, string_bytes, ◌∷◌, []}
-use Rattle.serde_json.specs.Data.{Data, Items, Members, object, put}
+use Rattle.serde_json.specs.Data.{Data, Items}
 use Rattle.serde_json.specs.Find.{as_array, get}
 use Rattle.serde_json.specs.View.{items_of}
-use Rattle.schemars_schema.specs.Json.{Text}
 use Rattle.schemagen_json.specs.Members.{has_only}
 use Rattle.schemars_shapes.specs.Shape.{Entry, entry_of}
 use Rattle.schemars_types.specs.Rows.{Row}
@@ -60,7 +59,3 @@ pub record AreMembersOf (f : TableMembers) (d : Data) : Type 0 where
   pub only : f.only ≡ has_only (codes "types" ∷ codes "root" ∷ []) d
   pub listing : IsListIn f.listing (get (codes "types") d)
   pub root : f.root ≡ needed_member number_in (codes "root") d
-
--- with one more member, of which the last one of a name counts
-abbrev pub AddsMember : Text → Data → TableMembers → TableMembers → Type 0
-AddsMember name d old new = (ms : Members) → AreMembersOf old (object ms) → AreMembersOf new (object (put name d ms))

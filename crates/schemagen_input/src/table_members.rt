@@ -1,27 +1,22 @@
 //! The members of a table's object, of which a text is read row by row.
-ghost use Rattle.std.specs.Prelude.{◌≡◌, ◌<◌, ◌++◌, ◌∷◌, [], Some, None, Err, IfOk, IfErr, OnOk, List, length, true};
-ghost use Rattle.json.specs.Json.{value, items, members};
-ghost use Rattle.serde_json.specs.Data.{Data, Members, object, no_members};
-ghost use Rattle.serde_json.specs.Read.{of_json, of_items, of_members, converted, read as read_text};
+ghost use Rattle.std.specs.Prelude.{◌≡◌, ◌<◌, Some, None, Err, IfOk, IfErr, OnOk, List, length, true};
+ghost use Rattle.json.specs.Json.{value, items};
+ghost use Rattle.serde_json.specs.Data.{Data, object};
+ghost use Rattle.serde_json.specs.Read.{of_items, converted, read as read_text};
 ghost use Rattle.serde_json.specs.View.{items_of};
 ghost use Rattle.schemagen_json.specs.BorrowedValue.{data_of};
-ghost use Rattle.schemagen_input.specs.Forms.{number_in};
 ghost use Rattle.schemagen_input.specs.Input.{table_in, is_complete};
-ghost use Rattle.schemagen_input.specs.Listing.{AreBegun, IsListIn, AreMembersOf, AddsMember};
+ghost use Rattle.schemagen_input.specs.Listing.{AreBegun, IsListIn, AreMembersOf};
+ghost use Rattle.schemagen_input.specs.Tokens.{IsNext, IsNoValue};
 
 use crate::error::InputError;
 use crate::listing::{Listing, list_rows, with_row};
-use crate::members::{number_in, number_of};
-use crate::tokens::read_row;
+use crate::members::number_of;
+use crate::tokens::{ObjectMembers, read_members, read_number, read_row};
 use json::{Reader, Scratch, Token};
 use schemagen_json::{BorrowedValue, MAX_DEPTH, ParseError, read_value, read_value_from};
 use schemars_types::{TypeNo, Types};
 use std::alloc::{AllocError, Global};
-
-// How deep the members of the object may nest, and the rows.
-const MEMBER_DEPTH: usize = MAX_DEPTH - 1;
-
-const ROW_DEPTH: usize = MAX_DEPTH - 2;
 
 /// What the members of a table's object say. Of a name that comes twice, the last one counts.
 #[derive(Drop)]
@@ -33,11 +28,10 @@ pub struct TableMembers {
     pub root: Option<TypeNo>,
 }
 
-impl TableMembers {
-    // Those of an object without members.
-    fn none() -> TableMembers
-        ensures { AreMembersOf result (object no_members) }
-    {
+impl<'a> ObjectMembers<'a> for TableMembers {
+    ghost are_of = { λ m ms. AreMembersOf m (object ms) };
+
+    fn none(_alloc: Global) -> TableMembers {
         TableMembers {
             only: true,
             listing: None,
@@ -45,6 +39,26 @@ impl TableMembers {
         }
     }
 
+    fn read_member(
+        &mut self,
+        alloc: Global,
+        name: &'a str,
+        reader: &mut Reader<'a>,
+        depth: usize,
+    ) -> Result<(), ParseError> {
+        match name {
+            "types" => self.listing = read_rows(alloc, reader, depth)?,
+            "root" => self.root = read_number(alloc, reader, depth)?,
+            _ => {
+                drop(read_value(alloc, reader, depth)?);
+                self.only = false;
+            }
+        }
+        Ok(())
+    }
+}
+
+impl TableMembers {
     /// Those of a value.
     pub fn of_value(alloc: Global, value: &BorrowedValue<'_>) -> Result<TableMembers, AllocError>
         ensures { IfOk result (λ f. AreMembersOf f (data_of value.now)) }
@@ -118,14 +132,13 @@ pub fn read_text_members(
 
 // Those of the next value.
 fn read_document(alloc: Global, reader: &mut Reader<'_>) -> Result<TableMembers, ParseError>
-    ensures ok { IfOk result (λ f. (d : Data)
-        × (converted of_json (value 127 reader.old) ≡ Some (d, reader.new)) × AreMembersOf f d) }
-    ensures not_json { result ≡ Err ParseError.NotJson
-        → converted of_json (value 127 reader.old) ≡ None }
+    ensures ok { IfOk result (λ f. (d : Data) × IsNext 127 reader.old d reader.new
+        × AreMembersOf f d) }
+    ensures not_json { result ≡ Err ParseError.NotJson → IsNoValue 127 reader.old }
 {
     let token = reader.next().ok_or(ParseError::NotJson)?;
     match token {
-        Token::BeginObject => read_members(alloc, reader),
+        Token::BeginObject => read_members(alloc, reader, MAX_DEPTH - 1),
         token => {
             let value = read_value_from(alloc, token, reader, MAX_DEPTH)?;
             Ok(TableMembers::of_value(alloc, &value)?)
@@ -133,99 +146,49 @@ fn read_document(alloc: Global, reader: &mut Reader<'_>) -> Result<TableMembers,
     }
 }
 
-// Those of an object, up to its end.
-fn read_members(alloc: Global, reader: &mut Reader<'_>) -> Result<TableMembers, ParseError>
-    ensures ok { IfOk result (λ f. (ms : Members)
-        × (converted (λ found. of_members found no_members)
-        (members (value 126) (length reader.old) reader.old) ≡ Some (ms, reader.new))
-        × AreMembersOf f (object ms)) }
-    ensures not_json { result ≡ Err ParseError.NotJson
-        → converted (λ found. of_members found no_members)
-        (members (value 126) (length reader.old) reader.old) ≡ None }
-{
-    let mut members = TableMembers::none();
-    'keys: while let Some(name) = reader.next_key()? {
-        read_member(alloc, name, reader, &mut members)?;
-    }
-    Ok(members)
-}
-
-// Adds the member of this name, whose value is next.
-fn read_member(
-    alloc: Global,
-    name: &str,
-    reader: &mut Reader<'_>,
-    members: &mut TableMembers,
-) -> Result<(), ParseError>
-    ensures ok { OnOk result ((d : Data)
-        × (converted of_json (value 126 reader.old) ≡ Some (d, reader.new))
-        × AddsMember name.now d members.old members.new) }
-    ensures shorter { OnOk result (length reader.new < length reader.old) }
-    ensures not_json { result ≡ Err ParseError.NotJson
-        → converted of_json (value 126 reader.old) ≡ None }
-{
-    match name {
-        "types" => members.listing = read_rows(alloc, reader)?,
-        "root" => {
-            let root = read_value(alloc, reader, MEMBER_DEPTH)?;
-            members.root = number_in(&root);
-        }
-        _ => {
-            drop(read_value(alloc, reader, MEMBER_DEPTH)?);
-            members.only = false;
-        }
-    }
-    Ok(())
-}
-
 // The rows that the next value says.
-fn read_rows(alloc: Global, reader: &mut Reader<'_>) -> Result<Option<Listing>, ParseError>
-    ensures ok { IfOk result (λ listing. (d : Data)
-        × (converted of_json (value 126 reader.old) ≡ Some (d, reader.new))
+fn read_rows(
+    alloc: Global,
+    reader: &mut Reader<'_>,
+    depth: usize,
+) -> Result<Option<Listing>, ParseError>
+    ensures ok { IfOk result (λ listing. (d : Data) × IsNext depth reader.old d reader.new
         × IsListIn listing (Some d)) }
     ensures shorter { OnOk result (length reader.new < length reader.old) }
-    ensures not_json { result ≡ Err ParseError.NotJson
-        → converted of_json (value 126 reader.old) ≡ None }
+    ensures not_json { result ≡ Err ParseError.NotJson → IsNoValue depth reader.old }
 {
     let token = reader.next().ok_or(ParseError::NotJson)?;
     match token {
-        Token::BeginArray => read_items(alloc, reader),
+        Token::BeginArray => {
+            if depth == 0 {
+                return Err(ParseError::NotJson);
+            }
+            read_items(alloc, reader, depth - 1)
+        }
         token => {
-            let value = read_value_from(alloc, token, reader, MEMBER_DEPTH)?;
-            Ok(listing_in(alloc, &value)?)
+            drop(read_value_from(alloc, token, reader, depth)?);
+            Ok(None)
         }
     }
 }
 
 // The rows of a list, up to its end.
-fn read_items(alloc: Global, reader: &mut Reader<'_>) -> Result<Option<Listing>, ParseError>
+fn read_items(
+    alloc: Global,
+    reader: &mut Reader<'_>,
+    depth: usize,
+) -> Result<Option<Listing>, ParseError>
     ensures ok { IfOk result (λ listing. (ds : List Data)
-        × (converted of_items (items (value 125) (length reader.old) reader.old)
+        × (converted of_items (items (value depth) (length reader.old) reader.old)
         ≡ Some (items_of ds, reader.new)) × AreBegun listing ds) }
     ensures shorter { OnOk result (length reader.new < length reader.old) }
     ensures not_json { result ≡ Err ParseError.NotJson
-        → converted of_items (items (value 125) (length reader.old) reader.old) ≡ None }
+        → converted of_items (items (value depth) (length reader.old) reader.old) ≡ None }
 {
     let mut listing = Some(Listing::new(alloc));
     'items: while !reader.take_end_array() {
-        listing = with_next_row(alloc, reader, listing)?;
+        let row = read_row(alloc, reader, depth)?;
+        listing = with_row(listing, row)?;
     }
     Ok(listing)
-}
-
-// The rows so far with the one that the next value says.
-fn with_next_row(
-    alloc: Global,
-    reader: &mut Reader<'_>,
-    listing: Option<Listing>,
-) -> Result<Option<Listing>, ParseError>
-    ensures ok { IfOk result (λ more. (d : Data)
-        × (converted of_json (value 125 reader.old) ≡ Some (d, reader.new))
-        × ((ds : List Data) → AreBegun listing ds → AreBegun more (ds ++ d ∷ []))) }
-    ensures shorter { OnOk result (length reader.new < length reader.old) }
-    ensures not_json { result ≡ Err ParseError.NotJson
-        → converted of_json (value 125 reader.old) ≡ None }
-{
-    let row = read_row(alloc, reader, ROW_DEPTH)?;
-    Ok(with_row(listing, row)?)
 }

@@ -7,4 +7,6 @@ mod row;
 mod shape;
 mod single;
 
+pub use object::{ObjectMembers, read_members};
 pub use row::read_row;
+pub use single::read_number;

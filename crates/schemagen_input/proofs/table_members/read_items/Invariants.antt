@@ -10,8 +10,8 @@ use Rattle.schemagen_input.proofs.table_members.read_items.Given as goal
 abbrev pub invariant-items : goal.invariant-items
 invariant-items l =
     (n : ℕ) × (ds : List Data) × (length l.reader ≤ n)
-    × (converted of_items (items (value 125) (length l.initial.reader) l.initial.reader)
-    ≡ parse_map (items_before ds) (converted of_items (items (value 125) n l.reader)))
+    × (converted of_items (items (value l.depth) (length l.initial.reader) l.initial.reader)
+    ≡ parse_map (items_before ds) (converted of_items (items (value l.depth) n l.reader)))
     × AreBegun l.listing ds × (length l.reader ≤ length l.initial.reader)
 
 abbrev pub decreases-items : goal.decreases-items

@@ -1,27 +1,46 @@
 -- A list says the rows of its items.
-use Rattle.std.proofs.Common.{◌≡◌, [], ◌∷◌, refl, ap, ◌∙◌, arith, Some}
+use Rattle.std.proofs.Common.{◌≡◌, [], ◌∷◌, Some, refl, ap, ◌∙◌, arith, rules}
 use Rattle.std.proofs.lemmas.Result.{IfOk-weaker}
 use Rattle.json.specs.Token.{Token}
 use Rattle.json.specs.Json.{parse_map}
+use Rattle.json.specs.Reads.{token_of}
 use Rattle.serde_json.specs.Data.{array}
 use Rattle.serde_json.specs.View.{items_of}
-use Rattle.schemagen_json.proofs.Reading.{nothing_read, array_opened}
-use Rattle.schemagen_input.proofs.TableMembers.{list_in}
+use Rattle.schemagen_json.specs.BorrowedValue.{data_of}
+use Rattle.schemagen_json.proofs.Reading.{nothing_read, array_opened, array_too_deep, read_at}
+use Rattle.schemagen_input.proofs.OtherKinds.{not_array}
+use Rattle.schemagen_input.proofs.TableMembers.{list_in, not_listed}
 use Rattle.schemagen_input.proofs.table_members.read_rows.Goals as goal
 
 pub returns-in_err-token-clause-not_json : goal.returns-in_err-token-clause-not_json
-returns-in_err-token-clause-not_json c = λ is. nothing_read 126 c.args.reader.now [] (grind arith)
+returns-in_err-token-clause-not_json c = λ is. nothing_read c.args.depth c.args.reader.now [] (grind arith)
 
-pub returns-in-BeginArray-clause-ok : goal.returns-in-BeginArray-clause-ok
-returns-in-BeginArray-clause-ok c =
+pub returns-then-depth-eq0-clause-not_json : goal.returns-then-depth-eq0-clause-not_json
+returns-then-depth-eq0-clause-not_json c = λ is.
+    let first : c.args.reader.now ≡ Token.begin_array ∷ c.next.new.self = grind (arith, c.in-BeginArray.is) in
+    let none : c.args.depth ≡ 0 = omega arith in
+    ap (λ k. read_at k c.args.reader.now) none ∙ array_too_deep c.args.reader.now c.next.new.self first
+
+pub returns-else-depth-eq0-clause-ok : goal.returns-else-depth-eq0-clause-ok
+returns-else-depth-eq0-clause-ok c =
     let first : c.args.reader.now ≡ Token.begin_array ∷ c.next.new.self = grind (arith, c.in-BeginArray.is) in
     IfOk-weaker c.read_items.result _ _ (λ listing found. (
       array (items_of found.0),
-      array_opened 126 c.args.reader.now c.next.new.self (omega arith) first ∙ ap (parse_map array) found.1,
+      array_opened c.args.depth c.args.reader.now c.next.new.self (omega arith) first ∙ ap (parse_map array) found.1,
       list_in listing (Some (array (items_of found.0))) found.0 refl found.2,
     )) c.read_items.ensures.ok
 
-pub returns-in-BeginArray-clause-not_json : goal.returns-in-BeginArray-clause-not_json
-returns-in-BeginArray-clause-not_json c = λ is.
+pub returns-else-depth-eq0-clause-not_json : goal.returns-else-depth-eq0-clause-not_json
+returns-else-depth-eq0-clause-not_json c = λ is.
     let first : c.args.reader.now ≡ Token.begin_array ∷ c.next.new.self = grind (arith, c.in-BeginArray.is) in
-    array_opened 126 c.args.reader.now c.next.new.self (omega arith) first ∙ ap (parse_map array) (c.read_items.ensures.not_json is)
+    array_opened c.args.depth c.args.reader.now c.next.new.self (omega arith) first ∙ ap (parse_map array) (c.read_items.ensures.not_json is)
+
+pub returns-in_ok-read_value_from-in_default-clause-ok : goal.returns-in_ok-read_value_from-in_default-clause-ok
+returns-in_ok-read_value_from-in_default-clause-ok c =
+    let t = c.in_ok-token.token in
+    let rest = c.next.new.self in
+    let d = data_of c.in_ok-read_value_from-in_default.field-0 in
+    let is = c.in_ok-read_value_from-in_default.ensures.ok in
+    let first : c.args.reader.now ≡ token_of t ∷ rest = grind arith in
+    let none = not_array c.args.depth t rest c.read_value_from.new.reader d (search rules) is in
+    (d, ap (read_at c.args.depth) first ∙ is, not_listed d none)
