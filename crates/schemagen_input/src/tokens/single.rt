@@ -1,4 +1,4 @@
-//! Values that are read whole, as they are short or rare.
+//! Texts, numbers, truth values and notes.
 ghost use Rattle.std.specs.Prelude.{◌≡◌, ◌<◌, Err, IfOk, OnOk, length, option_map, string_bytes};
 ghost use Rattle.serde_json.specs.Data.{Data};
 ghost use Rattle.serde_json.specs.Find.{as_bool, as_object, as_str};
@@ -7,8 +7,8 @@ ghost use Rattle.schemagen_input.specs.Forms.{number_in};
 ghost use Rattle.schemagen_input.specs.Tokens.{IsNext, IsNoValue};
 
 use crate::members::number_in;
-use json::Reader;
-use schemagen_json::{ParseError, copy_members, read_value};
+use json::{Reader, Token};
+use schemagen_json::{ParseError, copy_members, read_value, read_value_from};
 use schemars_types::TypeNo;
 use serde_json::{Map, Value};
 use std::alloc::Global;
@@ -24,10 +24,13 @@ pub fn read_text(
     ensures shorter { OnOk result (length reader.new < length reader.old) }
     ensures not_json { result ≡ Err ParseError.NotJson → IsNoValue depth reader.old }
 {
-    let value = read_value(alloc, reader, depth)?;
-    match value.as_str() {
-        Some(text) => Ok(Some(String::from_str(alloc, text)?)),
-        None => Ok(None),
+    let token = reader.next().ok_or(ParseError::NotJson)?;
+    match token {
+        Token::String(text) => Ok(Some(String::from_str(alloc, text)?)),
+        token => {
+            drop(read_value_from(alloc, token, reader, depth)?);
+            Ok(None)
+        }
     }
 }
 
@@ -57,8 +60,14 @@ pub fn read_flag(
     ensures shorter { OnOk result (length reader.new < length reader.old) }
     ensures not_json { result ≡ Err ParseError.NotJson → IsNoValue depth reader.old }
 {
-    let value = read_value(alloc, reader, depth)?;
-    Ok(value.as_bool())
+    let token = reader.next().ok_or(ParseError::NotJson)?;
+    match token {
+        Token::Bool(flag) => Ok(Some(flag)),
+        token => {
+            drop(read_value_from(alloc, token, reader, depth)?);
+            Ok(None)
+        }
+    }
 }
 
 /// The notes that the next value is.

@@ -42,5 +42,5 @@ returns-in_ok-read_value_from-in_default-clause-ok c =
     let d = data_of c.in_ok-read_value_from-in_default.field-0 in
     let is = c.in_ok-read_value_from-in_default.ensures.ok in
     let first : c.args.reader.now ≡ token_of t ∷ rest = grind arith in
-    let none = not_array c.args.depth t rest c.read_value_from.new.reader d (search rules) is in
+    let none = not_array c.args.depth t rest c.read_value_from.new.reader d is (search rules) in
     (d, ap (read_at c.args.depth) first ∙ is, not_listed d none)

@@ -40,4 +40,4 @@ returns-in_ok-read_value_from-in_default-clause-ok g c =
     let d = data_of c.in_ok-read_value_from-in_default.field-0 in
     let is = c.in_ok-read_value_from-in_default.ensures.ok in
     let first : c.args.reader.now ≡ token_of t ∷ rest = grind arith in
-    (d, ap (read_at c.args.depth) first ∙ is, not_object c.args.depth t rest c.read_value_from.new.reader d (search rules) is)
+    (d, ap (read_at c.args.depth) first ∙ is, not_object c.args.depth t rest c.read_value_from.new.reader d is (search rules))
