@@ -1,12 +1,12 @@
 -- Steps of writing, one after another.
-use Rattle.std.proofs.Common.{◌≡◌, ◌<◌, ◌+◌, ℕ, List, [], ◌∷◌, ◌++◌, Bool, true, false, Option, Some, None, length, get_or, drop, refl, sym, ap, ◌∙◌, subst, append_assoc, append-nil, arith, add-one, drop-cons}
+use Rattle.std.proofs.Common.{◌≡◌, ◌<◌, ◌+◌, ℕ, List, [], ◌∷◌, ◌++◌, Bool, true, false, Option, Some, None, length, get_or, drop, map, refl, sym, ap, ◌∙◌, subst, append_assoc, append-nil, arith, add-one, drop-cons}
 use Rattle.std.proofs.lemmas.Bool.{or_parts}
 use Rattle.std.proofs.KnownBytes.{Appends-nil, Appends-trans}
 use Rattle.std.specs.Io.KnownBytes.{Appends}
 use Rattle.std.specs.Prelude.{IsTrue}
-use Rattle.serde_json.specs.View.{view, items_view}
+use Rattle.serde_json.specs.Data.{Data}
+use Rattle.serde_json.specs.View.{items_of}
 use Rattle.serde_json.specs.Written.{has_float, items_have_float}
-use Rattle.serde_json.specs.declared.value.Value.{Value}
 use Rattle.schemars_text.specs.Text.{Text}
 use Rattle.schemars_text.specs.Output.{Output, with_value, with_values}
 use Rattle.schemars_text.specs.OrderedText.{Layout, text_in, item_texts}
@@ -19,15 +19,18 @@ use Rattle.schemars_text.specs.Sent.{IsSent, IsSentInPart}
 abbrev pub Reaches : Holds → Holds → (Output → Output → Type 0) → Type 0
 Reaches old new P = (start : Option Text) (o : Output) → old start o → (p : Output) × new start p × P o p
 
-pub next_item : (vs : List Value) (i : ℕ) (other : Value) (layout : Layout) (p q all : Output) → i < length vs
-    → items_have_float (items_view (drop i vs)) ≡ false
-    → with_values p (item_texts layout (items_view (drop i vs))) ≡ all
-    → (has_float (view (get_or vs i other)) ≡ false → q ≡ with_value p (text_in layout (view (get_or vs i other))))
-    → (items_have_float (items_view (drop (i + 1) vs)) ≡ false) × (with_values q (item_texts layout (items_view (drop (i + 1) vs))) ≡ all)
+-- one item more of a list, where `data_of` reads an item
+pub next_seen : {V : Type 0} (data_of : V → Data) (vs : List V) (i : ℕ) (other : V) (layout : Layout) (p q all : Output) → i < length vs
+    → items_have_float (items_of (map data_of (drop i vs))) ≡ false
+    → with_values p (item_texts layout (items_of (map data_of (drop i vs)))) ≡ all
+    → (has_float (data_of (get_or vs i other)) ≡ false → q ≡ with_value p (text_in layout (data_of (get_or vs i other))))
+    → (items_have_float (items_of (map data_of (drop (i + 1) vs))) ≡ false)
+    × (with_values q (item_texts layout (items_of (map data_of (drop (i + 1) vs)))) ≡ all)
 unfolding item_texts
-next_item vs i other layout p q all within none before written =
+next_seen data_of vs i other layout p q all within none before written =
     let cut : drop i vs ≡ get_or vs i other ∷ drop (i + 1) vs = rw add-one (drop-cons vs i other within) in
-    let parts = or_parts (has_float (view (get_or vs i other))) (items_have_float (items_view (drop (i + 1) vs))) (rw cut at none) in
+    let parts = or_parts (has_float (data_of (get_or vs i other))) (items_have_float (items_of (map data_of (drop (i + 1) vs))))
+    (rw cut at none) in
     (parts.1, rw (written parts.0) (rw cut at before))
 
 pub neither : {A : Type 0} (r : Option A) (x : A) → r ≡ Some x → r ≡ None → ⊥

@@ -7,7 +7,7 @@ mod gathered;
 mod memory;
 mod ordered;
 mod output;
-mod places;
+pub mod places;
 mod quoted;
 mod sending;
 pub mod sink;
@@ -15,6 +15,8 @@ mod target;
 mod writing;
 
 pub use error::OrderedError;
+pub use ordered::Layout;
+pub use output::Output;
 pub use quoted::push_quoted;
 pub use sending::send_ordered;
 pub use sink::{Failed, Sink, SinkOf};

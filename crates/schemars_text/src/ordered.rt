@@ -15,20 +15,20 @@ use crate::target::Target;
 use json::Token;
 use serde_json::{Map, Number, Value};
 
-// How a value is written.
+/// How a value is written.
 #[derive(Clone, Copy)]
-pub(crate) enum Layout {
-    // As it is, with objects in map order.
+pub enum Layout {
+    /// As it is, with objects in map order.
     PlainJson,
-    // As a schema, whose keywords have their places.
+    /// As a schema, whose keywords have their places.
     Schema,
-    // As schemas by name, in map order.
+    /// As schemas by name, in map order.
     NamedSchemas,
 }
 
 impl Layout {
-    // How the value of a member is written, where its object is written in this way.
-    pub(crate) fn under(self, key: &str) -> Layout
+    /// Returns how the value of a member is written, where its object is written in this way.
+    pub fn under(self, key: &str) -> Layout
         ensures { layout_meant result ≡ layout_under (layout_meant self) key.now }
     {
         match self {
@@ -46,8 +46,8 @@ impl Layout {
         }
     }
 
-    // How an item is written, where its list is written in this way.
-    pub(crate) fn inside(self) -> Layout
+    /// Returns how an item is written, where its list is written in this way.
+    pub fn inside(self) -> Layout
         ensures { layout_meant result ≡ layout_inside (layout_meant self) }
     {
         match self {

@@ -5,18 +5,22 @@ ghost use Rattle.json.specs.Print.{IsPrintable, print};
 ghost use Rattle.json.specs.Reads.{token_of};
 ghost use Rattle.json.specs.Token.{number};
 ghost use Rattle.serde_json.specs.Find.{is_float};
-ghost use Rattle.serde_json.specs.View.{number_view};
-ghost use Rattle.serde_json.specs.Written.{number_text};
-ghost use Rattle.schemars_text.specs.Output.{with_token};
+ghost use Rattle.serde_json.specs.View.{view, number_view};
+ghost use Rattle.serde_json.specs.Written.{has_float, number_text};
+ghost use Rattle.schemars_text.specs.OrderedText.{text_in};
+ghost use Rattle.schemars_text.specs.Output.{with_token, with_value, layout_meant};
 
+use crate::ordered::{Layout, write_value};
+use crate::target::Target;
 use json::{Token, Writer};
-use serde_json::Number;
+use serde_json::{Number, Value};
 use std::alloc::{AllocError, Global};
 use std::marker::Model;
 
+/// JSON text that is being written into memory.
 // Its model is the text so far, and whether a value has just ended.
 #[derive(Drop)]
-pub(crate) struct Output {
+pub struct Output {
     writer: Writer,
 }
 
@@ -36,8 +40,8 @@ impl Model for Output {
 }
 
 impl Output {
-    // No text yet, and room for this many bytes.
-    pub(crate) fn with_capacity(alloc: Global, capacity: usize) -> Result<Output, AllocError>
+    /// Returns no text, with room for this many bytes.
+    pub fn with_capacity(alloc: Global, capacity: usize) -> Result<Output, AllocError>
         ensures { IfOk result (λ o. o ≡ record { text = []; after_value = false }) }
     {
         let bytes = Vec::with_capacity(alloc, capacity)?;
@@ -46,7 +50,8 @@ impl Output {
         })
     }
 
-    pub(crate) fn into_string(self) -> String
+    /// Converts what was written into a string.
+    pub fn into_string(self) -> String
         ensures text { string_bytes result ≡ self.text }
         ensures compact { string_bytes result ≡ print (tokens (string_bytes result)) }
     {
@@ -54,7 +59,8 @@ impl Output {
         String::from_utf8(writer.into_inner()).unwrap()
     }
 
-    pub(crate) fn token(&mut self, token: Token<'_>) -> Result<(), AllocError>
+    /// Writes a token, after a comma where a value has just ended and another begins.
+    pub fn token(&mut self, token: Token<'_>) -> Result<(), AllocError>
         requires { IsPrintable (token_of token) }
         ensures { OnOk result (self.new ≡ with_token self.old (token_of token.entry)) }
     {
@@ -74,5 +80,45 @@ impl Output {
             self.writer.float_with_plus(x)?;
         }
         Ok(())
+    }
+
+    /// Writes a value in this layout, after a comma where another value has just ended.
+    pub fn value(&mut self, value: &Value, layout: Layout) -> Result<(), AllocError>
+        ensures { OnOk result (has_float (view value.now) ≡ false
+            → self.new ≡ with_value self.old (text_in (layout_meant layout) (view value.now))) }
+    {
+        let mut failure = None;
+        write_value(value, layout, &mut failure, self);
+        match failure {
+            Some(error) => Err(error),
+            None => Ok(()),
+        }
+    }
+}
+
+// What is lent is the error, once memory has run out.
+impl Target<Option<AllocError>> for Output {
+    ghost use Rattle.std.specs.Prelude.{◌≡◌, None};
+
+    ghost has = { λ w error _ o. error ≡ None → w ≡ o };
+
+    fn token(&mut self, error: &mut Option<AllocError>, token: Token<'_>) {
+        match error {
+            Some(_) => {}
+            None => match self.token(token) {
+                Ok(()) => {}
+                Err(failure) => *error = Some(failure),
+            },
+        }
+    }
+
+    fn number(&mut self, error: &mut Option<AllocError>, n: Number) {
+        match error {
+            Some(_) => {}
+            None => match self.number(n) {
+                Ok(()) => {}
+                Err(failure) => *error = Some(failure),
+            },
+        }
     }
 }

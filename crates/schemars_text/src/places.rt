@@ -7,7 +7,8 @@ ghost use Rattle.schemars_text.specs.Places.{place_in};
 
 use serde_json::{Map, Value};
 
-pub(crate) const FIRST_KEYWORDS: [&str; 7] = [
+/// The keywords that come first in the text of a schema, in this order.
+pub const FIRST_KEYWORDS: [&str; 7] = [
     "$id",
     "$schema",
     "title",
@@ -17,7 +18,8 @@ pub(crate) const FIRST_KEYWORDS: [&str; 7] = [
     "properties",
 ];
 
-pub(crate) const LAST_KEYWORDS: [&str; 2] = ["$defs", "definitions"];
+/// The keywords that come last in the text of a schema, in this order.
+pub const LAST_KEYWORDS: [&str; 2] = ["$defs", "definitions"];
 
 // Finds the members of `FIRST_KEYWORDS` and then of `LAST_KEYWORDS`, in one pass.
 #[inline(never)]
@@ -34,14 +36,16 @@ pub(crate) fn find_fixed<'v>(members: &'v Map<String, Value>, found: &mut [Optio
     }
 }
 
+/// Returns whether a keyword has a fixed place in the text of a schema.
 #[tactic(auto, using(crate::proofs::FixedMembers::has_place))]
-pub(crate) fn has_fixed_place(key: &str) -> bool
+pub fn has_fixed_place(key: &str) -> bool
     ensures { result ≡ is_listed key.now first_keywords || is_listed key.now last_keywords }
 {
     place_of(key).is_some()
 }
 
-fn place_of(key: &str) -> Option<usize>
+/// Returns the place of a keyword in `FIRST_KEYWORDS` followed by `LAST_KEYWORDS`.
+pub fn place_of(key: &str) -> Option<usize>
     ensures { result ≡ place_in key.now (first_keywords ++ last_keywords) }
 {
     match key.len() {

@@ -6,7 +6,7 @@ use Rattle.serde_json.specs.View.{view, members_view}
 use Rattle.serde_json.proofs.Views.{view-Array}
 use Rattle.schemars_text.specs.OrderedText.{SchemaLayout, first_keywords, last_keywords, member_texts, others, each_written_at}
 use Rattle.schemars_text.specs.Output.{layout_meant}
-use Rattle.schemars_text.proofs.Becomings.{next_item}
+use Rattle.schemars_text.proofs.Becomings.{next_seen}
 use Rattle.schemars_text.proofs.FixedMembers.{held, found_depth, first_found, last_found, all_shallow, slot_shallow, slot_at}
 use Rattle.schemars_text.proofs.Lists.{items_shallow}
 use Rattle.schemars_text.proofs.OrderedTexts.{array_written, object_written, with_groups, keyword_found, keyword_missing}
@@ -47,11 +47,11 @@ write_members-returns-in-Schema g t c = λ start o h.
 pub write_first-returns-clause-written : goal.write_first-returns-clause-written
 write_first-returns-clause-written g t c =
     let ms = members_view c.args.members.now.entries in
-    c.write_keywords.ensures ms (first_found c.find_fixed.new.found ms c.find_fixed.ensures)
+    c.write_keywords.ensures ms (first_found view c.find_fixed.new.found ms c.find_fixed.ensures)
 
 pub write_first-returns-clause-last : goal.write_first-returns-clause-last
 write_first-returns-clause-last g t c =
-    last_found c.find_fixed.new.found (members_view c.args.members.now.entries) _ _ c.find_fixed.ensures
+    last_found view c.find_fixed.new.found (members_view c.args.members.now.entries) _ _ c.find_fixed.ensures
 
 pub write_items-loop-item-preserved : goal.write_items-loop-item-preserved
 write_items-loop-item-preserved g t c = record {
@@ -65,7 +65,7 @@ write_items-loop-item-preserved g t c = record {
         q,
         at_q,
         λ none.
-            let next = next_item c.args.items.now.items c.loop-item.item-index c.item-item.result (layout_meant c.args.layout) p q _
+            let next = next_seen view c.args.items.now.items c.loop-item.item-index c.item-item.result (layout_meant c.args.layout) p q _
             (rw c.deref-item-items.ensures.value at c.loop-item-test.true) (before none).floats (before none).text
             (rw (c.item-item.is, c.deref-item-items.ensures.value) at written) in
             record { floats = next.0; text = next.1 },
@@ -74,23 +74,23 @@ write_items-loop-item-preserved g t c = record {
 
 pub write_keywords-write_member-requires : goal.write_keywords-write_member-requires
 write_keywords-write_member-requires g t c =
-    let shallow : depth (view c.in-Some.value.now) ≤ found_depth (map held c.args.found.now) =
-    slot_shallow c.args.found.now c.loop-place.place _ c.in-Some.value (rw c.requires c.loop-place-test.true) c.in-Some.is in
+    let shallow : depth (view c.in-Some.value.now) ≤ found_depth (map (held view) c.args.found.now) =
+    slot_shallow view c.args.found.now c.loop-place.place _ c.in-Some.value (rw c.requires c.loop-place-test.true) c.in-Some.is in
     search rules
 
 pub write_first-write_keywords-requires : goal.write_first-write_keywords-requires
 write_first-write_keywords-requires g t c =
     let ms = members_view c.args.members.now.entries in
     let first = take 7 c.find_fixed.new.found in
-    let is = first_found c.find_fixed.new.found ms c.find_fixed.ensures in
-    let shallow : found_depth (map held first) ≤ members_depth ms = rw is (all_shallow first_keywords ms) in
-    let seven : length first ≡ 7 = sym (length-map first held) ∙ ap length is in
+    let is = first_found view c.find_fixed.new.found ms c.find_fixed.ensures in
+    let shallow : found_depth (map (held view) first) ≤ members_depth ms = rw is (all_shallow first_keywords ms) in
+    let seven : length first ≡ 7 = sym (length-map first (held view)) ∙ ap length is in
     search rules
 
 pub write_members-write_keywords-requires : goal.write_members-write_keywords-requires
 write_members-write_keywords-requires g t c =
     let ms = members_view c.args.members.now.entries in
-    let shallow : found_depth (map held c.write_first-last.result) ≤ members_depth ms =
+    let shallow : found_depth (map (held view) c.write_first-last.result) ≤ members_depth ms =
     rw c.write_first-last.ensures.last (all_shallow last_keywords ms) in
     search rules
 
@@ -99,7 +99,7 @@ write_keywords-loop-place-preserved g t c = λ ms looked start o h.
     let (p, at_p, before) = c.loop-place.invariant ms looked start o h in
     let ks = c.args.keywords.now in
     let i = c.loop-place.place in
-    let here = slot_at c.args.found.now ks ms i _ _ looked c.loop-place-test.true in
+    let here = slot_at view c.args.found.now ks ms i _ _ looked c.loop-place-test.true in
     elim c.match-found-place.branch [
       | write_keywords-in-Some w ↦
           let (q, at_q, written) = w.write_member.ensures start p at_p in (
@@ -107,11 +107,11 @@ write_keywords-loop-place-preserved g t c = λ ms looked start o h.
             rw (w.out-is, w.lent-is) at_q,
             λ none.
                 keyword_found p q ks i _ (view w.in-Some.value.now) ms _ c.loop-place-test.true
-                (sym here ∙ ap held w.in-Some.is) written none (before none),
+                (sym here ∙ ap (held view) w.in-Some.is) written none (before none),
           )
       | write_keywords-in_default w ↦ (
         p,
         rw (w.out-is, w.lent-is) at_p,
-        λ none. keyword_missing p ks i _ ms _ c.loop-place-test.true (sym here ∙ ap held w.in_default.is) (before none),
+        λ none. keyword_missing p ks i _ ms _ c.loop-place-test.true (sym here ∙ ap (held view) w.in_default.is) (before none),
       )
     ]

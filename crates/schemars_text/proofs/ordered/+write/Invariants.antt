@@ -29,7 +29,7 @@ abbrev pub decreases-write_in_map_order : goal.decreases-write_in_map_order
 decreases-write_in_map_order g l = 6 * members_depth (members_view l.members.now.entries) + 2
 
 abbrev pub decreases-write_keywords : goal.decreases-write_keywords
-decreases-write_keywords g l = 6 * found_depth (map held l.found.now) + 2
+decreases-write_keywords g l = 6 * found_depth (map (held view) l.found.now) + 2
 
 abbrev pub decreases-write_others : goal.decreases-write_others
 decreases-write_others g l = 6 * members_depth (members_view l.members.now.entries) + 2
@@ -60,7 +60,7 @@ invariant-write_in_map_order-loop-key g l = record {
 }
 
 abbrev pub invariant-write_keywords-loop-place : goal.invariant-write_keywords-loop-place
-invariant-write_keywords-loop-place g l = (ms : Members) → map held l.found ≡ map (λ k. get_member k.now ms) l.keywords
+invariant-write_keywords-loop-place g l = (ms : Members) → map (held view) l.found ≡ map (λ k. get_member k.now ms) l.keywords
     → Reaches (g.T.Target.has l.fn.out l.fn.lent) (g.T.Target.has l.out l.lent)
     (λ o p. members_have_float ms ≡ false
     → with_values p (texts (each_written_at (map (λ k. k.now) (drop l.place l.keywords)) (member_texts SchemaLayout ms)))

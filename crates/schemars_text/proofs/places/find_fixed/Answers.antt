@@ -15,8 +15,8 @@ loop-key-preserved-in-Some-place_of c =
     let k = c.as_str.result.now in
     let p = c.in-Some-place_of.place in
     let at : place_in k ks ≡ Some p = search rules in
-    let before : Fills c.loop-key.found ks (member k (view c.in-Some.value.now) left) all = search rules in
-    rw c.or.ensures (filled c.loop-key.found ks p _ k c.in-Some.value left all keywords_apart at before)
+    let before : Fills view c.loop-key.found ks (member k (view c.in-Some.value.now) left) all = search rules in
+    rw c.or.ensures (filled view c.loop-key.found ks p _ k c.in-Some.value left all keywords_apart at before)
 
 pub loop-key-preserved : goal.loop-key-preserved
 loop-key-preserved c =
@@ -25,10 +25,10 @@ loop-key-preserved c =
     let ks = first_keywords ++ last_keywords in
     let k = c.as_str.result.now in
     let unlisted : is_listed k ks ≡ false = sym (is_some-place_in k ks) ∙ ap is_some (sym c.place_of.ensures ∙ c.in_default.is) in
-    let before : Fills c.loop-key.found ks (member k (view c.in-Some.value.now) left) all = search rules in
-    passed_over _ _ _ _ left all unlisted before
+    let before : Fills view c.loop-key.found ks (member k (view c.in-Some.value.now) left) all = search rules in
+    passed_over view _ _ _ _ left all unlisted before
 
 pub returns : goal.returns
 returns c =
     let ended : c.loop-key.key-iterator ≡ [] = search rules in
-    all_found c.loop-key.found (first_keywords ++ last_keywords) _ (rw ended at c.loop-key.invariant)
+    all_found view c.loop-key.found (first_keywords ++ last_keywords) _ (rw ended at c.loop-key.invariant)
