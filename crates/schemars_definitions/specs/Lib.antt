@@ -2,5 +2,6 @@
 pub mod Entries
 pub mod Keys
 pub mod Kept
+pub mod Texts
 pub mod Joined
 pub mod Whole

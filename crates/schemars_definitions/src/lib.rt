@@ -10,5 +10,6 @@ mod store;
 mod texts;
 
 pub use objects::Objects;
+pub use plain::is_json;
 pub use store::Definitions;
 pub use texts::{Texts, has_no_definitions};

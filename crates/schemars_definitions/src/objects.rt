@@ -95,6 +95,14 @@ impl Definitions for Objects {
         Ok(())
     }
 
+    fn keeps_texts(&self) -> bool {
+        false
+    }
+
+    fn finish_text(&mut self, _name: &str, _text: String) -> bool {
+        false
+    }
+
     fn remove(&mut self, name: &str) {
         let _ = self.members.remove(name);
     }

@@ -1,8 +1,9 @@
 //! A store of definitions.
-ghost use Rattle.std.specs.Prelude.{◌≡◌, IfOk, OnOk, OnErr, is_some, not, true, false};
-ghost use Rattle.serde_json.specs.Data.{Members, boolean, put};
+ghost use Rattle.std.specs.Prelude.{◌≡◌, IfOk, OnOk, OnErr, is_some, not, true, false, string_bytes};
+ghost use Rattle.serde_json.specs.Data.{Data, Members, boolean, put};
 ghost use Rattle.serde_json.specs.Find.{get_member};
 ghost use Rattle.schemars_schema.specs.Edits.{replaced, without};
+ghost use Rattle.schemars_definitions.specs.Texts.{IsWholeTextOf};
 
 use schemars_schema::Schema;
 use std::alloc::{AllocError, Global};
@@ -30,6 +31,17 @@ pub trait Definitions {
     fn finish(&mut self, alloc: Global, name: &str, schema: Schema) -> Result<(), AllocError>
         ensures ok { OnOk result (kept self.new ≡ replaced name.now schema (kept self.old)) }
         ensures err { OnErr result (kept self.new ≡ kept self.old) };
+
+    /// Returns whether definitions are kept as text.
+    fn keeps_texts(&self) -> bool;
+
+    /// Puts the schema whose ordered text this is in the place of the definition of this name, if
+    /// there is one and definitions are kept as text. Returns whether they are.
+    fn finish_text(&mut self, name: &str, text: String) -> bool
+        requires { (d : Data) × IsWholeTextOf (string_bytes text) d }
+        ensures ok { result ≡ true → (d : Data) → IsWholeTextOf (string_bytes text) d
+            → kept self.new ≡ replaced name.now d (kept self.old) }
+        ensures same { result ≡ false → kept self.new ≡ kept self.old };
 
     /// Removes the definition of this name, if there is one.
     fn remove(&mut self, name: &str)

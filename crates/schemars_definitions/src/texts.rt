@@ -83,6 +83,15 @@ impl Definitions for Texts {
         Ok(())
     }
 
+    fn keeps_texts(&self) -> bool {
+        true
+    }
+
+    fn finish_text(&mut self, name: &str, text: String) -> bool {
+        replace(&mut self.definitions, name, Kept::Text(text));
+        true
+    }
+
     fn remove(&mut self, name: &str) {
         let _ = self.definitions.remove(name);
     }
