@@ -1,0 +1,15 @@
+//! A schema in parts, which are borrowed from a template and its answers.
+
+use serde_json::Value;
+use std::collections::BTreeMap;
+
+// JSON, part by part.
+#[derive(Drop)]
+pub(crate) enum Assembled<'t> {
+    Value(&'t Value),
+    Text(&'t str),
+    // a schema that is a reference to this target
+    Reference(&'t str),
+    List(Vec<Assembled<'t>>),
+    Object(BTreeMap<&'t str, Assembled<'t>>),
+}
