@@ -322,7 +322,7 @@ fn output_of(
     generated(alloc, asked, generator, root)
 }
 
-// What the generator makes for this row. The document of few rows is written from its JSON value.
+// What the generator makes for this row: in 2020-12, which has no transforms, a text.
 fn generated(
     alloc: Global,
     asked: Asked,
@@ -335,10 +335,7 @@ fn generated(
 {
     match asked.dialect {
         Dialect::OpenApi3 => definitions_of(alloc, asked, generator, root),
-        Dialect::Draft2020_12 if generator.writes_early() => {
-            text_of(alloc, asked, generator, root)
-        }
-        Dialect::Draft2020_12 => document_of(alloc, asked, generator, root),
+        Dialect::Draft2020_12 => text_of(alloc, asked, generator, root),
         Dialect::Draft2019_09 => document_of(alloc, asked, generator, root),
         Dialect::Draft07 => document_of(alloc, asked, generator, root),
     }

@@ -8,7 +8,9 @@ ghost use Rattle.schemars_build.specs.Registry.{Step, rolled_back, reference_to}
 ghost use Rattle.schemars_build.specs.Plans.{plan_of};
 ghost use Rattle.schemars_types.specs.Edges.{is_inline_at};
 ghost use Rattle.schemars_documents.specs.Template as spec;
-ghost use Rattle.schemars_documents.specs.View.{ask_of};
+ghost use Rattle.schemars_documents.specs.Template.{filled};
+ghost use Rattle.schemars_documents.specs.View.{ask_of, template_view};
+ghost use Rattle.schemars_schema.specs.Edits.{replaced};
 ghost use Rattle.schemars_build.specs.Missing.{row_asked};
 ghost use Rattle.schemars_build.specs.Parts.{IsAnswer, IsOwn};
 ghost use Rattle.schemars_build.specs.Making.{Wanted, own, asked, wanted, row_wanted, IsReply, IsTemplate, IsTemplateAt, IsOpened, IsInMaking, document, IsGivenBack, HasReplied, GoesOn, IsTaken, HasFirst, AreMaking};
@@ -19,13 +21,13 @@ use crate::registry::Registry;
 use schemars_definitions::Definitions;
 use schemars_documents::entry_template;
 use schemars_documents::template::basis::Basis;
-use schemars_documents::template::{Ask, SchemaTemplate, fill};
+use schemars_documents::template::{Ask, SchemaTemplate};
 use schemars_flatten::{as_flattened, must_be_in_place, open_inside};
+use schemars_render::{Answer, fill, render};
 use schemars_schema::Schema;
 use schemars_schema::encoding::encode_ref_name;
 use schemars_types::{Contract, TypeNo, Types, row_inside, without_options};
 use std::alloc::{AllocError, Global};
-use std::collections::VecDeque;
 
 /// What stays the same while documents are made.
 #[derive(Clone, Copy)]
@@ -65,7 +67,7 @@ struct Document<'t> {
     in_definition: bool,
     template: SchemaTemplate<'t>,
     asks: Vec<Ask>,
-    answers: VecDeque<Schema>,
+    answers: Vec<Answer>,
 }
 
 // What is asked first: a row's own document, or an answer.
@@ -133,8 +135,8 @@ fn run<D: Definitions>(
     let mut answer = start(alloc, plan, registry, &mut making, in_definition, request)?;
     'going: loop {
         let last = deliver(&mut making, answer)?;
-        if let Some(schema) = last {
-            return Ok(schema);
+        if let Some(answer) = last {
+            return answer.into_schema(alloc);
         }
         answer = step(alloc, plan, registry, &mut making)?;
     }
@@ -143,17 +145,17 @@ fn run<D: Definitions>(
 // Gives an answer to the document that waits for it. Where none waits, it is what was asked first.
 fn deliver(
     making: &mut Vec<Document<'_>>,
-    answer: Option<Schema>,
-) -> Result<Option<Schema>, AllocError>
+    answer: Option<Answer>,
+) -> Result<Option<Answer>, AllocError>
     ensures { IfOk result (IsTaken (reverse making.old.items) answer (reverse making.new.items)) }
 {
-    let Some(schema) = answer else {
+    let Some(answer) = answer else {
         return Ok(None);
     };
     let Some(document) = making.last_mut() else {
-        return Ok(Some(schema));
+        return Ok(Some(answer));
     };
-    document.answers.push_back(schema)?;
+    document.answers.push(answer)?;
     Ok(None)
 }
 
@@ -163,7 +165,7 @@ fn step<'t, D: Definitions>(
     plan: &Plan<'t>,
     registry: &mut Registry<D>,
     making: &mut Vec<Document<'t>>,
-) -> Result<Option<Schema>, AllocError>
+) -> Result<Option<Answer>, AllocError>
     requires checked { IsChecked (plan_of plan.now).rows }
     requires first { HasFirst (IsTemplate (plan_of plan.now)) (reverse making.old.items) }
     ensures rolled_back { OnErr result (rolled_back registry.new ≡ rolled_back registry.old) }
@@ -199,7 +201,7 @@ fn start<'t, D: Definitions>(
     making: &mut Vec<Document<'t>>,
     in_definition: bool,
     request: Request,
-) -> Result<Option<Schema>, AllocError>
+) -> Result<Option<Answer>, AllocError>
     requires checked { IsChecked (plan_of plan.now).rows }
     requires known { row_wanted (wanted request) < length (plan_of plan.now).rows }
     ensures rolled_back { rolled_back registry.new ≡ rolled_back registry.old }
@@ -222,7 +224,7 @@ fn reply_to<'t, D: Definitions>(
     making: &mut Vec<Document<'t>>,
     in_definition: bool,
     ask: Ask,
-) -> Result<Option<Schema>, AllocError>
+) -> Result<Option<Answer>, AllocError>
     requires checked { IsChecked (plan_of plan.now).rows }
     requires known { row_asked (ask_of ask) < length (plan_of plan.now).rows }
     ensures rolled_back { rolled_back registry.new ≡ rolled_back registry.old }
@@ -253,7 +255,7 @@ fn start_own<'t, D: Definitions>(
     making: &mut Vec<Document<'t>>,
     in_definition: bool,
     n: TypeNo,
-) -> Result<Option<Schema>, AllocError>
+) -> Result<Option<Answer>, AllocError>
     requires checked { IsChecked (plan_of plan.now).rows }
     requires known { n < length (plan_of plan.now).rows }
     ensures rolled_back { rolled_back registry.new ≡ rolled_back registry.old }
@@ -267,11 +269,11 @@ fn start_own<'t, D: Definitions>(
     let template = template_at(alloc, plan, n)?;
     let asks = template.asks(alloc)?;
     if asks.is_empty() {
-        let schema = fill(alloc, template, VecDeque::new(alloc))?;
+        let schema = fill(alloc, template, Vec::new(alloc))?;
         registry.leave(entered);
-        return Ok(Some(schema));
+        return Ok(Some(Answer::schema(schema)));
     }
-    let answers = VecDeque::with_capacity(alloc, asks.len())?;
+    let answers = Vec::with_capacity(alloc, asks.len())?;
     making.push(Document {
         row: n,
         purpose: Purpose::Own(entered),
@@ -292,7 +294,7 @@ fn place_part<'t, D: Definitions>(
     making: &mut Vec<Document<'t>>,
     in_definition: bool,
     n: TypeNo,
-) -> Result<Option<Schema>, AllocError>
+) -> Result<Option<Answer>, AllocError>
     requires checked { IsChecked (plan_of plan.now).rows }
     requires known { n < length (plan_of plan.now).rows }
     ensures rolled_back { rolled_back registry.new ≡ rolled_back registry.old }
@@ -342,7 +344,7 @@ fn push_document<'t>(
     in_definition: bool,
     n: TypeNo,
     purpose: Purpose,
-) -> Result<Option<Schema>, AllocError>
+) -> Result<Option<Answer>, AllocError>
     requires checked { IsChecked (plan_of plan.now).rows }
     requires known { n < length (plan_of plan.now).rows }
     ensures { IfOk result (λ o. (d : src.Document)
@@ -351,7 +353,7 @@ fn push_document<'t>(
 {
     let template = template_at(alloc, plan, n)?;
     let asks = template.asks(alloc)?;
-    let answers = VecDeque::with_capacity(alloc, asks.len())?;
+    let answers = Vec::with_capacity(alloc, asks.len())?;
     making.push(Document {
         row: n,
         purpose,
@@ -392,7 +394,7 @@ fn finish_document<'t, D: Definitions>(
     registry: &mut Registry<D>,
     making: &mut Vec<Document<'t>>,
     document: Document<'t>,
-) -> Result<Option<Schema>, AllocError>
+) -> Result<Option<Answer>, AllocError>
     requires checked { IsChecked (plan_of plan.now).rows }
     requires template { IsTemplate (plan_of plan.now) document }
     requires all_answered { length document.asks.items ≤ length document.answers.items }
@@ -412,30 +414,57 @@ fn finish_document<'t, D: Definitions>(
         answers,
         ..
     } = document;
-    let mut schema = fill(alloc, template, answers)?;
     match purpose {
         Purpose::Own(entered) => {
+            let schema = fill(alloc, template, answers)?;
             registry.leave(entered);
-            Ok(Some(schema))
+            Ok(Some(Answer::schema(schema)))
         }
         Purpose::Definition(name, entered) => {
             let reference = reference_to(alloc, plan.path, name.as_str())?;
             registry.leave(entered);
-            registry.finish(alloc, name.as_str(), schema)?;
+            define(alloc, registry, name.as_str(), template, answers)?;
             Ok(Some(reference))
         }
         Purpose::Members(is_optional) => {
+            let mut schema = fill(alloc, template, answers)?;
             as_flattened(alloc, &mut schema, is_optional)?;
-            Ok(Some(schema))
+            Ok(Some(Answer::schema(schema)))
         }
         Purpose::Content => {
+            let mut schema = fill(alloc, template, answers)?;
             if !must_be_in_place(&schema, is_inline(plan.types, row) || plan.inlines) {
                 return place_part(alloc, plan, registry, making, in_definition, row);
             }
             open_inside(alloc, &mut schema)?;
-            Ok(Some(schema))
+            Ok(Some(Answer::schema(schema)))
         }
     }
+}
+
+// Puts what is made of the template into the place of the definition that was begun: as text, where
+// definitions are kept so and the text can be written from the template.
+fn define<D: Definitions>(
+    alloc: Global,
+    registry: &mut Registry<D>,
+    name: &str,
+    template: SchemaTemplate<'_>,
+    answers: Vec<Answer>,
+) -> Result<(), AllocError>
+    ensures ok { OnOk result (registry.new ≡ record registry.old {
+      definitions = replaced name.now (filled (template_view template.entry) answers.items)
+          registry.old.definitions;
+    }) }
+    ensures err { OnErr result (registry.new ≡ registry.old) }
+{
+    if registry.keeps_texts()
+        && let Some(text) = render(alloc, &template, &answers)?
+        && registry.finish_text(name, text)
+    {
+        return Ok(());
+    }
+    let schema = fill(alloc, template, answers)?;
+    registry.finish(alloc, name, schema)
 }
 
 fn is_inline(types: &Types, n: TypeNo) -> bool
@@ -448,15 +477,15 @@ fn is_inline(types: &Types, n: TypeNo) -> bool
 }
 
 // The whole document.
-fn root_reference(alloc: Global) -> Result<Schema, AllocError>
+fn root_reference(alloc: Global) -> Result<Answer, AllocError>
     ensures { IfOk result (λ s. s ≡ reference (codes "#")) }
 {
     let text = String::from_str(alloc, "#")?;
-    Schema::new_ref(alloc, text)
+    Ok(Answer::reference(text))
 }
 
 // The definition of this name.
-fn reference_to(alloc: Global, path: &str, name: &str) -> Result<Schema, AllocError>
+fn reference_to(alloc: Global, path: &str, name: &str) -> Result<Answer, AllocError>
     ensures { IfOk result (λ s. s ≡ reference (reference_to path.now name.now)) }
 {
     let token = encode_ref_name(alloc, name)?;
@@ -466,5 +495,5 @@ fn reference_to(alloc: Global, path: &str, name: &str) -> Result<Schema, AllocEr
     text.push_str(path)?;
     text.push('/')?;
     text.push_str(token.as_str())?;
-    Schema::new_ref(alloc, text)
+    Ok(Answer::reference(text))
 }

@@ -1,9 +1,10 @@
 //! What documents are made into.
 ghost use Rattle.std.specs.Prelude.{ℕ, List, true, false, map, ◌≡◌, ◌∷◌, ◌++◌, ◌||◌, [], None, Some, length, IfOk, OnOk, OnErr, is_some, string_bytes, not, ◌&&◌, if◌then◌else◌};
-ghost use Rattle.serde_json.specs.Data.{boolean, put, no_members};
+ghost use Rattle.serde_json.specs.Data.{Data, boolean, put, no_members};
 ghost use Rattle.serde_json.specs.Find.{get_member, as_object};
 ghost use Rattle.serde_json.specs.View.{members_view};
 ghost use Rattle.schemars_schema.specs.Edits.{replaced};
+ghost use Rattle.schemars_definitions.specs.Texts.{IsWholeTextOf};
 ghost use Rattle.schemars_build.specs.Naming.{name_of, IsOneToOne};
 ghost use Rattle.schemars_types.specs.declared.contract.Contract.{Contract};
 ghost use Rattle.schemars_build.specs.Placed.{is_pending, pending_in};
@@ -209,6 +210,22 @@ impl<D: Definitions> Registry<D> {
         ensures err { OnErr result (self.new ≡ self.old) }
     {
         self.definitions.finish(alloc, name, schema)
+    }
+
+    /// Whether definitions are kept as text.
+    pub fn keeps_texts(&self) -> bool {
+        self.definitions.keeps_texts()
+    }
+
+    /// Puts a definition that was begun in its place, where definitions are kept as text: the schema
+    /// whose ordered text this is. Answers whether it did.
+    pub fn finish_text(&mut self, name: &str, text: String) -> bool
+        requires { (d : Data) × IsWholeTextOf (string_bytes text) d }
+        ensures ok { result ≡ true → (d : Data) → IsWholeTextOf (string_bytes text) d
+            → self.new ≡ record self.old { definitions = replaced name.now d self.old.definitions } }
+        ensures same { result ≡ false → self.new ≡ self.old }
+    {
+        self.definitions.finish_text(name, text)
     }
 
     /// Notes that the root was referred to, where a definition does so.

@@ -24,9 +24,9 @@ returns c =
       in_definition = x.in_definition;
       template = x.template;
       asks = x.asks;
-      answers = c.push_back.new.self;
+      answers = c.push.new.self;
     } in
-    let has : HasAnswered x c.in-Some.schema e = record {
+    let has : HasAnswered x c.in-Some.answer e = record {
       row = refl;
       purpose = refl;
       in_definition = refl;
@@ -35,4 +35,4 @@ returns c =
       answers = search rules;
     } in
     subst (λ o. IsTaken (reverse xs) o (reverse (slice_set xs (n - 1) e)) None) (sym c.in-Some.is)
-    (last_answered xs (reverse xs) c.in-Some.schema x e n long some refl c.in-Some-last_mut.ensures.value has)
+    (last_answered xs (reverse xs) c.in-Some.answer x e n long some refl c.in-Some-last_mut.ensures.value has)

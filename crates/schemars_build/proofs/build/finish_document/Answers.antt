@@ -1,5 +1,7 @@
 use Rattle.std.proofs.Common.{◌≡◌, ◌<◌, ◌≤◌, false, Some, refl, ap, sym, ◌∙◌, subst, arith, rules, string_bytes, reverse}
 use Rattle.schemars_build.proofs.Words.{◌||◌, boolean, get_member, reference, is_inline_at, part, reference_to, plan_of, IsBegun, IfOk-weaker, get_member-put, missing, document_rank, measure_of_part}
+use Rattle.schemars_documents.specs.Template.{filled}
+use Rattle.schemars_documents.specs.View.{template_view}
 use Rattle.schemars_build.specs.Making.{asked}
 use Rattle.schemars_build.specs.declared.build.Purpose.TheVariants as purpose
 use Rattle.std.proofs.lemmas.Str.{IsUtf8-string_bytes}
@@ -15,8 +17,9 @@ returns-in-Own-clause-replies g c = λ outside old want h.
     let now = c.args.registry.now in
     let new = c.leave.new.self in
     let d = c.args.document in
-    let s = c.in_ok-schema.schema in
-    let filled = filled_made plan outside old want now d h c.requires.all_answered s c.requires.checked c.in_ok-schema.ensures in
+    let s = c.schema.result in
+    let filled = filled_made plan outside old want now d h c.requires.all_answered s c.requires.checked
+    (c.schema.ensures ∙ c.in_ok-schema-in-Own.ensures) in
     closing_replies plan outside old want now new d (reverse c.args.making.now.items) s h (left_fewer plan now new _ c.leave.ensures)
     (closes_own plan outside old want now d h s filled c.in-Own.entered new c.in-Own.is c.leave.ensures)
 
@@ -25,14 +28,14 @@ returns-in-Definition-clause-replies g c = λ outside old want h.
     let plan = plan_of c.args.plan.now in
     let now = c.args.registry.now in
     let mid = c.leave-in-Definition.new.self in
-    let new = c.finish.new.self in
+    let new = c.define.new.registry in
     let d = c.args.document in
     let k = string_bytes c.in-Definition.name in
-    let s = c.in_ok-schema.schema in
+    let s = filled (template_view d.template) d.answers.items in
     let t = c.in_ok-reference-in-Definition.reference in
-    let filled = filled_made plan outside old want now d h c.requires.all_answered s c.requires.checked c.in_ok-schema.ensures in
-    let finished : new ≡ finished_with mid k s = c.in_ok-finish-in-Definition.ensures.ok ∙ ap (λ x. finished_with mid x s) c.as_str-in-Definition.ensures.value in
-    let replied = closes_definition plan outside old want now d h s filled c.in-Definition.name c.in-Definition.entered mid new t
+    let made = filled_made plan outside old want now d h c.requires.all_answered s c.requires.checked refl in
+    let finished : new ≡ finished_with mid k s = c.in_ok-define-in-Definition.ensures.ok ∙ ap (λ x. finished_with mid x s) c.as_str-in-Definition.ensures.value in
+    let replied = closes_definition plan outside old want now d h s made c.in-Definition.name c.in-Definition.entered mid new t
     c.in-Definition.is (IsUtf8-string_bytes c.in-Definition.name) c.leave-in-Definition.ensures finished
     (c.in_ok-reference-in-Definition.ensures ∙ ap (λ x. reference (reference_to plan.path x)) c.as_str.ensures.value) in
     let b : IsBegun plan outside h.mid h.start d.row d.in_definition (purpose.Definition c.in-Definition.name c.in-Definition.entered) =
@@ -52,12 +55,12 @@ returns-in-Members-clause-replies g c = λ outside old want h.
     let plan = plan_of c.args.plan.now in
     let now = c.args.registry.now in
     let d = c.args.document in
-    let s = c.in_ok-schema.schema in
-    let t = c.as_flattened.new.schema in
-    let filled = filled_made plan outside old want now d h c.requires.all_answered s c.requires.checked c.in_ok-schema.ensures in
+    let s = c.in_ok-schema-in-Members.schema in
+    let t = c.schema-in-Members-2.result in
+    let filled = filled_made plan outside old want now d h c.requires.all_answered s c.requires.checked c.in_ok-schema-in-Members.ensures in
     closing_replies plan outside old want now now d (reverse c.args.making.now.items) t h (omega arith)
     (closes_members plan outside old want now d h s filled c.in-Members.is_optional t c.in-Members.is
-    c.in_ok-as_flattened-in-Members.ensures)
+    (c.schema-in-Members-2.ensures ∙ c.in_ok-as_flattened-in-Members.ensures))
 
 pub returns-then-not-must_be_in_place-clause-replies : goal.returns-then-not-must_be_in_place-clause-replies
 returns-then-not-must_be_in_place-clause-replies g c =
@@ -65,7 +68,7 @@ returns-then-not-must_be_in_place-clause-replies g c =
     let now = c.args.registry.now in
     let new = c.place_part.new.registry in
     let d = c.args.document in
-    let s = c.in_ok-schema.schema in
+    let s = c.in_ok-schema-in-Content.schema in
     let ds = reverse c.args.making.now.items in
     let es = reverse c.place_part.new.making.items in
     let fewer : missing plan.rows plan.contract now ≤ missing plan.rows plan.contract now = omega arith in
@@ -73,7 +76,7 @@ returns-then-not-must_be_in_place-clause-replies g c =
     subst (λ q. measure_of_part plan now d.row < document_rank plan now now.pending d.row q) (sym c.in-Content.is)
     (content_to_part plan now now d.row fewer refl) in
     IfOk-weaker c.place_part.result _ _ (λ o x outside old want h.
-    let filled = filled_made plan outside old want now d h c.requires.all_answered s c.requires.checked c.in_ok-schema.ensures in
+    let filled = filled_made plan outside old want now d h c.requires.all_answered s c.requires.checked c.in_ok-schema-in-Content.ensures in
     let replied = closes_referred plan outside old want now d h s filled (is_inline_at plan.rows d.row || plan.inlines) new x.reply
     c.in-Content.is refl (search rules) x.replied in
     record {
@@ -89,9 +92,9 @@ returns-clause-replies g c = λ outside old want h.
     let plan = plan_of c.args.plan.now in
     let now = c.args.registry.now in
     let d = c.args.document in
-    let s = c.in_ok-schema.schema in
-    let t = c.open_inside.new.schema in
-    let filled = filled_made plan outside old want now d h c.requires.all_answered s c.requires.checked c.in_ok-schema.ensures in
+    let s = c.in_ok-schema-in-Content.schema in
+    let t = c.schema-in-Content-3.result in
+    let filled = filled_made plan outside old want now d h c.requires.all_answered s c.requires.checked c.in_ok-schema-in-Content.ensures in
     closing_replies plan outside old want now now d (reverse c.args.making.now.items) t h (omega arith)
     (closes_content plan outside old want now d h s filled (is_inline_at plan.rows d.row || plan.inlines) t c.in-Content.is refl
-    (search rules) (search rules))
+    (search rules) (c.schema-in-Content-3.ensures ∙ c.in_ok-open_inside-in-Content.ensures))

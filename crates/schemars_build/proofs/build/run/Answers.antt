@@ -1,5 +1,5 @@
 use Rattle.std.proofs.Common.{◌≡◌, ◌<◌, [], List, reverse, None, Some, refl, ap, sym, ◌∙◌, subst}
-use Rattle.schemars_build.proofs.Words.{plan_of, wanted, IsTaken, Step, measure_of_turn}
+use Rattle.schemars_build.proofs.Words.{plan_of, wanted, IsTaken, Step, measure_of_turn, IfOk-weaker}
 use Rattle.schemars_build.specs.Making.{AreWaiting, AreMaking, IsReply}
 use Rattle.schemars_build.specs.declared.build.Document.{Document}
 use Rattle.schemars_build.specs.Measure.{measure_of_making}
@@ -36,19 +36,22 @@ returns-in_err-answer-2-clause-rolled_back g c = c.in_err-answer-2.ensures.rolle
 
 -- nothing waits
 home : (g : _) (c : goal.After-drop-making-in-Some g) → Step (plan_of c.args.plan.now) c.args.registry.now c.going.registry
-    × IsReply (plan_of c.args.plan.now) c.args.in_definition c.args.registry.now c.going.registry (wanted c.args.request) c.in-Some.schema
+    × IsReply (plan_of c.args.plan.now) c.args.in_definition c.args.registry.now c.going.registry (wanted c.args.request) c.in-Some.answer
 home g c =
     let fs = reverse c.deliver.new.making.items in
-    let taken : IsTaken (reverse c.going.making.items) c.going.answer fs (Some c.in-Some.schema) =
+    let taken : IsTaken (reverse c.going.making.items) c.going.answer fs (Some c.in-Some.answer) =
     subst (λ o. IsTaken (reverse c.going.making.items) c.going.answer fs o) c.in-Some.is c.in_ok-last.ensures in
     taken_home (plan_of c.args.plan.now) c.args.in_definition c.args.registry.now (wanted c.args.request) c.going.registry
-    (reverse c.going.making.items) c.going.answer fs c.in-Some.schema taken c.going.invariant
+    (reverse c.going.making.items) c.going.answer fs c.in-Some.answer taken c.going.invariant
 
 pub returns-in-Some-clause-step : goal.returns-in-Some-clause-step
-returns-in-Some-clause-step g c = (home g c).0
+returns-in-Some-clause-step g c = IfOk-weaker c.into_schema.result _ _ (λ s is. (home g c).0) c.into_schema.ensures
 
 pub returns-in-Some-clause-is : goal.returns-in-Some-clause-is
-returns-in-Some-clause-is g c = (home g c).1
+returns-in-Some-clause-is g c =
+    IfOk-weaker c.into_schema.result _ _ (λ s is.
+    subst (IsReply (plan_of c.args.plan.now) c.args.in_definition c.args.registry.now c.going.registry (wanted c.args.request)) (sym is)
+    (home g c).1) c.into_schema.ensures
 
 pub step-requires-clause-first : goal.step-requires-clause-first
 step-requires-clause-first g c =

@@ -1,4 +1,4 @@
-use Rattle.std.proofs.Common.{◌≡◌, ◌≤◌, length, reverse, refl, ap, ◌∙◌, arith, rules}
+use Rattle.std.proofs.Common.{◌≡◌, ◌≤◌, length, reverse, Some, refl, ap, ◌∙◌, arith, rules}
 use Rattle.schemars_build.proofs.Words.{plan_of, own, IsInMaking, IsOpened, answer, document, measure_of_own_document}
 use Rattle.schemars_build.specs.declared.build.Document.{Document}
 use Rattle.schemars_build.specs.declared.build.Purpose.TheVariants as purpose
@@ -59,7 +59,7 @@ returns-then-is_empty-clause-replies g c =
     let filled = filled_made plan inside old (own n) mid d h all s c.requires.checked c.in_ok-schema.ensures in
     record {
       reply = answer s;
-      given = (refl, refl);
+      given = (ap Some c.schema.ensures, refl);
       replied = closes_own plan inside old (own n) mid d h s filled c.in_ok-entered.entered c.leave.new.self refl c.leave.ensures;
       is_like = tt;
     }

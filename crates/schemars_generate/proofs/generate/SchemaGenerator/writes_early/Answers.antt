@@ -1,10 +1,10 @@
-use Rattle.std.proofs.Common.{◌≡◌, ◌≤◌, ◌==◌, List, [], ◌∷◌, true, false, length, codes, refl, sym, ap, ◌∙◌, subst, rules, arith}
-use Rattle.std.proofs.lemmas.Bool.{eqb-true, leb-true}
+use Rattle.std.proofs.Common.{◌≡◌, ◌==◌, List, [], ◌∷◌, true, false, length, codes, refl, sym, ap, ◌∙◌, subst, rules, arith}
+use Rattle.std.proofs.lemmas.Bool.{eqb-true}
 use Rattle.serde_json.specs.Events.{members_len}
 use Rattle.serde_json.proofs.Views.{members_len-members_view}
 use Rattle.schemars_generate.proofs.Words.{members_view, path_of, state_of}
 use Rattle.schemars_generate.specs.RootText.{WritesEarly}
-use Rattle.schemars_generate.proofs.generate.SchemaGenerator.writes_early.Goals.{then-len-ge-MANY_ROWS, else-len-ge-MANY_ROWS, then-is_empty, else-is_empty}
+use Rattle.schemars_generate.proofs.generate.SchemaGenerator.writes_early.Goals.{then-is_empty, else-is_empty}
 use Rattle.schemars_generate.proofs.generate.SchemaGenerator.writes_early.Goals as goal
 
 none_left : {A : Type 0} (xs : List A) → length xs ≡ 0 → xs ≡ []
@@ -17,25 +17,19 @@ returns-then-eq g c =
     let ts = inside.settings.transforms in
     let es = c.definitions.result.now.entries in
     elim c.if-is_empty.branch [
-      | then-is_empty w ↦ elim c.if-len-ge-MANY_ROWS.branch [
-        | then-len-ge-MANY_ROWS v ↦
-            let many : 20000 ≤ length inside.types = omega (arith, v.if-len-ge-MANY_ROWS.true, c.len.ensures.len) in
-            let empty = eqb-true _ 0 (sym v.is_empty.ensures ∙ (sym v.value-is ∙ w.if-is_empty.true)) in
-            let transforms : ts.items ≡ [] = none_left ts.items (omega (arith, empty, ts.ok.0)) in
-            let path : path_of (state_of inside.settings inside.types inside.registry) ≡ codes "/$defs" = search rules in (
-              (λ is. let none = none_left es (sym c.len-then-eq.ensures.len ∙ eqb-true _ 0 is) in
-                  subst WritesEarly c.self.view_is (record {
-                    many = many;
-                    transforms = transforms;
-                    path = path;
-                    none = sym c.definitions.ensures ∙ ap members_view none;
-                  })),
-              (λ early.
-                  let none = c.definitions.ensures ∙ ap (λ y. y.definitions) c.self.view_is ∙ early.none in
-                  ap (λ k. k == 0) (c.len-then-eq.ensures.len ∙ (sym (members_len-members_view es) ∙ ap members_len none))),
-            )
-        | else-len-ge-MANY_ROWS v ↦
-            let enough = leb-true 20000 c.len.result (sym v.value-is ∙ w.if-is_empty.true) in absurd (omega (arith, enough, v.if-len-ge-MANY_ROWS.false))
-      ]
+      | then-is_empty v ↦
+          let empty = eqb-true _ 0 (sym c.is_empty.ensures ∙ v.if-is_empty.true) in
+          let transforms : ts.items ≡ [] = none_left ts.items (omega (arith, empty, ts.ok.0)) in
+          let path : path_of (state_of inside.settings inside.types inside.registry) ≡ codes "/$defs" = search rules in (
+            (λ is. let none = none_left es (sym c.len.ensures.len ∙ eqb-true _ 0 is) in
+                subst WritesEarly c.self.view_is (record {
+                  transforms = transforms;
+                  path = path;
+                  none = sym c.definitions.ensures ∙ ap members_view none;
+                })),
+            (λ early.
+                let none = c.definitions.ensures ∙ ap (λ y. y.definitions) c.self.view_is ∙ early.none in
+                ap (λ k. k == 0) (c.len.ensures.len ∙ (sym (members_len-members_view es) ∙ ap members_len none))),
+          )
       | else-is_empty w ↦ let clash : true ≡ false = sym c.if-eq.true ∙ w.value-is ∙ w.if-is_empty.false in cc
     ]
