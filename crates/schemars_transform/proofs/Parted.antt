@@ -1,5 +1,5 @@
 -- What built-in transforms make of a document is what they make of its definitions, each by itself, and of what is left.
-use Rattle.std.proofs.Common.{◌≡◌, Bool, true, false, List, [], ◌∷◌, Some, codes, refl, sym, ap, ◌∙◌, subst}
+use Rattle.std.proofs.Common.{◌≡◌, Bool, true, false, List, [], ◌∷◌, Some, Option, None, option_map, codes, refl, sym, ap, ◌∙◌, subst}
 use Rattle.std.proofs.lemmas.Bool.{and_parts}
 use Rattle.std.specs.Prelude.{◌&&◌, is_some, if◌then◌else◌}
 use Rattle.serde_json.specs.Data.{Data, null, boolean, number, string, array, object, Members, no_members, member}
@@ -17,7 +17,7 @@ use Rattle.schemars_transform.specs.declared.built_in.bool_schemas.ReplaceBoolSc
 use Rattle.schemars_transform.specs.declared.gen_transform.GenTransform.{GenTransform}
 use Rattle.schemars_transform.specs.declared.gen_transform.GenTransform.TheVariants.{ReplaceBoolSchemas, RemoveRefSiblings, SetSingleExample, ReplaceConstValue, ReplacePrefixItems, AddNullable, ReplaceUnevaluatedProperties, RestrictFormats, Own}
 use Rattle.schemars_transform.specs.Apart.{is_local, are_local}
-use Rattle.schemars_transform.proofs.Replaced.{turned, keywords-replaced, replaced-twice, replaced-found}
+use Rattle.schemars_transform.proofs.Replaced.{turned, keywords-replaced, keyword_form, keywords-get, replaced-twice, replaced-found}
 use Rattle.schemars_transform.proofs.Turns.{IsApart, Turns, const_turns, example_turns, prefix_turns, reference_turns, null_turns, unevaluated_turns}
 
 -- ---- one transform
@@ -40,6 +40,8 @@ record Parts (q : Text) (T : Data → Data) (ms : Members) : Type 0 where
   members : Members
   here : T (object ms) ≡ object members
   there : (defs : Members) → T (object (replaced q (object defs) ms)) ≡ object (replaced q (object (each T defs)) members)
+  kept : (defs : Members) → get_member q ms ≡ Some (object defs) → get_member q members ≡ Some (object (each T defs))
+  absent : get_member q ms ≡ None → get_member q members ≡ None
 
 record IsParted (q : Text) (T : Data → Data) : Type 0 where
   parts : (ms : Members) → Parts q T ms
@@ -74,6 +76,9 @@ module _ (q : Text) (h : IsApart q) {R : Type 0} (ρ : Rules R) (r : R) (inside 
             ∙ (ap (λ ns. ρ.finish r (object ns)) (keywords-replaced ρ r q (object defs) ms
             ∙ ap (λ p. replaced q (form_at p (object defs) (forms ρ r (object defs))) (in_keywords ρ r ms)) (place (object defs)))
             ∙ (c.there (forms ρ r (object defs)).by_name ∙ ap (λ d. object (replaced q d c.members)) (by_name defs)));
+        kept = λ defs found. c.kept ∙ (keywords-get ρ r q ms ∙ (ap (option_map (keyword_form ρ r q)) found
+            ∙ ap Some (ap (λ p. form_at p (object defs) (forms ρ r (object defs))) (place (object defs)) ∙ by_name defs)));
+        absent = λ none. c.kept ∙ (keywords-get ρ r q ms ∙ ap (option_map (keyword_form ρ r q)) none);
       }
 
 module _ (q : Text) (h : IsApart q) where
@@ -99,7 +104,7 @@ module _ (q : Text) (h : IsApart q) where
           (turned (codes "additionalProperties") q (h.other (codes "additionalProperties") refl)) ∙ skips t.skip_additional_properties
 
       turn : (ms : Members) → Turns q (λ s. object (members_in s)) ms
-      turn ms = record { members = ms; here = refl; there = λ x. refl }
+      turn ms = record { members = ms; here = refl; there = λ x. refl; kept = refl }
 
   -- each transform that does the same everywhere
   local_parted : {O : Type 0} (t : GenTransform O) → is_local t ≡ true → IsParted q (function_of t)
@@ -150,12 +155,16 @@ pub record Made {O : Type 0} (q : Text) (ts : List (GenTransform O)) (ms : Membe
   pub members : Members
   pub here : made_by ts (object ms) ≡ object members
   pub there : (defs : Members) → made_by ts (object (replaced q (object defs) ms)) ≡ object (replaced q (object (each_made_by ts defs)) members)
+  pub kept : (defs : Members) → get_member q ms ≡ Some (object defs) → get_member q members ≡ Some (object (each_made_by ts defs))
+  pub absent : get_member q ms ≡ None → get_member q members ≡ None
 
 pub made_in_parts : {O : Type 0} (q : Text) → IsApart q → (ts : List (GenTransform O)) → are_local ts ≡ true → (ms : Members) → Made q ts ms
 made_in_parts {O} q h [] local ms = record {
   members = ms;
   here = refl;
   there = λ defs. ap (λ e. object (replaced q (object e) ms)) (sym (each_none O defs));
+  kept = λ defs found. found ∙ ap (λ e. Some (object e)) (sym (each_none O defs));
+  absent = λ none. none;
 }
 made_in_parts q h (t ∷ ts) local ms =
     let both = and_parts (is_local t) (are_local ts) local in
@@ -167,6 +176,8 @@ made_in_parts q h (t ∷ ts) local ms =
       here = ap (made_by ts) a.here ∙ c.here;
       there = λ defs. ap (made_by ts) (a.there defs) ∙ (c.there (each (function_of t) defs)
           ∙ ap (λ e. object (replaced q (object e) c.members)) (each_then q t ts p defs));
+      kept = λ defs found. c.kept (each (function_of t) defs) (a.kept defs found) ∙ ap (λ e. Some (object e)) (each_then q t ts p defs);
+      absent = λ none. c.absent (a.absent none);
     }
 
 -- the definitions go where they were, each transformed by itself

@@ -1,5 +1,5 @@
 -- Members of which one is replaced, edited at other keys.
-use Rattle.std.proofs.Common.{◌≡◌, suc, Some, None, Bool, true, false, Ordering, Less, Equal, Greater, nat_cmp, refl, sym, ap, ◌∙◌, subst}
+use Rattle.std.proofs.Common.{◌≡◌, suc, Some, None, option_map, Bool, true, false, Ordering, Less, Equal, Greater, nat_cmp, refl, sym, ap, ◌∙◌, subst}
 use Rattle.std.proofs.lemmas.Map.Lookups.{exact_bytes}
 use Rattle.std.proofs.lemmas.Slice.Eq.{bytes_eq-Decides}
 use Rattle.std.specs.Prelude.{[], ◌++◌, bytes_eq, if◌then◌else◌}
@@ -113,6 +113,24 @@ keywords-replaced ρ r q x (member l d ms) = go (bytes_eq q l) refl (keywords-re
         ∙ (sym (ap (λ b. if b then member l y (in_keywords ρ r ms) else member l first (replaced q y (in_keywords ρ r ms))) at) ∙ back))
 
 -- the value that is there, put over another one
+-- what is made of the value of a keyword
+abbrev pub keyword_form : {R : Type 0} → Rules R → R → Text → Data → Data
+keyword_form ρ r k d = form_at (ρ.place r k d) d (forms ρ r d)
+
+pub keywords-get : {R : Type 0} (ρ : Rules R) (r : R) (q : Text) (ms : Members)
+    → get_member q (in_keywords ρ r ms) ≡ option_map (keyword_form ρ r q) (get_member q ms)
+unfolding in_keywords
+keywords-get ρ r q no_members = refl
+keywords-get ρ r q (member l d ms) =
+    get_member-member q l (keyword_form ρ r l d) (in_keywords ρ r ms)
+    ∙ (go (bytes_eq q l) refl (keywords-get ρ r q ms) ∙ ap (option_map (keyword_form ρ r q)) (sym (get_member-member q l d ms)))
+  where
+    go : (b : Bool) → bytes_eq q l ≡ b → get_member q (in_keywords ρ r ms) ≡ option_map (keyword_form ρ r q) (get_member q ms)
+        → (if b then Some (keyword_form ρ r l d) else get_member q (in_keywords ρ r ms))
+        ≡ option_map (keyword_form ρ r q) (if b then Some d else get_member q ms)
+    go true is later = ap (λ k. Some (keyword_form ρ r k d)) (sym ((bytes_eq-Decides q l).0 is))
+    go false is later = later
+
 pub replaced-twice : (q : Text) (x y : Data) (ms : Members) → replaced q y (replaced q x ms) ≡ replaced q y ms
 replaced-twice q x y no_members = refl
 replaced-twice q x y (member l d ms) = go (bytes_eq q l) refl (replaced-twice q x y ms)

@@ -10,14 +10,16 @@ use Rattle.schemars_schema.specs.Json.{Text}
 use Rattle.schemars_schema.specs.SchemaData.{members_in, inserted}
 use Rattle.schemars_schema.specs.Edits.{without, removed, replaced, with_last}
 use Rattle.schemars_schema.specs.References.{SchemasByName, place_under}
-use Rattle.schemars_schema.proofs.Members.{get_member-replaced_other}
+use Rattle.serde_json.proofs.Views.{get_member-put_other}
+use Rattle.schemars_text.proofs.Members.{differ}
+use Rattle.schemars_schema.proofs.Members.{get_member-replaced_other, get_member-without}
 use Rattle.schemars_transform.specs.Built.{referring, reference_moved, without_siblings, first_as_example, with_single_example, value_as_enum, const_as_enum, old_items_moved, prefix_moved, prefix_as_items}
 use Rattle.schemars_transform.specs.Nullable.{nulls_in, type_without_null, null_taken_out, null_alone, null_among, nullable_by, with_nullable}
 use Rattle.schemars_transform.specs.Unevaluated.{Names, names_under, property_names, with_names, object_with_names, properties_made, properties_named, with_properties, closed_by, unevaluated_as_additional}
 use Rattle.schemars_transform.specs.declared.built_in.nullable.AddNullable.{AddNullable}
 use Rattle.schemars_transform.specs.declared.built_in.nullable.Nulls.{Nulls}
 use Rattle.schemars_transform.specs.declared.built_in.nullable.Nulls.TheVariants.{Missing, Alone, Among}
-use Rattle.schemars_transform.proofs.Replaced.{len-replaced, without-replaced, replaced-replaced, put-replaced, property_names-replaced}
+use Rattle.schemars_transform.proofs.Replaced.{turned, len-replaced, without-replaced, replaced-replaced, put-replaced, property_names-replaced}
 
 -- the keywords that transforms read or write
 abbrev looked_at : List Text
@@ -44,28 +46,35 @@ defs_apart = record { other = others (codes "$defs") refl; quiet = λ d n. refl;
 pub definitions_apart : IsApart (codes "definitions")
 definitions_apart = record { other = others (codes "definitions") refl; quiet = λ d n. refl; place = refl }
 
--- what a change makes of an object, whatever is at q
+-- what a change makes of an object, whatever is at q, which stays there
 pub record Turns (q : Text) (f : Data → Data) (ms : Members) : Type 0 where
   pub members : Members
   pub here : f (object ms) ≡ object members
   pub there : (x : Data) → f (object (replaced q x ms)) ≡ object (replaced q x members)
+  pub kept : get_member q members ≡ get_member q ms
 
 module _ (q : Text) (h : IsApart q) where
   -- ---- single steps
 
   pub same : (ms : Members) → Turns q (λ s. s) ms
-  same ms = record { members = ms; here = refl; there = λ x. refl }
+  same ms = record { members = ms; here = refl; there = λ x. refl; kept = refl }
 
   after : (f g : Data → Data) (ms : Members) → Turns q f ms → ((ns : Members) → Turns q g ns) → Turns q (λ s. g (f s)) ms
   after f g ms a b =
       let c = b a.members in
-      record { members = c.members; here = ap g a.here ∙ c.here; there = λ x. ap g (a.there x) ∙ c.there x }
+      record {
+        members = c.members;
+        here = ap g a.here ∙ c.here;
+        there = λ x. ap g (a.there x) ∙ c.there x;
+        kept = c.kept ∙ a.kept;
+      }
 
   putting : (k : Text) → is_listed k looked_at ≡ true → (d : Data) (ms : Members) → Turns q (inserted k d) ms
   putting k is d ms = record {
     members = put k d ms;
     here = refl;
     there = λ x. ap object (put-replaced k q (h.other k is) x d ms);
+    kept = get_member-put_other q k d ms (differ q k (turned k q (h.other k is)));
   }
 
   removing : (k : Text) → is_listed k looked_at ≡ true → (ms : Members) → Turns q (removed k) ms
@@ -73,6 +82,7 @@ module _ (q : Text) (h : IsApart q) where
     members = without k ms;
     here = refl;
     there = λ x. ap object (without-replaced k q (h.other k is) x ms);
+    kept = get_member-without q k ms (turned k q (h.other k is));
   }
 
   writing : (k : Text) → is_listed k looked_at ≡ true → (y : Data) (ms : Members)
@@ -81,6 +91,7 @@ module _ (q : Text) (h : IsApart q) where
     members = replaced k y ms;
     here = refl;
     there = λ x. ap object (replaced-replaced k q (h.other k is) x y ms);
+    kept = get_member-replaced_other q k y ms (turned k q (h.other k is));
   }
 
   got : (k : Text) → is_listed k looked_at ≡ true → (g : Option Data → Data → Data) (ms : Members)
@@ -91,6 +102,7 @@ module _ (q : Text) (h : IsApart q) where
         members = c.members;
         here = c.here;
         there = λ x. ap (λ o. g o (object (replaced q x ms))) (get_member-replaced_other k q x ms (h.other k is)) ∙ c.there x;
+        kept = c.kept;
       }
 
   taken : (k : Text) → is_listed k looked_at ≡ true → (g : Option Data → Data → Data) (ms : Members)
@@ -146,6 +158,7 @@ module _ (q : Text) (h : IsApart q) where
             here = ap (λ o. by o ms) is;
             there = λ x. ap (λ o. by o (replaced q x ms)) (found x ∙ is)
                 ∙ ap object (put-replaced (codes "allOf") q (h.other (codes "allOf") refl) x d ms);
+            kept = get_member-put_other q (codes "allOf") d ms (differ q (codes "allOf") (turned (codes "allOf") q (h.other (codes "allOf") refl)));
           }
       go (Some e) is =
           let d : Data = with_last (referring r) e in
@@ -154,6 +167,7 @@ module _ (q : Text) (h : IsApart q) where
             here = ap (λ o. by o ms) is;
             there = λ x. ap (λ o. by o (replaced q x ms)) (found x ∙ is)
                 ∙ ap object (replaced-replaced (codes "allOf") q (h.other (codes "allOf") refl) x d ms);
+            kept = get_member-replaced_other q (codes "allOf") d ms (turned (codes "allOf") q (h.other (codes "allOf") refl));
           }
 
   pub reference_turns : (ms : Members) → Turns q without_siblings ms
@@ -174,6 +188,7 @@ module _ (q : Text) (h : IsApart q) where
         members = ms;
         here = ap (λ b. by b (object ms)) one;
         there = λ x. ap (λ b. by b (object (replaced q x ms))) (many x ∙ one);
+        kept = refl;
       }
       go false more =
           let c = taken (codes "$ref") refl reference_moved ms moved in
@@ -181,6 +196,7 @@ module _ (q : Text) (h : IsApart q) where
             members = c.members;
             here = ap (λ b. by b (object ms)) more ∙ c.here;
             there = λ x. ap (λ b. by b (object (replaced q x ms))) (many x ∙ more) ∙ c.there x;
+            kept = c.kept;
           }
 
   pub null_turns : (t : AddNullable) (ms : Members) → Turns q (with_nullable t) ms
@@ -235,6 +251,7 @@ module _ (q : Text) (h : IsApart q) where
             members = c.members;
             here = c.here;
             there = λ x. ap (λ ks. properties_named ks o (object (replaced q x ns))) (property_names-replaced q x h.quiet ns) ∙ c.there x;
+            kept = c.kept;
           }
 
   pub unevaluated_turns : (ms : Members) → Turns q unevaluated_as_additional ms
