@@ -2,7 +2,7 @@
 use Rattle.std.proofs.Common.{◌≡◌, ◌⊎◌, inl, inr, List, [], ◌∷◌, Bool, true, false, Some, None, Ok, codes, refl, sym, ap, ◌∙◌, subst}
 use Rattle.std.proofs.lemmas.Bool.{or_parts, and_parts}
 use Rattle.std.proofs.lemmas.Slice.Eq.{bytes_eq-Decides}
-use Rattle.std.specs.Prelude.{◌==◌, ◌&&◌, ◌||◌, not, is_some, if◌then◌else◌, bytes_eq}
+use Rattle.std.specs.Prelude.{⊤, ◌==◌, ◌&&◌, ◌||◌, not, is_some, if◌then◌else◌, bytes_eq}
 use Rattle.serde_json.specs.Data.{Data, boolean, string, array, object, Members, no_members, member}
 use Rattle.serde_json.specs.Events.{members_len}
 use Rattle.serde_json.specs.Find.{get_member, as_bool}
@@ -17,6 +17,7 @@ use Rattle.schemars_transform.specs.Built.{bool_rules, replace_bool_schemas, ref
 use Rattle.schemars_transform.specs.Nullable.{has_null, nulls_in, nullable_by, with_nullable}
 use Rattle.schemars_transform.specs.Unevaluated.{closed_by, unevaluated_as_additional}
 use Rattle.schemars_transform.specs.Member.{OfMember}
+use Rattle.schemars_transform.specs.BuiltIn.{function_of, made_by}
 use Rattle.schemars_transform.specs.Needs.{keyword_named, is_changed, with_keyword, place_asked, needs_of, is_idle, are_idle}
 use Rattle.schemars_transform.specs.declared.built_in.bool_schemas.ReplaceBoolSchemas as bools
 use Rattle.schemars_transform.specs.declared.built_in.nullable.AddNullable as nullable
@@ -254,3 +255,27 @@ idle_list Q [] s h = (refl, refl, refl)
 idle_list Q (t ∷ ts) s h =
     let both = and_parts (is_idle t (needs_of s)) (are_idle ts (needs_of s)) h in
     (Ok tt, t, s, idle_member Q t s both.0, (ts, idle_list Q ts s both.1, refl))
+
+-- its function leaves the schema as it is
+idle_function : {O : Type 0} (t : GenTransform O) (s : Data) → is_idle t (needs_of s) ≡ true → function_of t s ≡ s
+idle_function {O} t s h = go t (idle_member any t s h)
+  where
+    any : TransformStep O
+    any u d r v e = ⊤
+
+    go : (u : GenTransform O) → OfMember any u s (Ok tt) u s → function_of u s ≡ s
+    go (ReplaceBoolSchemas u) made = sym made.1
+    go (RemoveRefSiblings u) made = sym made.1
+    go (SetSingleExample u) made = sym made.1
+    go (ReplaceConstValue u) made = sym made.1
+    go (ReplacePrefixItems u) made = sym made.1
+    go (AddNullable u) made = sym made.1
+    go (ReplaceUnevaluatedProperties u) made = sym made.1
+    go (RestrictFormats u) made = sym made.1
+    go (Own u) made = refl
+
+pub idle_made : {O : Type 0} (ts : List (GenTransform O)) (s : Data) → are_idle ts (needs_of s) ≡ true → made_by ts s ≡ s
+idle_made [] s h = refl
+idle_made (t ∷ ts) s h =
+    let both = and_parts (is_idle t (needs_of s)) (are_idle ts (needs_of s)) h in
+    ap (made_by ts) (idle_function t s both.0) ∙ idle_made ts s both.1

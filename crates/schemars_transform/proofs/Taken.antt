@@ -79,7 +79,7 @@ none_own (t ∷ ts) local =
     let both = and_parts (is_local t) (are_local ts) local in
     ap (λ b. b || some_own ts) (local_built_in t both.0) ∙ none_own ts both.1
 
-makes_in_order : {O : Type 0} (Q : TransformStep O) (ts : List (GenTransform O)) (d : Data) → are_local ts ≡ true
+pub makes_in_order : {O : Type 0} (Q : TransformStep O) (ts : List (GenTransform O)) (d : Data) → are_local ts ≡ true
     → InOrder (OfMember Q) ts d (Ok tt) ts (made_by ts d)
 makes_in_order Q [] d local = (refl, refl, refl)
 makes_in_order Q (t ∷ ts) d local =

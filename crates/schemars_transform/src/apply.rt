@@ -7,6 +7,7 @@ ghost use Rattle.schemars_schema.specs.Edits.{replaced};
 ghost use Rattle.schemars_walk.specs.Order.{InOrder};
 ghost use Rattle.schemars_walk.specs.Walk.{EachMember, AtSchema};
 ghost use Rattle.schemars_transform.specs.Member.{OfMember, ApplyInOrder};
+ghost use Rattle.schemars_transform.specs.BuiltIn.{made_by};
 ghost use Rattle.schemars_transform.specs.Apart.{is_local, are_local, definition_keys, IsTaken};
 ghost use Rattle.schemars_transform.specs.Needs.{needs_of, is_idle, are_idle};
 
@@ -46,6 +47,14 @@ pub fn apply_all<O: Transform + Drop>(
         return apply_apart(alloc, transforms, schema, "definitions", definitions);
     }
     apply_each(alloc, transforms, schema)
+}
+
+/// Returns whether built-in transforms leave a schema as it is, found by one walk that changes
+/// nothing. `false` says nothing.
+pub fn leave_unchanged<O>(transforms: &[GenTransform<O>], schema: &Schema) -> bool
+    ensures { result ≡ true → made_by transforms.now schema.now ≡ schema.now }
+{
+    are_idle(transforms, needs_of(schema.as_value()))
 }
 
 // Applies transforms to the definitions that were taken out of a schema, and to what was left.

@@ -9,7 +9,7 @@ mod gen_transform;
 mod needs;
 mod no_transform;
 
-pub use apply::{apply_all, apply_to_members};
+pub use apply::{apply_all, apply_to_members, leave_unchanged};
 pub use built_in::bool_schemas::ReplaceBoolSchemas;
 pub use built_in::const_value::ReplaceConstValue;
 pub use built_in::formats::RestrictFormats;
