@@ -1,0 +1,84 @@
+//! What the transforms of a draft's settings make of a definition.
+ghost use Rattle.std.specs.Prelude.{◌≡◌, false, OnOk};
+ghost use Rattle.schemars_transform.specs.BuiltIn.{made_by};
+ghost use Rattle.schemars_transform.specs.Member.{some_own};
+
+use crate::settings::SchemaSettings;
+use schemars_definitions::Change;
+use schemars_schema::Schema;
+use schemars_transform::{
+    GenTransform, NoTransform, RemoveRefSiblings, ReplacePrefixItems, ReplaceUnevaluatedProperties,
+    apply_all, leave_unchanged,
+};
+use schemars_walk::Transform;
+use std::alloc::{AllocError, Global};
+
+// The transforms of 2019-09.
+#[derive(Drop)]
+pub(crate) struct Changes2019_09;
+
+impl Change for Changes2019_09 {
+    ghost use Rattle.schemars_headline.specs.Drafts.{Draft2019_09, made_for};
+
+    ghost made = { λ d. made_for Draft2019_09 d };
+
+    fn changes_nothing(&self) -> bool {
+        false
+    }
+
+    fn leaves(&self, schema: &Schema) -> bool {
+        let transforms: [GenTransform<NoTransform>; 1] =
+            [GenTransform::ReplacePrefixItems(ReplacePrefixItems)];
+        leave_unchanged(&transforms, schema)
+    }
+
+    fn change(&mut self, alloc: Global, schema: &mut Schema) -> Result<(), AllocError> {
+        let settings: SchemaSettings<NoTransform> = SchemaSettings::draft2019_09(alloc)?;
+        let SchemaSettings { mut transforms, .. } = settings;
+        apply_built_in(alloc, &mut transforms, schema)
+    }
+}
+
+// The transforms of Draft 7.
+#[derive(Drop)]
+pub(crate) struct Changes07;
+
+impl Change for Changes07 {
+    ghost use Rattle.schemars_headline.specs.Drafts.{Draft07, made_for};
+
+    ghost made = { λ d. made_for Draft07 d };
+
+    fn changes_nothing(&self) -> bool {
+        false
+    }
+
+    fn leaves(&self, schema: &Schema) -> bool {
+        let transforms: [GenTransform<NoTransform>; 3] = [
+            GenTransform::ReplaceUnevaluatedProperties(ReplaceUnevaluatedProperties),
+            GenTransform::RemoveRefSiblings(RemoveRefSiblings),
+            GenTransform::ReplacePrefixItems(ReplacePrefixItems),
+        ];
+        leave_unchanged(&transforms, schema)
+    }
+
+    fn change(&mut self, alloc: Global, schema: &mut Schema) -> Result<(), AllocError> {
+        let settings: SchemaSettings<NoTransform> = SchemaSettings::draft07(alloc)?;
+        let SchemaSettings { mut transforms, .. } = settings;
+        apply_built_in(alloc, &mut transforms, schema)
+    }
+}
+
+// Applies built-in transforms to a schema, one after another. They fail only if out of memory.
+pub(crate) fn apply_built_in<O: Transform + Drop>(
+    alloc: Global,
+    transforms: &mut Vec<GenTransform<O>>,
+    schema: &mut Schema,
+) -> Result<(), AllocError>
+    requires { some_own transforms.old.items ≡ false }
+    ensures { OnOk result (schema.new ≡ made_by transforms.old.items schema.old) }
+{
+    match apply_all(alloc, transforms, schema) {
+        Ok(()) => Ok(()),
+        Err(_) => Err(AllocError),
+    }
+}
