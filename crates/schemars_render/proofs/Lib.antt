@@ -1,1 +1,3 @@
-
+-- Lemmas that several proofs share.
+pub mod Parts
+pub mod Written
