@@ -1,10 +1,10 @@
 //! The walk over a schema in parts that writes its text, with keywords in a fixed order.
-ghost use Rattle.std.specs.Prelude.{◌≡◌, ◌++◌, false, map, length, option_map, string_bytes, IfOk, OnOk};
+ghost use Rattle.std.specs.Prelude.{◌≡◌, false, map, length, option_map, string_bytes, IfOk, OnOk};
 ghost use Rattle.serde_json.specs.Data.{Members};
 ghost use Rattle.serde_json.specs.Find.{get_member};
 ghost use Rattle.serde_json.specs.Written.{has_float, items_have_float};
 ghost use Rattle.schemars_text.specs.OrderedText as ordered;
-ghost use Rattle.schemars_text.specs.OrderedText.{first_keywords, last_keywords, SchemaLayout, each_written_at, others, arranged, item_texts, member_texts, ordered_text};
+ghost use Rattle.schemars_text.specs.OrderedText.{SchemaLayout, each_written_at, others, arranged, item_texts, member_texts, ordered_text};
 ghost use Rattle.schemars_text.specs.Output.{with_values, layout_meant};
 ghost use Rattle.schemars_render.specs.Assembled.{assembled_view, items_assembled, members_assembled, reference_to};
 ghost use Rattle.schemars_render.specs.Writing.{IsWritten, IsMember, AreWritten};

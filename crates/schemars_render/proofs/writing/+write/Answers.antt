@@ -30,10 +30,13 @@ write_keywords-returns t c =
     let ms = members_assembled c.args.members.now.entries in
     let found = c.find_fixed.new.found in
     on_ok_weaker c.write_found-2.result (λ last none.
-        let ws = member_texts SchemaLayout ms in
-        rw (last ms (last_found found ms c.find_fixed.ensures) none, c.in_ok-write_others.ensures none,
-        c.in_ok-write_found.ensures ms (first_found assembled_view found ms c.find_fixed.ensures) none)
-        (with_groups c.args.out.now (each_written_at first_keywords ws) (others ws) (each_written_at last_keywords ws)))
+    let ws = member_texts SchemaLayout ms in
+    rw (
+      last ms (last_found found ms c.find_fixed.ensures) none,
+      c.in_ok-write_others.ensures none,
+      c.in_ok-write_found.ensures ms (first_found assembled_view found ms c.find_fixed.ensures) none,
+    )
+    (with_groups c.args.out.now (each_written_at first_keywords ws) (others ws) (each_written_at last_keywords ws)))
     c.write_found-2.ensures
 
 pub write_keywords-write_found-requires : goal.write_keywords-write_found-requires
