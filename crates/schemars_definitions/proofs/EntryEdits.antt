@@ -74,30 +74,31 @@ module _ {X : Type 0} (data_of : X → Data) where
 
 -- ---- texts that are kept
 
-pub ordered-insert : (key : String Global) (v : Kept) (es : List (String Global × Kept)) → IsOrdered v → AreOrdered es
-    → AreOrdered (insert_entry string_cmp es key v)
-ordered-insert key v [] h all = (h, tt)
-ordered-insert key v (e ∷ es) h all = go (string_cmp key e.0) (ordered-insert key v es h all.1)
+pub ordered-insert : (made : Data → Data) (key : String Global) (v : Kept) (es : List (String Global × Kept))
+    → IsOrdered made v → AreOrdered made es → AreOrdered made (insert_entry string_cmp es key v)
+ordered-insert made key v [] h all = (h, tt)
+ordered-insert made key v (e ∷ es) h all = go (string_cmp key e.0) (ordered-insert made key v es h all.1)
   where
-    go : (o : Ordering) → AreOrdered (insert_entry string_cmp es key v)
-        → AreOrdered (match_ordering o ((key, v) ∷ e ∷ es) ((e.0, v) ∷ es) (e ∷ insert_entry string_cmp es key v))
+    go : (o : Ordering) → AreOrdered made (insert_entry string_cmp es key v)
+        → AreOrdered made (match_ordering o ((key, v) ∷ e ∷ es) ((e.0, v) ∷ es) (e ∷ insert_entry string_cmp es key v))
     go Less later = (h, all)
     go Equal later = (h, all.1)
     go Greater later = (all.0, later)
 
-pub ordered-set : (test : String Global → Bool) (v : Kept) (es : List (String Global × Kept)) → IsOrdered v → AreOrdered es
-    → AreOrdered (set_value test es v)
-ordered-set test v [] h all = tt
-ordered-set test v (e ∷ es) h all = go (test e.0) (ordered-set test v es h all.1)
+pub ordered-set : (made : Data → Data) (test : String Global → Bool) (v : Kept) (es : List (String Global × Kept))
+    → IsOrdered made v → AreOrdered made es → AreOrdered made (set_value test es v)
+ordered-set made test v [] h all = tt
+ordered-set made test v (e ∷ es) h all = go (test e.0) (ordered-set made test v es h all.1)
   where
-    go : (b : Bool) → AreOrdered (set_value test es v) → AreOrdered (cond b ((e.0, v) ∷ es) (e ∷ set_value test es v))
+    go : (b : Bool) → AreOrdered made (set_value test es v) → AreOrdered made (cond b ((e.0, v) ∷ es) (e ∷ set_value test es v))
     go true later = (h, all.1)
     go false later = (all.0, later)
 
-pub ordered-remove : (test : String Global → Bool) (es : List (String Global × Kept)) → AreOrdered es → AreOrdered (remove_entry test es)
-ordered-remove test [] all = tt
-ordered-remove test (e ∷ es) all = go (test e.0) (ordered-remove test es all.1)
+pub ordered-remove : (made : Data → Data) (test : String Global → Bool) (es : List (String Global × Kept)) → AreOrdered made es
+    → AreOrdered made (remove_entry test es)
+ordered-remove made test [] all = tt
+ordered-remove made test (e ∷ es) all = go (test e.0) (ordered-remove made test es all.1)
   where
-    go : (b : Bool) → AreOrdered (remove_entry test es) → AreOrdered (cond b es (e ∷ remove_entry test es))
+    go : (b : Bool) → AreOrdered made (remove_entry test es) → AreOrdered made (cond b es (e ∷ remove_entry test es))
     go true later = all.1
     go false later = (all.0, later)

@@ -1,23 +1,24 @@
 -- The text of an object that definitions are put into: that of the object, and of one more member at its end.
-use Rattle.std.proofs.Common.{◌≡◌, ◌<◌, ◌-◌, ℕ, List, [], ◌∷◌, ◌++◌, length, get_or, take, Bool, true, false, not, ◌||◌, Option, Some, None, Ordering, Less, Equal, Greater, nat_cmp, refl, sym, ap, ◌∙◌, append_assoc, append-nil, length-append, arith}
+use Rattle.std.proofs.Common.{◌≡◌, ◌<◌, ◌-◌, ℕ, List, [], ◌∷◌, ◌++◌, length, get_or, take, Bool, true, false, not, ◌||◌, Option, Some, None, Ordering, Less, Equal, Greater, nat_cmp, refl, sym, ap, ◌∙◌, subst, append_assoc, append-nil, length-append, arith}
 use Rattle.std.proofs.Math.Seq.{get_or-append_seam, take-append_seam}
 use Rattle.std.proofs.lemmas.Bool.{or_parts}
 use Rattle.std.proofs.lemmas.Map.Lookups.{exact_bytes}
+use Rattle.std.proofs.lemmas.Slice.Eq.{bytes_eq-Decides}
 use Rattle.std.specs.Prelude.{bytes_eq, codes, IsTrue, ◌↔◌}
 use Rattle.std.specs.Ordering.{match_ordering}
 use Rattle.std.specs.Cmp.Lexicographic.{slice_cmp}
-use Rattle.json.specs.Print.{quoted, escape_byte}
+use Rattle.json.specs.Print.{quoted}
 use Rattle.serde_json.specs.Data.{Data, object, Members, no_members, member, put}
 use Rattle.serde_json.specs.Find.{get_member}
 use Rattle.serde_json.specs.Written.{comma_if}
 use Rattle.serde_json.specs.View.{members_view}
 use Rattle.serde_json.proofs.Views.{Entry, get_member-put, get_member-put_other}
 use Rattle.schemars_text.specs.Text.{Text}
-use Rattle.schemars_text.specs.OrderedText.{SchemaLayout, NamedSchemas, Written, written_at, each_written_at, others, arranged, texts, with_commas, text_in, member_texts, ordered_text, is_listed, first_keywords, last_keywords}
+use Rattle.schemars_text.specs.OrderedText.{SchemaLayout, NamedSchemas, Written, written_at, each_written_at, others, arranged, texts, with_commas, text_in, member_texts, ordered_text, definitions_text, is_listed, layout_under, first_keywords, last_keywords}
 use Rattle.schemars_text.proofs.Members.{differ, flipped, bytes_eq_comm}
 use Rattle.schemars_text.proofs.OrderedTexts.{written_member, written_at-found, written_at-missing}
 use Rattle.schemars_schema.specs.SchemaData.{members_in}
-use Rattle.schemars_definitions.specs.Joined.{HasNoDefinitions, is_any, has_members}
+use Rattle.schemars_definitions.specs.Joined.{HasNoDefinitions, definition_keys, is_any, has_members}
 
 abbrev written : Members → List Written
 written ms = member_texts SchemaLayout ms
@@ -57,11 +58,27 @@ others-put k d (member l e ms) placed = go (slice_cmp nat_cmp k l) refl (others-
     go Equal is later = let there : has_place l ≡ true = ap has_place (sym (exact_bytes k l is)) ∙ placed in rw there
     go Greater is later = rw later
 
--- it is the last one
-arranged-put : (d : Data) (ms : Members) → get_member (codes "$defs") ms ≡ None → get_member (codes "definitions") ms ≡ None
-    → arranged SchemaLayout (written (put (codes "$defs") d ms))
-    ≡ arranged SchemaLayout (written ms) ++ written_member (codes "$defs") d ∷ []
-arranged-put d ms none none_old =
+-- what is so at each key of definitions
+at_each_key : (P : Text → Type 0) → P (codes "$defs") → P (codes "definitions") → (k : Text) → is_listed k definition_keys ≡ true → P k
+at_each_key P defs old k listed = go (bytes_eq k (codes "$defs")) refl (bytes_eq k (codes "definitions")) refl listed
+  where
+    go : (b : Bool) → bytes_eq k (codes "$defs") ≡ b → (c : Bool) → bytes_eq k (codes "definitions") ≡ c → b || (c || false) ≡ true → P k
+    go true is c at h = subst P (sym ((bytes_eq-Decides k (codes "$defs")).0 is)) defs
+    go false is true at h = subst P (sym ((bytes_eq-Decides k (codes "definitions")).0 at)) old
+    go false is false at h = cc
+
+layout_at : (k : Text) → is_listed k definition_keys ≡ true → layout_under SchemaLayout k ≡ NamedSchemas
+layout_at = at_each_key (λ k. layout_under SchemaLayout k ≡ NamedSchemas) refl refl
+
+pub none_at : (ms : Members) → HasNoDefinitions (object ms) → (k : Text) → is_listed k definition_keys ≡ true → get_member k ms ≡ None
+none_at ms apart = at_each_key (λ k. get_member k ms ≡ None) apart.0 apart.1
+
+-- definitions that are put in are the last member
+abbrev IsLast : Data → Members → Text → Type 0
+IsLast d ms k = arranged SchemaLayout (written (put k d ms)) ≡ arranged SchemaLayout (written ms) ++ written_member k d ∷ []
+
+defs-last : (d : Data) (ms : Members) → HasNoDefinitions (object ms) → IsLast d ms (codes "$defs")
+defs-last d ms apart =
     let k = codes "$defs" in
     let first = each_written_at first_keywords (written ms) in
     rw (
@@ -69,10 +86,27 @@ arranged-put d ms none none_old =
       others-put k d ms refl,
       written_at-found k d (put k d ms) (get_member-put k d ms),
       written_at-put_other (codes "definitions") k d ms refl,
-      written_at-missing (codes "definitions") ms none_old,
-      written_at-missing k ms none,
+      written_at-missing (codes "definitions") ms apart.1,
+      written_at-missing k ms apart.0,
       append-nil (others (written ms)),
     ) (sym (append_assoc first (others (written ms)) (written_member k d ∷ [])))
+
+definitions-last : (d : Data) (ms : Members) → HasNoDefinitions (object ms) → IsLast d ms (codes "definitions")
+definitions-last d ms apart =
+    let k = codes "definitions" in
+    let first = each_written_at first_keywords (written ms) in
+    rw (
+      each_written_at-put_other first_keywords k d ms refl,
+      others-put k d ms refl,
+      written_at-found k d (put k d ms) (get_member-put k d ms),
+      written_at-put_other (codes "$defs") k d ms refl,
+      written_at-missing (codes "$defs") ms apart.0,
+      written_at-missing k ms apart.1,
+      append-nil (others (written ms)),
+    ) (sym (append_assoc first (others (written ms)) (written_member k d ∷ [])))
+
+arranged-put : (k : Text) (d : Data) (ms : Members) → is_listed k definition_keys ≡ true → HasNoDefinitions (object ms) → IsLast d ms k
+arranged-put k d ms listed apart = at_each_key (IsLast d ms) (defs-last d ms apart) (definitions-last d ms apart) k listed
 
 -- ---- whether there are members
 
@@ -170,8 +204,8 @@ pub no_more : (out : Text) (later : Bool) → out ++ with_commas later (definiti
 unfolding member_texts
 no_more out later = append-nil out
 
-regroup : (own comma key texts : Text) → (((own ++ comma) ++ key) ++ texts) ++ (125 ∷ 125 ∷ [])
-    ≡ (own ++ (comma ++ (key ++ (texts ++ 125 ∷ [])))) ++ 125 ∷ []
+regroup : (own comma key texts : Text) → ((((own ++ comma) ++ key) ++ (58 ∷ 123 ∷ [])) ++ texts) ++ (125 ∷ 125 ∷ [])
+    ≡ (own ++ (comma ++ (key ++ 58 ∷ 123 ∷ (texts ++ 125 ∷ [])))) ++ 125 ∷ []
 regroup own comma key texts = simp append_assoc
 
 -- the brace at the end is taken off
@@ -182,27 +216,36 @@ cut_last xs start front x n ascii is len cut =
     let last : get_or start (n - 1) 0 ≡ x = rw (at, is) (get_or-append_seam xs x [] 0) in
     cut (omega (arith, ap length is, length-append xs (x ∷ []))) (rw last ascii) ∙ rw (at, is) (take-append_seam xs (x ∷ []))
 
-in_parts : (ms defs : Members) → get_member (codes "$defs") ms ≡ None → get_member (codes "definitions") ms ≡ None
-    → ((((123 ∷ with_commas false (texts (arranged SchemaLayout (written ms)))) ++ comma_if (is_any ms)) ++ codes "\"$defs\":{")
+in_parts : (key : Text) (ms defs : Members) → is_listed key definition_keys ≡ true → HasNoDefinitions (object ms)
+    → (((((123 ∷ with_commas false (texts (arranged SchemaLayout (written ms)))) ++ comma_if (is_any ms)) ++ quoted key) ++ codes ":{")
     ++ with_commas false (definition_texts defs)) ++ codes "}}"
-    ≡ ordered_text (object (put (codes "$defs") (object defs) ms))
-unfolding text_in escape_byte
-in_parts ms defs none none_old =
+    ≡ ordered_text (object (put key (object defs) ms))
+unfolding text_in
+in_parts key ms defs listed apart =
     let own = texts (arranged SchemaLayout (written ms)) in
-    let new = written_member (codes "$defs") (object defs) in
-    let all : texts (arranged SchemaLayout (written (put (codes "$defs") (object defs) ms))) ≡ own ++ new.text ∷ [] =
-    ap texts (arranged-put (object defs) ms none none_old) ∙ texts-last (arranged SchemaLayout (written ms)) new in
-    rw (all, with_commas-last false own new.text, is_more-members ms)
-    (ap (λ x. 123 ∷ x) (regroup (with_commas false own) (comma_if (is_any ms)) (codes "\"$defs\":{") (with_commas false (definition_texts
-    defs))))
+    let new = written_member key (object defs) in
+    let text : new.text ≡ quoted key ++ 58 ∷ text_in NamedSchemas (object defs) =
+    ap (λ layout. quoted key ++ 58 ∷ text_in layout (object defs)) (layout_at key listed) in
+    let all : texts (arranged SchemaLayout (written (put key (object defs) ms))) ≡ own ++ new.text ∷ [] =
+    ap texts (arranged-put key (object defs) ms listed apart) ∙ texts-last (arranged SchemaLayout (written ms)) new in
+    rw (all, with_commas-last false own new.text, is_more-members ms, text)
+    (ap (λ x. 123 ∷ x) (regroup (with_commas false own) (comma_if (is_any ms)) (quoted key) (with_commas false (definition_texts defs))))
 
 -- the text of the object without its last byte, and then that of the new member
-pub joined_text : (own : Data) (defs : Members) (start front : Text) (n : ℕ) → HasNoDefinitions own → start ≡ ordered_text own
+pub joined_text : (key : Text) (own : Data) (defs : Members) (start front : Text) (n : ℕ) → is_listed key definition_keys ≡ true
+    → HasNoDefinitions own → start ≡ ordered_text own
     → n ≡ length start → (0 < n → get_or start (n - 1) 0 < 128 → front ≡ take (n - 1) start)
-    → (((front ++ comma_if (has_members own)) ++ codes "\"$defs\":{") ++ with_commas false (definition_texts defs)) ++ codes "}}"
-    ≡ ordered_text (object (put (codes "$defs") (object defs) (members_in own)))
+    → ((((front ++ comma_if (has_members own)) ++ quoted key) ++ codes ":{") ++ with_commas false (definition_texts defs)) ++ codes "}}"
+    ≡ ordered_text (object (put key (object defs) (members_in own)))
 unfolding text_in
-joined_text (object ms) defs start front n apart is len cut =
+joined_text key (object ms) defs start front n listed apart is len cut =
     rw (cut_last (123 ∷ with_commas false (texts (arranged SchemaLayout (written ms)))) start front 125 n (omega arith) is len cut)
-    (in_parts ms defs apart.0 apart.1)
-joined_text _ defs start front n apart is len cut = absurd apart
+    (in_parts key ms defs listed apart)
+joined_text key _ defs start front n listed apart is len cut = absurd apart
+
+-- definitions by themselves
+pub braced_text : (defs : Members) (start first front out : Text) → start ≡ [] → first ≡ start ++ 123 ∷ []
+    → front ≡ first ++ with_commas false (definition_texts defs) → out ≡ front ++ 125 ∷ [] → out ≡ definitions_text defs
+unfolding text_in
+braced_text defs start first front out none brace all end =
+    rw (end, all, brace, none) refl

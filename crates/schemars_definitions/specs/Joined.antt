@@ -1,7 +1,12 @@
 -- An object that definitions are put into.
-use Rattle.std.specs.Prelude.{◌≡◌, Bool, true, false, None, Some, codes}
+use Rattle.std.specs.Prelude.{◌≡◌, Bool, true, false, List, [], ◌∷◌, None, Some, codes}
 use Rattle.serde_json.specs.Data.{Data, null, boolean, number, string, array, object, Members, no_members, member}
 use Rattle.serde_json.specs.Find.{as_object, get_member}
+use Rattle.schemars_schema.specs.Json.{Text}
+
+-- the keys that definitions are put at
+abbrev pub definition_keys : List Text
+definition_keys = codes "$defs" ∷ codes "definitions" ∷ []
 
 -- an object with no definitions
 abbrev pub HasNoDefinitions : Data → Type 0

@@ -1,9 +1,19 @@
--- A document with its definitions.
+-- A document with its definitions, as they are written.
 use Rattle.std.specs.Prelude.{codes}
 use Rattle.serde_json.specs.Data.{Data, object, Members, no_members, member, put}
+use Rattle.schemars_schema.specs.Json.{Text}
 use Rattle.schemars_schema.specs.SchemaData.{members_in}
+
+-- what is made of each definition
+abbrev pub each_made : (Data → Data) → Members → Members
+each_made made no_members = no_members
+each_made made (member k d ms) = member k (made d) (each_made made ms)
+
+-- an object with these definitions at a key, if there are any
+abbrev pub with_defs_at : Text → Members → Data → Data
+with_defs_at key no_members own = own
+with_defs_at key (member k d ms) own = object (put key (object (member k d ms)) (members_in own))
 
 -- an object with these definitions under `$defs`, if there are any
 abbrev pub with_defs : Members → Data → Data
-with_defs no_members own = own
-with_defs (member k d ms) own = object (put (codes "$defs") (object (member k d ms)) (members_in own))
+with_defs ms own = with_defs_at (codes "$defs") ms own

@@ -1,39 +1,71 @@
-//! The text of an object that definitions are put into.
-ghost use Rattle.std.specs.Prelude.{◌≡◌, ◌++◌, ◌∷◌, false, codes, string_bytes, IfOk, OnOk};
+//! The text of definitions, and that of an object that they are put into.
+ghost use Rattle.std.specs.Prelude.{◌≡◌, ◌++◌, ◌∷◌, true, false, string_bytes, IfOk, OnOk};
 ghost use Rattle.json.specs.Print.{quoted};
 ghost use Rattle.serde_json.specs.Data.{object, put};
 ghost use Rattle.serde_json.specs.Written.{comma_if, has_float, members_have_float};
-ghost use Rattle.schemars_text.specs.OrderedText.{NamedSchemas, ordered_text, texts, with_commas, member_texts};
+ghost use Rattle.schemars_text.specs.OrderedText.{NamedSchemas, ordered_text, definitions_text, texts, with_commas, member_texts, is_listed};
 ghost use Rattle.schemars_schema.specs.SchemaData.{members_in};
-ghost use Rattle.schemars_definitions.specs.Joined.{HasNoDefinitions, has_members};
+ghost use Rattle.schemars_definitions.specs.Joined.{HasNoDefinitions, definition_keys, has_members};
 ghost use Rattle.schemars_definitions.specs.Kept.{IsOrdered, AreOrdered, definition_in, definitions_in};
+ghost use Rattle.schemars_definitions.specs.Keys.{HasKeysOnce};
+ghost use Rattle.schemars_definitions.specs.Whole.{each_made};
 
-use crate::kept::Kept;
+use crate::change::Change;
+use crate::kept::{Kept, changed_text};
 use schemars_schema::Schema;
 use std::alloc::{AllocError, Global};
 use std::collections::BTreeMap;
 
-// The ordered text of an object with these definitions under `$defs`.
-pub(crate) fn joined(
+// The ordered text of an object with what is made of these definitions at this key.
+pub(crate) fn joined<C: Change>(
     alloc: Global,
     own: &Schema,
+    key: &str,
     definitions: BTreeMap<String, Kept>,
+    change: &mut C,
 ) -> Result<String, AllocError>
     requires apart { HasNoDefinitions own.now }
-    requires ordered { AreOrdered definitions.entries }
+    requires key { is_listed key.now definition_keys ≡ true }
+    requires ordered { AreOrdered C.made definitions.entries }
     ensures { IfOk result (λ s. has_float own.now ≡ false
-        → members_have_float (definitions_in definitions.entries) ≡ false
-        → string_bytes s ≡ ordered_text (object (put (codes "$defs")
-        (object (definitions_in definitions.entries)) (members_in own.now)))) }
+        → members_have_float (each_made C.made (definitions_in definitions.entries)) ≡ false
+        → string_bytes s ≡ ordered_text (object (put key.now
+        (object (each_made C.made (definitions_in definitions.entries))) (members_in own.now)))) }
 {
     let mut out = own.to_ordered_string(alloc)?;
-    // `$defs` comes last, in front of the brace at the end
+    // the definitions come last, in front of the brace at the end
     let _brace = out.pop();
-    out.reserve_exact(room_for(&definitions))?;
+    let marks = ",\"\":{}}".len();
+    out.reserve_exact(
+        room_for(&definitions)
+            .saturating_add(key.len())
+            .saturating_add(marks),
+    )?;
     push_comma_if(&mut out, has_members(own))?;
-    out.push_str("\"$defs\":{")?;
-    push_definitions(&mut out, alloc, definitions)?;
+    schemars_text::push_quoted(&mut out, alloc, key)?;
+    out.push_str(":{")?;
+    push_definitions(&mut out, alloc, definitions, change)?;
     out.push_str("}}")?;
+    Ok(out)
+}
+
+// The text of what is made of these definitions.
+pub(crate) fn definitions_text<C: Change>(
+    alloc: Global,
+    definitions: BTreeMap<String, Kept>,
+    change: &mut C,
+) -> Result<String, AllocError>
+    requires { AreOrdered C.made definitions.entries }
+    ensures text { IfOk result (λ s.
+        members_have_float (each_made C.made (definitions_in definitions.entries)) ≡ false
+        → string_bytes s ≡ definitions_text (each_made C.made (definitions_in definitions.entries))) }
+    ensures once { HasKeysOnce (definitions_in definitions.entries) }
+{
+    let room = room_for(&definitions).saturating_add("{}".len());
+    let mut out = String::with_capacity(alloc, room)?;
+    out.push('{')?;
+    push_definitions(&mut out, alloc, definitions, change)?;
+    out.push('}')?;
     Ok(out)
 }
 
@@ -46,37 +78,47 @@ fn has_members(own: &Schema) -> bool
     }
 }
 
-// How many bytes are added with these definitions, but for those that are not kept as text.
-fn room_for(definitions: &BTreeMap<String, Kept>) -> usize {
-    let mut room = ",\"$defs\":{}}".len();
+// How many bytes these definitions take, but for those that are not kept as text. Their names are
+// different.
+fn room_for(definitions: &BTreeMap<String, Kept>) -> usize
+    ensures { HasKeysOnce (definitions_in definitions.now.entries) }
+{
+    // two quotes, a colon and a comma each
+    let mut room = definitions.len().saturating_mul(4);
     for (name, kept) in definitions {
-        let text_len = match kept {
-            Kept::Text(text) => text.len(),
-            Kept::Begun | Kept::Value(_) => 0,
-        };
         room = room
             .saturating_add(name.len())
-            .saturating_add(text_len)
-            .saturating_add(4);
+            .saturating_add(text_len(kept));
     }
     room
 }
 
-// Adds the definitions, with commas between them.
-fn push_definitions(
+// How long the text is that is written for a definition, if it is kept.
+fn text_len(kept: &Kept) -> usize {
+    match kept {
+        Kept::Text(text) => text.len(),
+        Kept::Changed { after, .. } => after.len(),
+        Kept::Begun | Kept::Value(_) => 0,
+    }
+}
+
+// Adds what is made of the definitions, with commas between them.
+fn push_definitions<C: Change>(
     out: &mut String,
     alloc: Global,
     definitions: BTreeMap<String, Kept>,
+    change: &mut C,
 ) -> Result<(), AllocError>
-    requires { AreOrdered definitions.entries }
-    ensures { OnOk result (members_have_float (definitions_in definitions.entries) ≡ false
+    requires { AreOrdered C.made definitions.entries }
+    ensures { OnOk result
+        (members_have_float (each_made C.made (definitions_in definitions.entries)) ≡ false
         → string_bytes out.new ≡ string_bytes out.old ++ with_commas false
-        (texts (member_texts NamedSchemas (definitions_in definitions.entries)))) }
+        (texts (member_texts NamedSchemas (each_made C.made (definitions_in definitions.entries))))) }
 {
     let mut later = false;
     for (name, kept) in definitions {
         push_comma_if(out, later)?;
-        push_definition(out, alloc, name, kept)?;
+        push_definition(out, alloc, name, kept, change)?;
         later = true;
     }
     Ok(())
@@ -92,35 +134,54 @@ fn push_comma_if(out: &mut String, later: bool) -> Result<(), AllocError>
     Ok(())
 }
 
-// Adds a name and its definition.
-fn push_definition(
+// Adds a name and what is made of its definition.
+fn push_definition<C: Change>(
     out: &mut String,
     alloc: Global,
     name: String,
     kept: Kept,
+    change: &mut C,
 ) -> Result<(), AllocError>
-    requires { IsOrdered kept }
-    ensures { OnOk result (has_float (definition_in kept) ≡ false
+    requires { IsOrdered C.made kept }
+    ensures { OnOk result (has_float (C.made (definition_in kept)) ≡ false
         → string_bytes out.new ≡ string_bytes out.old
-        ++ (quoted (string_bytes name) ++ 58 ∷ ordered_text (definition_in kept))) }
+        ++ (quoted (string_bytes name) ++ 58 ∷ ordered_text (C.made (definition_in kept)))) }
 {
     schemars_text::push_quoted(out, alloc, name.as_str())?;
     out.push(':')?;
-    push_kept(out, alloc, kept)
+    push_kept(out, alloc, kept, change)
 }
 
-// Adds a definition: a text as it is.
-fn push_kept(out: &mut String, alloc: Global, kept: Kept) -> Result<(), AllocError>
-    requires { IsOrdered kept }
-    ensures { OnOk result (has_float (definition_in kept) ≡ false
-        → string_bytes out.new ≡ string_bytes out.old ++ ordered_text (definition_in kept)) }
+// Adds what is made of a definition: a text as it is.
+fn push_kept<C: Change>(
+    out: &mut String,
+    alloc: Global,
+    kept: Kept,
+    change: &mut C,
+) -> Result<(), AllocError>
+    requires { IsOrdered C.made kept }
+    ensures { OnOk result (has_float (C.made (definition_in kept)) ≡ false
+        → string_bytes out.new ≡ string_bytes out.old
+        ++ ordered_text (C.made (definition_in kept))) }
 {
     match kept {
-        Kept::Begun => out.push_str("false"),
         Kept::Text(text) => out.push_str(text.as_str()),
-        Kept::Value(schema) => {
-            let text = schema.to_ordered_string(alloc)?;
-            out.push_str(text.as_str())
-        }
+        Kept::Changed { after, .. } => out.push_str(after.as_str()),
+        Kept::Begun => push_changed(out, alloc, Schema::from(false), change),
+        Kept::Value(schema) => push_changed(out, alloc, schema, change),
     }
+}
+
+// Adds what is made of a schema.
+fn push_changed<C: Change>(
+    out: &mut String,
+    alloc: Global,
+    schema: Schema,
+    change: &mut C,
+) -> Result<(), AllocError>
+    ensures { OnOk result (has_float (C.made schema) ≡ false
+        → string_bytes out.new ≡ string_bytes out.old ++ ordered_text (C.made schema)) }
+{
+    let text = changed_text(alloc, schema, change)?;
+    out.push_str(text.as_str())
 }

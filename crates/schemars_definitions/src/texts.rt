@@ -1,14 +1,15 @@
 //! Definitions as text.
-ghost use Rattle.std.specs.Prelude.{◌≡◌, false, string_bytes, IfOk, IsTrue};
+ghost use Rattle.std.specs.Prelude.{◌≡◌, true, false, string_bytes, IfOk, IsTrue};
 ghost use Rattle.serde_json.specs.Data.{no_members};
-ghost use Rattle.serde_json.specs.Written.{has_float};
-ghost use Rattle.schemars_text.specs.OrderedText.{ordered_text};
-ghost use Rattle.schemars_definitions.specs.Joined.{HasNoDefinitions};
+ghost use Rattle.serde_json.specs.Written.{has_float, members_have_float};
+ghost use Rattle.schemars_text.specs.OrderedText.{ordered_text, definitions_text, is_listed};
+ghost use Rattle.schemars_definitions.specs.Joined.{HasNoDefinitions, definition_keys};
 ghost use Rattle.schemars_definitions.specs.Keys.{HasKeysOnce};
-ghost use Rattle.schemars_definitions.specs.Whole.{with_defs};
+ghost use Rattle.schemars_definitions.specs.Whole.{each_made, with_defs_at};
 
+use crate::change::Change;
 use crate::entries::{insert_new, replace};
-use crate::joined::joined;
+use crate::joined::{definitions_text, joined};
 use crate::kept::Kept;
 use crate::store::Definitions;
 use schemars_schema::Schema;
@@ -16,14 +17,16 @@ use std::alloc::{AllocError, Global};
 use std::collections::BTreeMap;
 use std::marker::Model;
 
-/// Definitions as ordered text, which takes an eighth of the memory of JSON values. A definition
-/// with a number that is no 64-bit whole number is kept as a JSON value.
+/// Definitions as ordered text, which takes an eighth of the memory of JSON values. The text that
+/// is written is that of what a change makes of each definition. A definition with a number that is
+/// no 64-bit whole number is kept as a JSON value.
 #[derive(Drop)]
-pub struct Texts {
+pub struct Texts<C: Change> {
     definitions: BTreeMap<String, Kept>,
+    change: C,
 }
 
-impl Model for Texts {
+impl<C: Change> Model for Texts<C> {
     ghost use Rattle.serde_json.specs.Data.{Members};
     ghost use Rattle.schemars_schema.specs.DataCode.{members_code};
     ghost use Rattle.schemars_definitions.specs.Kept.{definitions_in, AreOrdered};
@@ -34,38 +37,70 @@ impl Model for Texts {
 
     ghost view = { λ t. definitions_in t.definitions.entries };
 
-    ghost invariant = { λ t. AreOrdered t.definitions.entries };
+    ghost invariant = { λ t. AreOrdered C.made t.definitions.entries };
 }
 
-impl Texts {
-    /// Returns no definitions.
-    pub fn new(alloc: Global) -> Texts
+impl<C: Change> Texts<C> {
+    /// Returns no definitions. Each that is added is written as the change makes it.
+    pub fn new(alloc: Global, change: C) -> Texts<C>
         ensures { result ≡ no_members }
     {
         Texts {
             definitions: BTreeMap::new(alloc),
+            change,
         }
-    }
-
-    /// Returns the ordered text of an object with these definitions under `$defs`, if there are
-    /// any.
-    ///
-    /// A number with a fraction or beyond 64 bits has the digits that `serde_json` gives it.
-    pub fn into_text(self, alloc: Global, own: &Schema) -> Result<String, AllocError>
-        requires { HasNoDefinitions own.now }
-        ensures text { IfOk result (λ s. has_float (with_defs self own.now) ≡ false
-            → string_bytes s ≡ ordered_text (with_defs self own.now)) }
-        ensures once { HasKeysOnce self }
-    {
-        let Texts { definitions } = self;
-        if definitions.len() == 0 {
-            return own.to_ordered_string(alloc);
-        }
-        joined(alloc, own, definitions)
     }
 }
 
-impl Definitions for Texts {
+impl<C: Change + Drop> Texts<C> {
+    /// Returns the ordered text of an object with what is made of these definitions at a key,
+    /// `$defs` or `definitions`, if there are any.
+    ///
+    /// A number with a fraction or beyond 64 bits has the digits that `serde_json` gives it.
+    ///
+    /// # Errors
+    ///
+    /// `AllocError` if memory runs out.
+    pub fn into_text(self, alloc: Global, own: &Schema, key: &str) -> Result<String, AllocError>
+        requires apart { HasNoDefinitions own.now }
+        requires key { is_listed key.now definition_keys ≡ true }
+        ensures text { IfOk result (λ s.
+            has_float (with_defs_at key.now (each_made C.made self) own.now) ≡ false
+            → string_bytes s ≡ ordered_text (with_defs_at key.now (each_made C.made self) own.now)) }
+        ensures once { HasKeysOnce self }
+    {
+        let Texts {
+            definitions,
+            mut change,
+        } = self;
+        if definitions.len() == 0 {
+            return own.to_ordered_string(alloc);
+        }
+        joined(alloc, own, key, definitions, &mut change)
+    }
+
+    /// Returns the ordered text of what is made of these definitions, as an object of schemas by
+    /// name.
+    ///
+    /// A number with a fraction or beyond 64 bits has the digits that `serde_json` gives it.
+    ///
+    /// # Errors
+    ///
+    /// `AllocError` if memory runs out.
+    pub fn into_definitions_text(self, alloc: Global) -> Result<String, AllocError>
+        ensures text { IfOk result (λ s. members_have_float (each_made C.made self) ≡ false
+            → string_bytes s ≡ definitions_text (each_made C.made self)) }
+        ensures once { HasKeysOnce self }
+    {
+        let Texts {
+            definitions,
+            mut change,
+        } = self;
+        definitions_text(alloc, definitions, &mut change)
+    }
+}
+
+impl<C: Change> Definitions for Texts<C> {
     ghost kept = { λ ms. ms };
 
     fn contains_key(&self, name: &str) -> bool {
@@ -78,16 +113,19 @@ impl Definitions for Texts {
     }
 
     fn finish(&mut self, alloc: Global, name: &str, schema: Schema) -> Result<(), AllocError> {
-        let kept = Kept::new(alloc, schema)?;
+        let kept = Kept::new(alloc, schema, &mut self.change)?;
         replace(&mut self.definitions, name, kept);
         Ok(())
     }
 
     fn keeps_texts(&self) -> bool {
-        true
+        self.change.changes_nothing()
     }
 
     fn finish_text(&mut self, name: &str, text: String) -> bool {
+        if !self.change.changes_nothing() {
+            return false;
+        }
         replace(&mut self.definitions, name, Kept::Text(text));
         true
     }

@@ -1,1 +1,4 @@
-
+-- Lemmas that several proofs share.
+pub mod Parts
+pub mod Wholes
+pub mod Written

@@ -3,17 +3,20 @@ use Rattle.std.proofs.Common.{◌≡◌, ◌++◌, false, string_bytes}
 use Rattle.serde_json.specs.Written.{members_have_float}
 use Rattle.schemars_text.specs.OrderedText.{with_commas}
 use Rattle.schemars_definitions.specs.Kept.{AreOrdered, definitions_in}
+use Rattle.schemars_definitions.specs.Whole.{each_made}
 use Rattle.schemars_definitions.proofs.JoinedTexts.{definition_texts}
 use Rattle.schemars_definitions.proofs.joined.push_definitions.Given as goal
 
 abbrev pub invariant-loop-name : goal.invariant-loop-name
-invariant-loop-name l =
+invariant-loop-name g l =
+    let made = g.C.Change.made in
     let left = l.name-iterator in
     let all = l.fn.definitions.entries in
     record {
-      ordered : AreOrdered left;
-      floats : members_have_float (definitions_in all) ≡ false → members_have_float (definitions_in left) ≡ false;
-      same : members_have_float (definitions_in all) ≡ false
-          → string_bytes l.out ++ with_commas l.later (definition_texts (definitions_in left))
-          ≡ string_bytes l.fn.out ++ with_commas false (definition_texts (definitions_in all));
+      ordered : AreOrdered made left;
+      floats : members_have_float (each_made made (definitions_in all)) ≡ false
+          → members_have_float (each_made made (definitions_in left)) ≡ false;
+      same : members_have_float (each_made made (definitions_in all)) ≡ false
+          → string_bytes l.out ++ with_commas l.later (definition_texts (each_made made (definitions_in left)))
+          ≡ string_bytes l.fn.out ++ with_commas false (definition_texts (each_made made (definitions_in all)));
     }

@@ -5,7 +5,7 @@ use Rattle.schemars_definitions.proofs.EntryEdits.{has_member-by}
 use Rattle.schemars_definitions.proofs.texts.TextsDefinitions.contains_key.Goals as goal
 
 pub returns : goal.returns
-returns c =
+returns g c =
     let name = c.args.name.now in
     c.contains_key.ensures ∙ has_member-by definition_in name c.self.inside.definitions.entries
     ∙ ap (λ ms. is_some (get_member name ms)) c.self.view_is

@@ -6,11 +6,11 @@ use Rattle.schemars_definitions.proofs.EntryEdits.{without-by, ordered-remove}
 use Rattle.schemars_definitions.proofs.texts.TextsDefinitions.remove.Goals as goal
 
 pub invariant_of-self : goal.invariant_of-self
-invariant_of-self c = subst AreOrdered (sym c.remove.ensures.entries)
-    (ordered-remove (has_name c.args.name.now) c.self.inside.definitions.entries c.self.invariant)
+invariant_of-self g c = subst (AreOrdered g.C.Change.made) (sym c.remove.ensures.entries)
+    (ordered-remove g.C.Change.made (has_name c.args.name.now) c.self.inside.definitions.entries c.self.invariant)
 
 pub returns : goal.returns
-returns c =
+returns g c =
     let name = c.args.name.now in
     ap definitions_in c.remove.ensures.entries ∙ without-by definition_in name c.self.inside.definitions.entries
     ∙ ap (without name) c.self.view_is
