@@ -322,7 +322,7 @@ fn output_of(
     generated(alloc, asked, generator, root)
 }
 
-// What the generator makes for this row: in 2020-12, which has no transforms, a text.
+// What the generator makes for this row: for a draft the text of a root document.
 fn generated(
     alloc: Global,
     asked: Asked,
@@ -336,25 +336,9 @@ fn generated(
     match asked.dialect {
         Dialect::OpenApi3 => definitions_of(alloc, asked, generator, root),
         Dialect::Draft2020_12 => text_of(alloc, asked, generator, root),
-        Dialect::Draft2019_09 => document_of(alloc, asked, generator, root),
-        Dialect::Draft07 => document_of(alloc, asked, generator, root),
+        Dialect::Draft2019_09 => text_of(alloc, asked, generator, root),
+        Dialect::Draft07 => text_of(alloc, asked, generator, root),
     }
-}
-
-// The root document of this row.
-fn document_of(
-    alloc: Global,
-    asked: Asked,
-    generator: SchemaGenerator<NoTransform>,
-    root: TypeNo,
-) -> Result<Output, GenerateError>
-    requires draft { asked.dialect ≢ OpenApi3 }
-    requires fresh { IsFreshFor asked generator root }
-    ensures ok { IfOk result (IsOutputOf asked generator.rows root) }
-    ensures refused { IfErr result (IsRefusal asked generator.rows root) }
-{
-    let document = generator.into_root_schema_for_type(alloc, root)?;
-    Ok(Output::Document(document))
 }
 
 // The text of the root document of this row.

@@ -2,7 +2,7 @@
 use crate::expect::expect;
 use schemars::Schema;
 use schemars::schema::definitions_to_ordered_string;
-use schemars_definitions::{Definitions, Objects, Texts, has_no_definitions};
+use schemars_definitions::{Definitions, Objects, Texts, Unchanged, has_no_definitions};
 use serde_json::Value;
 use std::alloc::Global;
 use std::process::Abort;
@@ -16,15 +16,8 @@ const FINISHED: [(&str, &str); 4] = [
     ("c", "true"),
 ];
 
-const OWN: &str = r#"{"type":"object","title":"W"}"#;
-
-const OWN_TEXT: &str = r#"{"title":"W","type":"object"}"#;
-
 const DEFINITIONS: &str =
     r#"{"a\"":{"x-part":0.5},"b":{"title":"B","type":"string"},"begun":false,"c":true}"#;
-
-const WHOLE: &str =
-    r#"{"title":"W","type":"object","$defs":{"a\"":{"x-part":0.5},"b":{"title":"B","type":"string"},"begun":false,"c":true}}"#;
 
 // Documents, and whether each is an object without definitions.
 const APART: [(&str, bool); 5] = [
@@ -69,16 +62,12 @@ fn definitions_are_kept_as_values(rt: HostRuntime) -> Result<(), Fail> {
 #[test]
 fn definitions_are_kept_as_text(rt: HostRuntime) -> Result<(), Fail> {
     let alloc = rt.alloc();
-    let own = schema_of(alloc, OWN)?;
-    if !has_no_definitions(&own) {
-        return Err("definitions of its own".into());
-    }
-    let mut store = Texts::new(alloc);
+    let mut store = Texts::new(alloc, Unchanged);
+    expect(store.is_empty(), "a new store")?;
     add_all(alloc, &mut store)?;
-    let text = store.into_text(alloc, &own)?;
-    assert_eq!(rt; text.as_str(), WHOLE);
-    let alone = Texts::new(alloc).into_text(alloc, &own)?;
-    assert_eq!(rt; alone.as_str(), OWN_TEXT);
+    expect(!store.is_empty(), "a store with definitions")?;
+    let text = store.into_definitions_text(alloc)?;
+    assert_eq!(rt; text.as_str(), DEFINITIONS);
     Ok(())
 }
 

@@ -17,12 +17,12 @@ mod expect;
 #[cfg(test)]
 mod inputs;
 #[cfg(test)]
-mod large;
-#[cfg(test)]
 mod names;
 #[cfg(test)]
 mod narrow;
 #[cfg(test)]
 mod streams;
+#[cfg(test)]
+mod texts;
 #[cfg(test)]
 mod writers;
