@@ -1,2 +1,3 @@
 -- The definitions that contracts cite.
+pub mod Answer
 pub mod Assembled
