@@ -16,11 +16,11 @@ use std::collections::BTreeMap;
 // The schema with these answers in the places of the rows. The answers for what follows are left.
 #[cycle(assemble)]
 #[tactic(auto, using(schemars_documents::proofs::Templates::seen_object))]
-pub(crate) fn assemble_schema<'t>(
+pub(crate) fn assemble_schema<'a>(
     alloc: Global,
-    template: &'t SchemaTemplate<'t>,
-    answers: &mut &'t [Answer],
-) -> Result<Assembled<'t>, Stop>
+    template: &'a SchemaTemplate<'_>,
+    answers: &mut &'a [Answer],
+) -> Result<Assembled<'a>, Stop>
     ensures value { IfOk result (λ p. assembled_view p
         ≡ filled (template_view template.now) answers.old.now) }
     ensures left { OnOk result (answers.new.now
@@ -36,11 +36,11 @@ pub(crate) fn assemble_schema<'t>(
         }
         SchemaTemplate::Noted(notes, inner) => {
             let schema = assemble_schema(alloc, inner, answers)?;
-            annotate(alloc, schema, notes)
+            annotate(alloc, schema, &**notes)
         }
         SchemaTemplate::Titled(title, inner) => {
             let schema = assemble_schema(alloc, inner, answers)?;
-            titled(alloc, schema, title)
+            titled(alloc, schema, &**title)
         }
         SchemaTemplate::WithMembers(_, _) => Err(Stop::NotCovered),
         SchemaTemplate::Tagged { .. } => Err(Stop::NotCovered),
@@ -48,11 +48,11 @@ pub(crate) fn assemble_schema<'t>(
 }
 
 #[cycle(assemble)]
-fn assemble_object<'t>(
+fn assemble_object<'a>(
     alloc: Global,
-    keywords: &'t Vec<(&'t str, ValueTemplate<'t>)>,
-    answers: &mut &'t [Answer],
-) -> Result<Assembled<'t>, Stop>
+    keywords: &'a Vec<(&str, ValueTemplate<'_>)>,
+    answers: &mut &'a [Answer],
+) -> Result<Assembled<'a>, Stop>
     ensures value { IfOk result (λ p. assembled_view p
         ≡ filled (object_with (map keyword_view keywords.now.items)) answers.old.now) }
     ensures left { OnOk result (answers.new.now
@@ -61,18 +61,18 @@ fn assemble_object<'t>(
     let mut members = BTreeMap::new(alloc);
     for keyword in keywords {
         let part = assemble_value(alloc, &keyword.1, answers)?;
-        put_part(&mut members, keyword.0, part)?;
+        put_part(&mut members, &*keyword.0, part)?;
     }
     Ok(Assembled::Object(members))
 }
 
 #[cycle(assemble)]
 #[tactic(auto, using(schemars_documents::proofs::Templates::seen_named))]
-fn assemble_value<'t>(
+fn assemble_value<'a>(
     alloc: Global,
-    template: &'t ValueTemplate<'t>,
-    answers: &mut &'t [Answer],
-) -> Result<Assembled<'t>, Stop>
+    template: &'a ValueTemplate<'_>,
+    answers: &mut &'a [Answer],
+) -> Result<Assembled<'a>, Stop>
     ensures value { IfOk result (λ p. assembled_view p
         ≡ filled (value_view template.now) answers.old.now) }
     ensures left { OnOk result (answers.new.now
@@ -87,11 +87,11 @@ fn assemble_value<'t>(
 }
 
 #[cycle(assemble)]
-fn assemble_schemas<'t>(
+fn assemble_schemas<'a>(
     alloc: Global,
-    schemas: &'t Vec<SchemaTemplate<'t>>,
-    answers: &mut &'t [Answer],
-) -> Result<Assembled<'t>, Stop>
+    schemas: &'a Vec<SchemaTemplate<'_>>,
+    answers: &mut &'a [Answer],
+) -> Result<Assembled<'a>, Stop>
     ensures value { IfOk result (λ p. assembled_view p ≡ filled (list (templates_of
         (map template_view schemas.now.items))) answers.old.now) }
     ensures left { OnOk result (answers.new.now ≡ left (list (templates_of
@@ -106,11 +106,11 @@ fn assemble_schemas<'t>(
 }
 
 #[cycle(assemble)]
-fn assemble_named<'t>(
+fn assemble_named<'a>(
     alloc: Global,
-    schemas: &'t Vec<(&'t str, SchemaTemplate<'t>)>,
-    answers: &mut &'t [Answer],
-) -> Result<Assembled<'t>, Stop>
+    schemas: &'a Vec<(&str, SchemaTemplate<'_>)>,
+    answers: &mut &'a [Answer],
+) -> Result<Assembled<'a>, Stop>
     ensures value { IfOk result (λ p. assembled_view p
         ≡ filled (object_with (map property_view schemas.now.items)) answers.old.now) }
     ensures left { OnOk result (answers.new.now
@@ -119,12 +119,12 @@ fn assemble_named<'t>(
     let mut members = BTreeMap::new(alloc);
     for named in schemas {
         let part = assemble_schema(alloc, &named.1, answers)?;
-        put_part(&mut members, named.0, part)?;
+        put_part(&mut members, &*named.0, part)?;
     }
     Ok(Assembled::Object(members))
 }
 
-fn next_answer<'t>(answers: &mut &'t [Answer]) -> Result<Assembled<'t>, Stop>
+fn next_answer<'a>(answers: &mut &'a [Answer]) -> Result<Assembled<'a>, Stop>
     ensures value { IfOk result (λ p. assembled_view p ≡ first answers.old.now) }
     ensures left { OnOk result (answers.new.now ≡ behind answers.old.now) }
 {
