@@ -1,12 +1,12 @@
 -- The members that values by name stand for, where one is looked up, added, replaced or removed.
-use Rattle.std.proofs.Common.{◌≡◌, Bool, true, false, cond, List, [], ◌∷◌, String, Global, string_bytes, string_cmp, Option, Some, None, option_map, is_some, Ordering, Less, Equal, Greater, nat_cmp, is_eq, refl, sym, ap, ◌∙◌}
+use Rattle.std.proofs.Common.{◌≡◌, Bool, true, false, cond, List, [], ◌∷◌, String, Global, string_bytes, string_cmp, Option, Some, None, option_map, is_some, Ordering, Less, Equal, Greater, nat_cmp, is_eq, refl, sym, ap, ◌∙◌, length, arith}
 use Rattle.std.proofs.lemmas.Map.Text.{is_eq-slice_cmp}
-use Rattle.std.specs.Prelude.{bytes_eq, if◌then◌else◌}
+use Rattle.std.specs.Prelude.{bytes_eq, if◌then◌else◌, IsTrue, ◌↔◌}
 use Rattle.std.specs.BTreeMap.{insert_entry}
 use Rattle.std.specs.Cmp.Lexicographic.{slice_cmp}
 use Rattle.std.specs.Map.{lookup, remove_entry, set_value}
 use Rattle.std.specs.Ordering.{match_ordering}
-use Rattle.serde_json.specs.Data.{Data, put}
+use Rattle.serde_json.specs.Data.{Data, no_members, put}
 use Rattle.serde_json.specs.Find.{get_member}
 use Rattle.schemars_schema.specs.Json.{Text}
 use Rattle.schemars_schema.specs.Edits.{replaced, without}
@@ -35,6 +35,18 @@ module _ {X : Type 0} (data_of : X → Data) where
       → option_map data_of (lookup (has_name name) es) ≡ get_member name (members_by data_of es)
   lookup-by name [] = refl
   lookup-by name (e ∷ es) = found_or (slice_cmp nat_cmp name (string_bytes e.0)) e.1 _ _ (lookup-by name es)
+
+  none-by : (es : List (String Global × X)) → length es ≡ 0 → members_by data_of es ≡ no_members
+  none-by [] none = refl
+  none-by (e ∷ es) none = absurd (omega (arith, none))
+
+  none_of-by : (es : List (String Global × X)) → members_by data_of es ≡ no_members → length es ≡ 0
+  none_of-by [] none = refl
+  none_of-by (e ∷ es) none = cc
+
+  -- there are no members just where there are no entries
+  pub is_none-by : (es : List (String Global × X)) (b : Bool) → IsTrue b ↔ (length es ≡ 0) → IsTrue b ↔ (members_by data_of es ≡ no_members)
+  is_none-by es b h = (λ yes. none-by es (h.0 yes), λ none. h.1 (none_of-by es none))
 
   is_some-by : (o : Option X) → is_some (option_map data_of o) ≡ is_some o
   is_some-by None = refl

@@ -1,26 +1,42 @@
 -- A number that is not whole in an object with its definitions.
-use Rattle.std.proofs.Common.{◌≡◌, ◌||◌, false, Some, None, Ordering, Less, Equal, Greater, nat_cmp, ap, ◌∙◌}
-use Rattle.std.specs.Cmp.Lexicographic.{slice_cmp}
-use Rattle.std.specs.Ordering.{match_ordering}
+use Rattle.std.proofs.Common.{◌≡◌, ◌||◌, Bool, true, false, Some, refl, sym, ap, ◌∙◌}
+use Rattle.std.specs.Prelude.{bytes_eq, if◌then◌else◌}
 use Rattle.std.proofs.lemmas.Bool.{or_parts}
-use Rattle.serde_json.specs.Data.{Data, Members, no_members, member, put}
-use Rattle.serde_json.specs.Find.{get_member}
+use Rattle.serde_json.specs.Data.{Data, null, boolean, number, string, array, object, Members, no_members, member}
+use Rattle.serde_json.specs.Find.{get, get_member}
 use Rattle.serde_json.specs.Written.{has_float, members_have_float}
+use Rattle.schemars_text.proofs.Members.{get_member-member}
 use Rattle.schemars_schema.specs.Json.{Text}
+use Rattle.schemars_schema.specs.Edits.{replaced}
+use Rattle.schemars_definitions.specs.Whole.{with_names}
 
--- what is put at a new key, and what was there, have none
-pub put_whole : (k : Text) (d : Data) (ms : Members) → get_member k ms ≡ None → members_have_float (put k d ms) ≡ false
-    → (has_float d ≡ false) × (members_have_float ms ≡ false)
-put_whole k d no_members new none = or_parts (has_float d) false none
-put_whole k d (member l e ms) new none = go (slice_cmp nat_cmp k l) new none (put_whole k d ms)
+-- what is put in the place of a value without one, and what was there, have none
+replaced_whole : (k : Text) (d e : Data) (ms : Members) → get_member k ms ≡ Some e → has_float e ≡ false
+    → members_have_float (replaced k d ms) ≡ false → (has_float d ≡ false) × (members_have_float ms ≡ false)
+replaced_whole k d e no_members here whole none = cc
+replaced_whole k d e (member l f ms) here whole none =
+    go (bytes_eq k l) (sym (get_member-member k l f ms) ∙ here) none (replaced_whole k d e ms)
   where
-    go : (o : Ordering) → match_ordering o (get_member k ms) (Some e) (get_member k ms) ≡ None
-        → members_have_float (match_ordering o (member k d (member l e ms)) (member l d ms) (member l e (put k d ms))) ≡ false
-        → (get_member k ms ≡ None → members_have_float (put k d ms) ≡ false → (has_float d ≡ false) × (members_have_float ms ≡ false))
-        → (has_float d ≡ false) × (has_float e || members_have_float ms ≡ false)
-    go Less new none later = or_parts (has_float d) (has_float e || members_have_float ms) none
-    go Equal new none later = cc
-    go Greater new none later =
-        let parts = or_parts (has_float e) (members_have_float (put k d ms)) none in
-        let rest = later new parts.1 in
+    go : (b : Bool) → (if b then Some f else get_member k ms) ≡ Some e
+        → members_have_float (if b then member l d ms else member l f (replaced k d ms)) ≡ false
+        → (get_member k ms ≡ Some e → has_float e ≡ false → members_have_float (replaced k d ms) ≡ false
+        → (has_float d ≡ false) × (members_have_float ms ≡ false))
+        → (has_float d ≡ false) × (has_float f || members_have_float ms ≡ false)
+    go true here none later =
+        let parts = or_parts (has_float d) (members_have_float ms) none in
+        let same : f ≡ e = cc here in
+        (parts.0, ap (λ x. has_float x || members_have_float ms) same ∙ (ap (λ b. b || members_have_float ms) whole ∙ parts.1))
+    go false here none later =
+        let parts = or_parts (has_float f) (members_have_float (replaced k d ms)) none in
+        let rest = later here whole parts.1 in
         (rest.0, ap (λ b. b || members_have_float ms) parts.0 ∙ rest.1)
+
+-- definitions in the place of an empty object, and what that was in, have none
+pub place_whole : (key : Text) (defs : Members) (own : Data) → get key own ≡ Some (object no_members)
+    → has_float (with_names key defs own) ≡ false → (members_have_float defs ≡ false) × (has_float own ≡ false)
+place_whole key defs (object ms) empty none = replaced_whole key (object defs) (object no_members) ms empty refl none
+place_whole key defs null empty none = cc
+place_whole key defs (boolean b) empty none = cc
+place_whole key defs (number n) empty none = cc
+place_whole key defs (string s) empty none = cc
+place_whole key defs (array ds) empty none = cc

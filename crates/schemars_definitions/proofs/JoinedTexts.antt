@@ -1,62 +1,58 @@
--- The text of an object that definitions are put into: that of the object, and of one more member at its end.
-use Rattle.std.proofs.Common.{◌≡◌, ◌<◌, ◌-◌, ℕ, List, [], ◌∷◌, ◌++◌, length, get_or, take, Bool, true, false, not, ◌||◌, Option, Some, None, Ordering, Less, Equal, Greater, nat_cmp, refl, sym, ap, ◌∙◌, subst, append_assoc, append-nil, length-append, arith}
+-- The text of an object with a place for definitions: that of what is in front of it, the definitions, and two braces.
+use Rattle.std.proofs.Common.{◌≡◌, ◌<◌, ◌-◌, ℕ, List, [], ◌∷◌, ◌++◌, length, get_or, take, Bool, true, false, ◌||◌, Option, Some, None, refl, sym, ap, ◌∙◌, subst, append_assoc, append-nil, length-append, arith}
 use Rattle.std.proofs.Math.Seq.{get_or-append_seam, take-append_seam}
 use Rattle.std.proofs.lemmas.Bool.{or_parts}
-use Rattle.std.proofs.lemmas.Map.Lookups.{exact_bytes}
 use Rattle.std.proofs.lemmas.Slice.Eq.{bytes_eq-Decides}
-use Rattle.std.specs.Prelude.{bytes_eq, codes, IsTrue, ◌↔◌}
-use Rattle.std.specs.Ordering.{match_ordering}
-use Rattle.std.specs.Cmp.Lexicographic.{slice_cmp}
+use Rattle.std.specs.Prelude.{bytes_eq, codes, if◌then◌else◌}
 use Rattle.json.specs.Print.{quoted}
-use Rattle.serde_json.specs.Data.{Data, object, Members, no_members, member, put}
+use Rattle.serde_json.specs.Data.{Data, null, boolean, number, string, array, object, Members, no_members, member}
 use Rattle.serde_json.specs.Find.{get_member}
 use Rattle.serde_json.specs.Written.{comma_if}
-use Rattle.serde_json.specs.View.{members_view}
-use Rattle.serde_json.proofs.Views.{Entry, get_member-put, get_member-put_other}
 use Rattle.schemars_text.specs.Text.{Text}
 use Rattle.schemars_text.specs.OrderedText.{SchemaLayout, NamedSchemas, Written, written_at, each_written_at, others, arranged, texts, with_commas, text_in, member_texts, ordered_text, definitions_text, is_listed, layout_under, first_keywords, last_keywords}
-use Rattle.schemars_text.proofs.Members.{differ, flipped, bytes_eq_comm}
+use Rattle.schemars_text.proofs.Members.{flipped}
 use Rattle.schemars_text.proofs.OrderedTexts.{written_member, written_at-found, written_at-missing}
-use Rattle.schemars_schema.specs.SchemaData.{members_in}
-use Rattle.schemars_definitions.specs.Joined.{HasNoDefinitions, definition_keys, is_any, has_members}
+use Rattle.schemars_schema.specs.Edits.{replaced}
+use Rattle.schemars_schema.proofs.Members.{get_member-replaced, get_member-replaced_other}
+use Rattle.schemars_definitions.specs.Joined.{HasPlaceAt, definition_keys}
+use Rattle.schemars_definitions.specs.Whole.{with_names}
 
 abbrev written : Members → List Written
 written ms = member_texts SchemaLayout ms
 
--- ---- where a member that is put in is written
+-- ---- what is written where a member is replaced
 
-written_at-put_other : (j k : Text) (d : Data) (ms : Members) → bytes_eq j k ≡ false
-    → written_at j (written (put k d ms)) ≡ written_at j (written ms)
-written_at-put_other j k d ms apart = go (get_member j ms) refl
+written_at-replaced_other : (j k : Text) (d : Data) (ms : Members) → bytes_eq j k ≡ false
+    → written_at j (written (replaced k d ms)) ≡ written_at j (written ms)
+written_at-replaced_other j k d ms apart = go (get_member j ms) refl
   where
-    same : get_member j (put k d ms) ≡ get_member j ms
-    same = get_member-put_other j k d ms (differ j k apart)
+    same : get_member j (replaced k d ms) ≡ get_member j ms
+    same = get_member-replaced_other j k d ms apart
 
-    go : (o : Option Data) → get_member j ms ≡ o → written_at j (written (put k d ms)) ≡ written_at j (written ms)
-    go None is = written_at-missing j (put k d ms) (same ∙ is) ∙ sym (written_at-missing j ms is)
-    go (Some e) is = written_at-found j e (put k d ms) (same ∙ is) ∙ sym (written_at-found j e ms is)
+    go : (o : Option Data) → get_member j ms ≡ o → written_at j (written (replaced k d ms)) ≡ written_at j (written ms)
+    go None is = written_at-missing j (replaced k d ms) (same ∙ is) ∙ sym (written_at-missing j ms is)
+    go (Some e) is = written_at-found j e (replaced k d ms) (same ∙ is) ∙ sym (written_at-found j e ms is)
 
-each_written_at-put_other : (ks : List Text) (k : Text) (d : Data) (ms : Members) → is_listed k ks ≡ false
-    → each_written_at ks (written (put k d ms)) ≡ each_written_at ks (written ms)
-each_written_at-put_other [] k d ms apart = refl
-each_written_at-put_other (j ∷ ks) k d ms apart =
+each_written_at-replaced_other : (ks : List Text) (k : Text) (d : Data) (ms : Members) → is_listed k ks ≡ false
+    → each_written_at ks (written (replaced k d ms)) ≡ each_written_at ks (written ms)
+each_written_at-replaced_other [] k d ms apart = refl
+each_written_at-replaced_other (j ∷ ks) k d ms apart =
     let parts = or_parts (bytes_eq k j) (is_listed k ks) apart in
-    rw (written_at-put_other j k d ms (flipped k j parts.0), each_written_at-put_other ks k d ms parts.1)
+    rw (written_at-replaced_other j k d ms (flipped k j parts.0), each_written_at-replaced_other ks k d ms parts.1)
 
 abbrev has_place : Text → Bool
 has_place k = is_listed k first_keywords || is_listed k last_keywords
 
-others-put : (k : Text) (d : Data) (ms : Members) → has_place k ≡ true → others (written (put k d ms)) ≡ others (written ms)
+others-replaced : (k : Text) (d : Data) (ms : Members) → has_place k ≡ true → others (written (replaced k d ms)) ≡ others (written ms)
 unfolding member_texts
-others-put k d no_members placed = rw placed
-others-put k d (member l e ms) placed = go (slice_cmp nat_cmp k l) refl (others-put k d ms placed)
+others-replaced k d no_members placed = refl
+others-replaced k d (member l e ms) placed = go (bytes_eq k l) refl (others-replaced k d ms placed)
   where
-    go : (o : Ordering) → slice_cmp nat_cmp k l ≡ o → others (written (put k d ms)) ≡ others (written ms)
-        → others (written (match_ordering o (member k d (member l e ms)) (member l d ms) (member l e (put k d ms))))
-        ≡ others (written (member l e ms))
-    go Less is later = rw placed
-    go Equal is later = let there : has_place l ≡ true = ap has_place (sym (exact_bytes k l is)) ∙ placed in rw there
-    go Greater is later = rw later
+    go : (b : Bool) → bytes_eq k l ≡ b → others (written (replaced k d ms)) ≡ others (written ms)
+        → others (written (if b then member l d ms else member l e (replaced k d ms))) ≡ others (written (member l e ms))
+    go true is later =
+        let there : has_place l ≡ true = ap has_place (sym ((bytes_eq-Decides k l).0 is)) ∙ placed in rw there
+    go false is later = rw later
 
 -- what is so at each key of definitions
 at_each_key : (P : Text → Type 0) → P (codes "$defs") → P (codes "definitions") → (k : Text) → is_listed k definition_keys ≡ true → P k
@@ -70,103 +66,46 @@ at_each_key P defs old k listed = go (bytes_eq k (codes "$defs")) refl (bytes_eq
 layout_at : (k : Text) → is_listed k definition_keys ≡ true → layout_under SchemaLayout k ≡ NamedSchemas
 layout_at = at_each_key (λ k. layout_under SchemaLayout k ≡ NamedSchemas) refl refl
 
-pub none_at : (ms : Members) → HasNoDefinitions (object ms) → (k : Text) → is_listed k definition_keys ≡ true → get_member k ms ≡ None
-none_at ms apart = at_each_key (λ k. get_member k ms ≡ None) apart.0 apart.1
+-- what is written in front of definitions
+abbrev in_front : Members → List Written
+in_front ms = each_written_at first_keywords (written ms) ++ others (written ms)
 
--- definitions that are put in are the last member
+in_front-replaced : (k : Text) (d : Data) (ms : Members) → is_listed k definition_keys ≡ true → in_front (replaced k d ms) ≡ in_front ms
+in_front-replaced k d ms listed = rw (
+  each_written_at-replaced_other first_keywords k d ms (at_each_key (λ j. is_listed j first_keywords ≡ false) refl refl k listed),
+  others-replaced k d ms (at_each_key (λ j. has_place j ≡ true) refl refl k listed),
+) refl
+
+-- no other key of definitions has a member
+abbrev IsAlone : Text → Members → Type 0
+IsAlone k ms = (j : Text) → is_listed j definition_keys ≡ true → bytes_eq j k ≡ false → get_member j ms ≡ None
+
+-- definitions are the last member
 abbrev IsLast : Data → Members → Text → Type 0
-IsLast d ms k = arranged SchemaLayout (written (put k d ms)) ≡ arranged SchemaLayout (written ms) ++ written_member k d ∷ []
+IsLast d ms k = get_member k ms ≡ Some d → IsAlone k ms → arranged SchemaLayout (written ms) ≡ in_front ms ++ written_member k d ∷ []
 
-defs-last : (d : Data) (ms : Members) → HasNoDefinitions (object ms) → IsLast d ms (codes "$defs")
-defs-last d ms apart =
+defs-last : (d : Data) (ms : Members) → IsLast d ms (codes "$defs")
+defs-last d ms here alone =
     let k = codes "$defs" in
     let first = each_written_at first_keywords (written ms) in
-    rw (
-      each_written_at-put_other first_keywords k d ms refl,
-      others-put k d ms refl,
-      written_at-found k d (put k d ms) (get_member-put k d ms),
-      written_at-put_other (codes "definitions") k d ms refl,
-      written_at-missing (codes "definitions") ms apart.1,
-      written_at-missing k ms apart.0,
-      append-nil (others (written ms)),
-    ) (sym (append_assoc first (others (written ms)) (written_member k d ∷ [])))
+    rw (written_at-found k d ms here, written_at-missing (codes "definitions") ms (alone (codes "definitions") refl refl))
+    (sym (append_assoc first (others (written ms)) (written_member k d ∷ [])))
 
-definitions-last : (d : Data) (ms : Members) → HasNoDefinitions (object ms) → IsLast d ms (codes "definitions")
-definitions-last d ms apart =
+definitions-last : (d : Data) (ms : Members) → IsLast d ms (codes "definitions")
+definitions-last d ms here alone =
     let k = codes "definitions" in
     let first = each_written_at first_keywords (written ms) in
-    rw (
-      each_written_at-put_other first_keywords k d ms refl,
-      others-put k d ms refl,
-      written_at-found k d (put k d ms) (get_member-put k d ms),
-      written_at-put_other (codes "$defs") k d ms refl,
-      written_at-missing (codes "$defs") ms apart.0,
-      written_at-missing k ms apart.1,
-      append-nil (others (written ms)),
-    ) (sym (append_assoc first (others (written ms)) (written_member k d ∷ [])))
+    rw (written_at-found k d ms here, written_at-missing (codes "$defs") ms (alone (codes "$defs") refl refl))
+    (sym (append_assoc first (others (written ms)) (written_member k d ∷ [])))
 
-arranged-put : (k : Text) (d : Data) (ms : Members) → is_listed k definition_keys ≡ true → HasNoDefinitions (object ms) → IsLast d ms k
-arranged-put k d ms listed apart = at_each_key (IsLast d ms) (defs-last d ms apart) (definitions-last d ms apart) k listed
+arranged-last : (k : Text) (d : Data) (ms : Members) → is_listed k definition_keys ≡ true → IsLast d ms k
+arranged-last k d ms listed = at_each_key (IsLast d ms) (defs-last d ms) (definitions-last d ms) k listed
 
--- ---- whether there are members
+-- ---- text
 
 abbrev is_more : {A : Type 0} → List A → Bool
 is_more [] = false
 is_more (x ∷ xs) = true
-
-is_more-append : {A : Type 0} (xs ys : List A) → is_more (xs ++ ys) ≡ (is_more xs || is_more ys)
-is_more-append [] ys = refl
-is_more-append (x ∷ xs) ys = refl
-
-is_more-texts : (ws : List Written) → is_more (texts ws) ≡ is_more ws
-is_more-texts [] = refl
-is_more-texts (w ∷ ws) = refl
-
-or_true : (b : Bool) → b || true ≡ true
-or_true true = refl
-or_true false = refl
-
-is_more-listed : (ks : List Text) (w : Written) (ws : List Written) → is_listed w.key ks ≡ true
-    → is_more (each_written_at ks (w ∷ ws)) ≡ true
-is_more-listed [] w ws h = cc
-is_more-listed (k ∷ ks) w ws h = go (bytes_eq w.key k) refl h (is_more-listed ks w ws)
-  where
-    go : (b : Bool) → bytes_eq w.key k ≡ b → b || is_listed w.key ks ≡ true
-        → (is_listed w.key ks ≡ true → is_more (each_written_at ks (w ∷ ws)) ≡ true)
-        → is_more (written_at k (w ∷ ws) ++ each_written_at ks (w ∷ ws)) ≡ true
-    go true is h later = let same : bytes_eq k w.key ≡ true = bytes_eq_comm k w.key ∙ is in rw same
-    go false is h later =
-        is_more-append (written_at k (w ∷ ws)) (each_written_at ks (w ∷ ws))
-        ∙ (ap (λ b. is_more (written_at k (w ∷ ws)) || b) (later h) ∙ or_true (is_more (written_at k (w ∷ ws))))
-
-is_more-arranged : (w : Written) (ws : List Written) → is_more (arranged SchemaLayout (w ∷ ws)) ≡ true
-is_more-arranged w ws =
-    is_more-append first (middle ++ last)
-    ∙ (ap (λ b. is_more first || b) (is_more-append middle last)
-    ∙ go (is_listed w.key first_keywords) refl (is_listed w.key last_keywords) refl)
-  where
-    first : List Written
-    first = each_written_at first_keywords (w ∷ ws)
-
-    middle : List Written
-    middle = others (w ∷ ws)
-
-    last : List Written
-    last = each_written_at last_keywords (w ∷ ws)
-
-    go : (b : Bool) → is_listed w.key first_keywords ≡ b → (c : Bool) → is_listed w.key last_keywords ≡ c
-        → is_more first || (is_more middle || is_more last) ≡ true
-    go true is c at = rw (is_more-listed first_keywords w ws is)
-    go false is true at = rw (is_more-listed last_keywords w ws at, or_true (is_more middle)) (or_true (is_more first))
-    go false is false at = rw (is, at) (or_true (is_more first))
-
-is_more-members : (ms : Members) → is_more (texts (arranged SchemaLayout (written ms))) ≡ is_any ms
-unfolding member_texts
-is_more-members no_members = refl
-is_more-members (member k d ms) =
-    is_more-texts (arranged SchemaLayout (written_member k d ∷ written ms)) ∙ is_more-arranged (written_member k d) (written ms)
-
--- ---- text
 
 with_commas-last : (later : Bool) (ts : List Text) (t : Text)
     → with_commas later (ts ++ t ∷ []) ≡ with_commas later ts ++ (comma_if (later || is_more ts) ++ t)
@@ -178,13 +117,6 @@ with_commas-last false (u ∷ us) t = rw (with_commas-last true us t) (sym (appe
 texts-last : (ws : List Written) (w : Written) → texts (ws ++ w ∷ []) ≡ texts ws ++ w.text ∷ []
 texts-last [] w = refl
 texts-last (v ∷ vs) w = ap (λ ts. v.text ∷ ts) (texts-last vs w)
-
--- whether a map of entries has members
-pub none_or_any : (es : List Entry) (is_empty : Bool) → IsTrue is_empty ↔ (length es ≡ 0) → not is_empty ≡ is_any (members_view es)
-none_or_any [] true h = refl
-none_or_any [] false h = cc (h.1 refl)
-none_or_any (e ∷ es) true h = absurd (omega (arith, h.0 refl))
-none_or_any (e ∷ es) false h = refl
 
 -- the texts of definitions
 abbrev pub definition_texts : Members → List Text
@@ -204,44 +136,75 @@ pub no_more : (out : Text) (later : Bool) → out ++ with_commas later (definiti
 unfolding member_texts
 no_more out later = append-nil out
 
-regroup : (own comma key texts : Text) → ((((own ++ comma) ++ key) ++ (58 ∷ 123 ∷ [])) ++ texts) ++ (125 ∷ 125 ∷ [])
-    ≡ (own ++ (comma ++ (key ++ 58 ∷ 123 ∷ (texts ++ 125 ∷ [])))) ++ 125 ∷ []
-regroup own comma key texts = simp append_assoc
+-- a text without its last byte, where that is ASCII
+abbrev IsCut : Text → ℕ → Text → Type 0
+IsCut start n front = 0 < n → get_or start (n - 1) 0 < 128 → front ≡ take (n - 1) start
 
 -- the brace at the end is taken off
-cut_last : (xs start front : Text) (x n : ℕ) → x < 128 → start ≡ xs ++ x ∷ [] → n ≡ length start
-    → (0 < n → get_or start (n - 1) 0 < 128 → front ≡ take (n - 1) start) → front ≡ xs
+cut_last : (xs start front : Text) (x n : ℕ) → x < 128 → start ≡ xs ++ x ∷ [] → n ≡ length start → IsCut start n front → front ≡ xs
 cut_last xs start front x n ascii is len cut =
     let at : n - 1 ≡ length xs = omega (arith, ap length is, length-append xs (x ∷ [])) in
     let last : get_or start (n - 1) 0 ≡ x = rw (at, is) (get_or-append_seam xs x [] 0) in
     cut (omega (arith, ap length is, length-append xs (x ∷ []))) (rw last ascii) ∙ rw (at, is) (take-append_seam xs (x ∷ []))
 
-in_parts : (key : Text) (ms defs : Members) → is_listed key definition_keys ≡ true → HasNoDefinitions (object ms)
-    → (((((123 ∷ with_commas false (texts (arranged SchemaLayout (written ms)))) ++ comma_if (is_any ms)) ++ quoted key) ++ codes ":{")
-    ++ with_commas false (definition_texts defs)) ++ codes "}}"
-    ≡ ordered_text (object (put key (object defs) ms))
-unfolding text_in
-in_parts key ms defs listed apart =
-    let own = texts (arranged SchemaLayout (written ms)) in
-    let new = written_member key (object defs) in
-    let text : new.text ≡ quoted key ++ 58 ∷ text_in NamedSchemas (object defs) =
-    ap (λ layout. quoted key ++ 58 ∷ text_in layout (object defs)) (layout_at key listed) in
-    let all : texts (arranged SchemaLayout (written (put key (object defs) ms))) ≡ own ++ new.text ∷ [] =
-    ap texts (arranged-put key (object defs) ms listed apart) ∙ texts-last (arranged SchemaLayout (written ms)) new in
-    rw (all, with_commas-last false own new.text, is_more-members ms, text)
-    (ap (λ x. 123 ∷ x) (regroup (with_commas false own) (comma_if (is_any ms)) (quoted key) (with_commas false (definition_texts defs))))
+-- the text of an object up to the definitions that are its last member
+abbrev start_of : Text → List Text → Text
+start_of key own = 123 ∷ (with_commas false own ++ (comma_if (is_more own) ++ (quoted key ++ 58 ∷ 123 ∷ [])))
 
--- the text of the object without its last byte, and then that of the new member
-pub joined_text : (key : Text) (own : Data) (defs : Members) (start front : Text) (n : ℕ) → is_listed key definition_keys ≡ true
-    → HasNoDefinitions own → start ≡ ordered_text own
-    → n ≡ length start → (0 < n → get_or start (n - 1) 0 < 128 → front ≡ take (n - 1) start)
-    → ((((front ++ comma_if (has_members own)) ++ quoted key) ++ codes ":{") ++ with_commas false (definition_texts defs)) ++ codes "}}"
-    ≡ ordered_text (object (put key (object defs) (members_in own)))
+regroup : (own comma key names : Text) → 123 ∷ ((own ++ (comma ++ (key ++ 58 ∷ 123 ∷ (names ++ 125 ∷ [])))) ++ 125 ∷ [])
+    ≡ ((123 ∷ (own ++ (comma ++ (key ++ 58 ∷ 123 ∷ [])))) ++ names) ++ 125 ∷ 125 ∷ []
+regroup own comma key names = simp append_assoc
+
+-- the text of an object, by what is in front of its definitions
+in_parts : (key : Text) (defs ms : Members) → is_listed key definition_keys ≡ true → get_member key ms ≡ Some (object defs) → IsAlone key ms
+    → ordered_text (object ms) ≡ (start_of key (texts (in_front ms)) ++ with_commas false (definition_texts defs)) ++ codes "}}"
 unfolding text_in
-joined_text key (object ms) defs start front n listed apart is len cut =
-    rw (cut_last (123 ∷ with_commas false (texts (arranged SchemaLayout (written ms)))) start front 125 n (omega arith) is len cut)
-    (in_parts key ms defs listed apart)
-joined_text key _ defs start front n listed apart is len cut = absurd apart
+in_parts key defs ms listed here alone =
+    let own = texts (in_front ms) in
+    let last = written_member key (object defs) in
+    let text : last.text ≡ quoted key ++ 58 ∷ text_in NamedSchemas (object defs) =
+    ap (λ layout. quoted key ++ 58 ∷ text_in layout (object defs)) (layout_at key listed) in
+    let all : texts (arranged SchemaLayout (written ms)) ≡ own ++ last.text ∷ [] =
+    ap texts (arranged-last key (object defs) ms listed here alone) ∙ texts-last (in_front ms) last in
+    rw (all, with_commas-last false own last.text, text)
+    (regroup (with_commas false own) (comma_if (is_more own)) (quoted key) (with_commas false (definition_texts defs)))
+
+-- with an empty object there
+with_place : (key : Text) (ms : Members) → is_listed key definition_keys ≡ true → get_member key ms ≡ Some (object no_members)
+    → IsAlone key ms → ordered_text (object ms) ≡ (start_of key (texts (in_front ms)) ++ 125 ∷ []) ++ 125 ∷ []
+unfolding member_texts
+with_place key ms listed empty alone =
+    let start = start_of key (texts (in_front ms)) in
+    in_parts key no_members ms listed empty alone
+    ∙ (ap (λ t. t ++ 125 ∷ 125 ∷ []) (append-nil start) ∙ sym (append_assoc start (125 ∷ []) (125 ∷ [])))
+
+-- and with definitions in its place
+with_definitions : (key : Text) (defs ms : Members) → is_listed key definition_keys ≡ true → get_member key ms ≡ Some (object no_members)
+    → IsAlone key ms → ordered_text (object (replaced key (object defs) ms))
+    ≡ (start_of key (texts (in_front ms)) ++ with_commas false (definition_texts defs)) ++ codes "}}"
+with_definitions key defs ms listed empty alone =
+    let new = replaced key (object defs) ms in
+    in_parts key defs new listed (get_member-replaced key (object defs) (object no_members) ms empty)
+    (λ j at apart. get_member-replaced_other j key (object defs) ms apart ∙ alone j at apart)
+    ∙ ap (λ ws. (start_of key (texts ws) ++ with_commas false (definition_texts defs)) ++ codes "}}")
+    (in_front-replaced key (object defs) ms listed)
+
+-- the text of an object without the two braces at its end, the definitions, and the braces again
+pub joined_text : (key : Text) (defs : Members) (own : Data) (start cut front : Text) (n m : ℕ) → HasPlaceAt key own
+    → start ≡ ordered_text own → n ≡ length start → IsCut start n cut → m ≡ length cut → IsCut cut m front
+    → (front ++ with_commas false (definition_texts defs)) ++ codes "}}" ≡ ordered_text (with_names key defs own)
+joined_text key defs (object ms) start cut front n m place is len once again_len again =
+    let head = start_of key (texts (in_front ms)) in
+    let first : cut ≡ head ++ 125 ∷ [] =
+    cut_last (head ++ 125 ∷ []) start cut 125 n (omega arith) (is ∙ with_place key ms place.listed place.empty place.alone) len once in
+    let second : front ≡ head = cut_last head cut front 125 m (omega arith) first again_len again in
+    ap (λ t. (t ++ with_commas false (definition_texts defs)) ++ codes "}}") second
+    ∙ sym (with_definitions key defs ms place.listed place.empty place.alone)
+joined_text key defs null start cut front n m place is len once again_len again = cc place.empty
+joined_text key defs (boolean b) start cut front n m place is len once again_len again = cc place.empty
+joined_text key defs (number x) start cut front n m place is len once again_len again = cc place.empty
+joined_text key defs (string s) start cut front n m place is len once again_len again = cc place.empty
+joined_text key defs (array ds) start cut front n m place is len once again_len again = cc place.empty
 
 -- definitions by themselves
 pub braced_text : (defs : Members) (start first front out : Text) → start ≡ [] → first ≡ start ++ 123 ∷ []

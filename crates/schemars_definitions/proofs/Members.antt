@@ -29,6 +29,17 @@ without-put k d (member l e ms) h = go (slice_cmp nat_cmp k l) refl h (without-p
     go Equal is h rest = cc
     go Greater is h rest = let apart : bytes_eq k l ≡ false = sym (is_eq-slice_cmp k l) ∙ ap is_eq is in rw apart (ap (member l e) (rest h))
 
+pub replaced-put : (k : Text) (d e : Data) (ms : Members) → replaced k d (put k e ms) ≡ put k d ms
+replaced-put k d e no_members = rw (own_bytes k) refl
+replaced-put k d e (member l f ms) = go (slice_cmp nat_cmp k l) refl (replaced-put k d e ms)
+  where
+    go : (o : Ordering) → slice_cmp nat_cmp k l ≡ o → replaced k d (put k e ms) ≡ put k d ms
+        → replaced k d (match_ordering o (member k e (member l f ms)) (member l e ms) (member l f (put k e ms)))
+        ≡ match_ordering o (member k d (member l f ms)) (member l d ms) (member l f (put k d ms))
+    go Less is rest = rw (own_bytes k) refl
+    go Equal is rest = let same : bytes_eq k l ≡ true = sym (is_eq-slice_cmp k l) ∙ ap is_eq is in rw same refl
+    go Greater is rest = let apart : bytes_eq k l ≡ false = sym (is_eq-slice_cmp k l) ∙ ap is_eq is in rw apart (ap (member l f) rest)
+
 pub without-replaced : (k : Text) (d : Data) (ms : Members) → without k (replaced k d ms) ≡ without k ms
 without-replaced k d no_members = refl
 without-replaced k d (member l e ms) = go (bytes_eq k l) refl (without-replaced k d ms)

@@ -1,8 +1,9 @@
--- An object that definitions are put into.
-use Rattle.std.specs.Prelude.{◌≡◌, Bool, true, false, List, [], ◌∷◌, None, Some, codes}
-use Rattle.serde_json.specs.Data.{Data, null, boolean, number, string, array, object, Members, no_members, member}
-use Rattle.serde_json.specs.Find.{as_object, get_member}
+-- An object with a place for definitions, or with none.
+use Rattle.std.specs.Prelude.{◌≡◌, true, false, List, [], ◌∷◌, None, Some, bytes_eq, codes}
+use Rattle.serde_json.specs.Data.{Data, null, boolean, number, string, array, object, no_members}
+use Rattle.serde_json.specs.Find.{get, get_member}
 use Rattle.schemars_schema.specs.Json.{Text}
+use Rattle.schemars_text.specs.OrderedText.{is_listed}
 
 -- the keys that definitions are put at
 abbrev pub definition_keys : List Text
@@ -17,10 +18,8 @@ HasNoDefinitions (string s) = ⊥
 HasNoDefinitions (array ds) = ⊥
 HasNoDefinitions (object ms) = (get_member (codes "$defs") ms ≡ None) × (get_member (codes "definitions") ms ≡ None)
 
-abbrev pub is_any : Members → Bool
-is_any no_members = false
-is_any (member k d ms) = true
-
--- an object with members
-abbrev pub has_members : Data → Bool
-has_members d = elim (as_object d) [ None ↦ false | Some ms ↦ is_any ms ]
+-- an object with an empty object at a key of definitions, and nothing at the other one
+pub record HasPlaceAt (key : Text) (d : Data) : Type 0 where
+  pub listed : is_listed key definition_keys ≡ true
+  pub empty : get key d ≡ Some (object no_members)
+  pub alone : (k : Text) → is_listed k definition_keys ≡ true → bytes_eq k key ≡ false → get k d ≡ None

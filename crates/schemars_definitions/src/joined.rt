@@ -1,14 +1,12 @@
-//! The text of definitions, and that of an object that they are put into.
-ghost use Rattle.std.specs.Prelude.{◌≡◌, ◌++◌, ◌∷◌, true, false, string_bytes, IfOk, OnOk};
+//! The text of definitions, and that of an object that has a place for them.
+ghost use Rattle.std.specs.Prelude.{◌≡◌, ◌++◌, ◌∷◌, false, string_bytes, IfOk, OnOk};
 ghost use Rattle.json.specs.Print.{quoted};
-ghost use Rattle.serde_json.specs.Data.{object, put};
 ghost use Rattle.serde_json.specs.Written.{comma_if, has_float, members_have_float};
-ghost use Rattle.schemars_text.specs.OrderedText.{NamedSchemas, ordered_text, definitions_text, texts, with_commas, member_texts, is_listed};
-ghost use Rattle.schemars_schema.specs.SchemaData.{members_in};
-ghost use Rattle.schemars_definitions.specs.Joined.{HasNoDefinitions, definition_keys, has_members};
+ghost use Rattle.schemars_text.specs.OrderedText.{NamedSchemas, ordered_text, definitions_text, texts, with_commas, member_texts};
+ghost use Rattle.schemars_definitions.specs.Joined.{HasPlaceAt};
 ghost use Rattle.schemars_definitions.specs.Kept.{IsOrdered, AreOrdered, definition_in, definitions_in};
 ghost use Rattle.schemars_definitions.specs.Keys.{HasKeysOnce};
-ghost use Rattle.schemars_definitions.specs.Whole.{each_made};
+ghost use Rattle.schemars_definitions.specs.Whole.{each_made, with_names};
 
 use crate::change::Change;
 use crate::kept::{Kept, changed_text};
@@ -16,7 +14,7 @@ use schemars_schema::Schema;
 use std::alloc::{AllocError, Global};
 use std::collections::BTreeMap;
 
-// The ordered text of an object with what is made of these definitions at this key.
+// The ordered text of an object with what is made of these definitions in its place at this key.
 pub(crate) fn joined<C: Change>(
     alloc: Global,
     own: &Schema,
@@ -24,26 +22,20 @@ pub(crate) fn joined<C: Change>(
     definitions: BTreeMap<String, Kept>,
     change: &mut C,
 ) -> Result<String, AllocError>
-    requires apart { HasNoDefinitions own.now }
-    requires key { is_listed key.now definition_keys ≡ true }
+    requires place { HasPlaceAt key.now own.now }
     requires ordered { AreOrdered C.made definitions.entries }
-    ensures { IfOk result (λ s. has_float own.now ≡ false
-        → members_have_float (each_made C.made (definitions_in definitions.entries)) ≡ false
-        → string_bytes s ≡ ordered_text (object (put key.now
-        (object (each_made C.made (definitions_in definitions.entries))) (members_in own.now)))) }
+    ensures text { IfOk result (λ s.
+        has_float (with_names key.now (each_made C.made (definitions_in definitions.entries)) own.now) ≡ false
+        → string_bytes s
+        ≡ ordered_text (with_names key.now (each_made C.made (definitions_in definitions.entries)) own.now)) }
+    ensures once { HasKeysOnce (definitions_in definitions.entries) }
 {
+    let room = room_for(&definitions);
     let mut out = own.to_ordered_string(alloc)?;
-    // the definitions come last, in front of the brace at the end
-    let _brace = out.pop();
-    let marks = ",\"\":{}}".len();
-    out.reserve_exact(
-        room_for(&definitions)
-            .saturating_add(key.len())
-            .saturating_add(marks),
-    )?;
-    push_comma_if(&mut out, has_members(own))?;
-    schemars_text::push_quoted(&mut out, alloc, key)?;
-    out.push_str(":{")?;
+    // the place comes last: the definitions go between its braces
+    let _end_of_object = out.pop();
+    let _end_of_place = out.pop();
+    out.reserve_exact(room.saturating_add("}}".len()))?;
     push_definitions(&mut out, alloc, definitions, change)?;
     out.push_str("}}")?;
     Ok(out)
@@ -67,15 +59,6 @@ pub(crate) fn definitions_text<C: Change>(
     push_definitions(&mut out, alloc, definitions, change)?;
     out.push('}')?;
     Ok(out)
-}
-
-fn has_members(own: &Schema) -> bool
-    ensures { result ≡ has_members own.now }
-{
-    match own.as_object() {
-        Some(members) => !members.is_empty(),
-        None => false,
-    }
 }
 
 // How many bytes these definitions take, but for those that are not kept as text. Their names are

@@ -1,11 +1,11 @@
 //! Definitions as text.
-ghost use Rattle.std.specs.Prelude.{◌≡◌, true, false, string_bytes, IfOk, IsTrue};
+ghost use Rattle.std.specs.Prelude.{◌≡◌, ◌↔◌, false, string_bytes, IfOk, IsTrue};
 ghost use Rattle.serde_json.specs.Data.{no_members};
 ghost use Rattle.serde_json.specs.Written.{has_float, members_have_float};
-ghost use Rattle.schemars_text.specs.OrderedText.{ordered_text, definitions_text, is_listed};
-ghost use Rattle.schemars_definitions.specs.Joined.{HasNoDefinitions, definition_keys};
+ghost use Rattle.schemars_text.specs.OrderedText.{ordered_text, definitions_text};
+ghost use Rattle.schemars_definitions.specs.Joined.{HasNoDefinitions, HasPlaceAt};
 ghost use Rattle.schemars_definitions.specs.Keys.{HasKeysOnce};
-ghost use Rattle.schemars_definitions.specs.Whole.{each_made, with_defs_at};
+ghost use Rattle.schemars_definitions.specs.Whole.{each_made, with_names};
 
 use crate::change::Change;
 use crate::entries::{insert_new, replace};
@@ -50,11 +50,18 @@ impl<C: Change> Texts<C> {
             change,
         }
     }
+
+    /// Returns whether there are no definitions.
+    pub fn is_empty(&self) -> bool
+        ensures { IsTrue result ↔ (self.now ≡ no_members) }
+    {
+        self.definitions.is_empty()
+    }
 }
 
 impl<C: Change + Drop> Texts<C> {
-    /// Returns the ordered text of an object with what is made of these definitions at a key,
-    /// `$defs` or `definitions`, if there are any.
+    /// Returns the ordered text of an object that has an empty object at a key, `$defs` or
+    /// `definitions`, with what is made of these definitions in the place of that.
     ///
     /// A number with a fraction or beyond 64 bits has the digits that `serde_json` gives it.
     ///
@@ -62,20 +69,16 @@ impl<C: Change + Drop> Texts<C> {
     ///
     /// `AllocError` if memory runs out.
     pub fn into_text(self, alloc: Global, own: &Schema, key: &str) -> Result<String, AllocError>
-        requires apart { HasNoDefinitions own.now }
-        requires key { is_listed key.now definition_keys ≡ true }
+        requires { HasPlaceAt key.now own.now }
         ensures text { IfOk result (λ s.
-            has_float (with_defs_at key.now (each_made C.made self) own.now) ≡ false
-            → string_bytes s ≡ ordered_text (with_defs_at key.now (each_made C.made self) own.now)) }
+            has_float (with_names key.now (each_made C.made self) own.now) ≡ false
+            → string_bytes s ≡ ordered_text (with_names key.now (each_made C.made self) own.now)) }
         ensures once { HasKeysOnce self }
     {
         let Texts {
             definitions,
             mut change,
         } = self;
-        if definitions.len() == 0 {
-            return own.to_ordered_string(alloc);
-        }
         joined(alloc, own, key, definitions, &mut change)
     }
 

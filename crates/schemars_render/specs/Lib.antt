@@ -1,3 +1,4 @@
 -- The definitions that contracts cite.
+pub mod Answer
 pub mod Assembled
 pub mod Writing

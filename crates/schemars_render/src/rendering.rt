@@ -22,10 +22,10 @@ use std::alloc::{AllocError, Global};
 /// # Errors
 ///
 /// `AllocError` if memory runs out.
-pub fn render<'t>(
+pub fn render<'a>(
     alloc: Global,
-    template: &'t SchemaTemplate<'t>,
-    answers: &'t [Answer],
+    template: &'a SchemaTemplate<'_>,
+    answers: &'a [Answer],
 ) -> Result<Option<String>, AllocError>
     ensures text { IfOk result (λ o. IfSome o (λ t. string_bytes t
         ≡ ordered_text (filled (template_view template.now) answers.now))) }

@@ -1,0 +1,26 @@
+-- What is filled and what the rest becomes is what the whole becomes.
+use Rattle.std.proofs.Common.{◌≡◌, ◌++◌, map, drop}
+use Rattle.schemars_documents.specs.Template.{filled_in, left_in}
+use Rattle.schemars_documents.specs.OfShape.{templates_of}
+use Rattle.schemars_documents.specs.View.{template_view, keyword_view, property_view}
+use Rattle.schemars_render.specs.Assembled.{assembled_view, members_assembled}
+use Rattle.schemars_render.proofs.FilledMembers.{GoesOn}
+use Rattle.schemars_render.proofs.assembling.+assemble.Given as goal
+
+abbrev pub invariant-assemble_object-loop-keyword : goal.invariant-assemble_object-loop-keyword
+invariant-assemble_object-loop-keyword l =
+    GoesOn keyword_view (drop l.keyword-index l.keyword-items) l.answers.now (members_assembled l.members.entries) l.keyword-items
+    l.fn.answers.now
+
+abbrev pub invariant-assemble_schemas-loop-schema : goal.invariant-assemble_schemas-loop-schema
+invariant-assemble_schemas-loop-schema l = record {
+  value : map assembled_view l.parts.items ++ filled_in (templates_of (map template_view (drop l.schema-index l.schema-items))) l.answers.now
+      ≡ filled_in (templates_of (map template_view l.schema-items)) l.fn.answers.now;
+  left : left_in (templates_of (map template_view (drop l.schema-index l.schema-items))) l.answers.now
+      ≡ left_in (templates_of (map template_view l.schema-items)) l.fn.answers.now;
+}
+
+abbrev pub invariant-assemble_named-loop-named : goal.invariant-assemble_named-loop-named
+invariant-assemble_named-loop-named l =
+    GoesOn property_view (drop l.named-index l.named-items) l.answers.now (members_assembled l.members.entries) l.named-items
+    l.fn.answers.now

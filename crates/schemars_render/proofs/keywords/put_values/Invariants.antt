@@ -1,0 +1,11 @@
+-- What has been put in, and then the rest, is all.
+use Rattle.std.proofs.Common.{◌≡◌}
+use Rattle.serde_json.specs.View.{members_view}
+use Rattle.schemars_schema.specs.SchemaData.{put_members}
+use Rattle.schemars_render.specs.Assembled.{members_assembled}
+use Rattle.schemars_render.proofs.keywords.put_values.Given as goal
+
+abbrev pub invariant-loop-name : goal.invariant-loop-name
+invariant-loop-name l =
+    put_members (members_view l.name-iterator) (members_assembled l.members.entries)
+    ≡ put_members (members_view l.values.entries) (members_assembled l.fn.members.entries)

@@ -1,0 +1,33 @@
+//! A template that is filled with answers, as a schema.
+ghost use Rattle.std.specs.Prelude.{◌≡◌, IfOk};
+ghost use Rattle.schemars_documents.specs.Template.{filled};
+ghost use Rattle.schemars_documents.specs.View.{template_view};
+
+use crate::answer::Answer;
+use schemars_documents::template::SchemaTemplate;
+use schemars_schema::Schema;
+use std::alloc::{AllocError, Global};
+use std::collections::VecDeque;
+
+/// The schema with these answers in the places of the rows: the first answer for the first row, and
+/// so on. A missing answer is `true`.
+pub fn fill(
+    alloc: Global,
+    template: SchemaTemplate<'_>,
+    answers: Vec<Answer>,
+) -> Result<Schema, AllocError>
+    ensures { IfOk result (λ s. s ≡ filled (template_view template.entry) answers.items) }
+{
+    let schemas = into_schemas(alloc, answers)?;
+    schemars_documents::template::fill(alloc, template, schemas)
+}
+
+fn into_schemas(alloc: Global, answers: Vec<Answer>) -> Result<VecDeque<Schema>, AllocError>
+    ensures { IfOk result (λ v. v.items ≡ answers.items) }
+{
+    let mut schemas = VecDeque::with_capacity(alloc, answers.len())?;
+    for answer in answers {
+        schemas.push_back(answer.into_schema(alloc)?)?;
+    }
+    Ok(schemas)
+}
