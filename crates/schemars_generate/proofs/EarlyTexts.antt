@@ -20,7 +20,7 @@ use Rattle.schemars_transform.proofs.Turns.{IsApart, defs_apart, definitions_apa
 use Rattle.schemars_transform.proofs.Parted.{made_in_parts, parted}
 use Rattle.schemars_definitions.specs.Joined.{HasNoDefinitions, HasPlaceAt, definition_keys}
 use Rattle.schemars_definitions.specs.Whole.{each_made, with_defs_at, with_names}
-use Rattle.schemars_definitions.proofs.JoinedTexts.{none_at, replaced-put}
+use Rattle.schemars_definitions.proofs.Members.{replaced-put}
 use Rattle.schemars_headline.specs.Drafts.{Draft, Draft2020_12, Draft2019_09, Draft07, made_for}
 use Rattle.schemars_headline.specs.Headline.{with_definitions}
 use Rattle.schemars_generate.specs.RootText.{key_for}
