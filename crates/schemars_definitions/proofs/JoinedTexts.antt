@@ -55,7 +55,7 @@ others-replaced k d (member l e ms) placed = go (bytes_eq k l) refl (others-repl
     go false is later = rw later
 
 -- what is so at each key of definitions
-at_each_key : (P : Text → Type 0) → P (codes "$defs") → P (codes "definitions") → (k : Text) → is_listed k definition_keys ≡ true → P k
+pub at_each_key : (P : Text → Type 0) → P (codes "$defs") → P (codes "definitions") → (k : Text) → is_listed k definition_keys ≡ true → P k
 at_each_key P defs old k listed = go (bytes_eq k (codes "$defs")) refl (bytes_eq k (codes "definitions")) refl listed
   where
     go : (b : Bool) → bytes_eq k (codes "$defs") ≡ b → (c : Bool) → bytes_eq k (codes "definitions") ≡ c → b || (c || false) ≡ true → P k

@@ -1,5 +1,4 @@
 -- A document with its definitions, as they are written.
-use Rattle.std.specs.Prelude.{codes}
 use Rattle.serde_json.specs.Data.{Data, object, Members, no_members, member, put}
 use Rattle.schemars_schema.specs.Edits.{replaced}
 use Rattle.schemars_schema.specs.Json.{Text}
@@ -18,7 +17,3 @@ with_defs_at key (member k d ms) own = object (put key (object (member k d ms)) 
 -- the object with these schemas by name in the place of what is at a key
 abbrev pub with_names : Text → Members → Data → Data
 with_names key ms own = object (replaced key (object ms) (members_in own))
-
--- an object with these definitions under `$defs`, if there are any
-abbrev pub with_defs : Members → Data → Data
-with_defs ms own = with_defs_at (codes "$defs") ms own
