@@ -1,7 +1,5 @@
 -- Definitions that the transforms of a draft change one by one, and what is left of the document.
-use Rattle.std.proofs.Common.{◌≡◌, List, ◌∷◌, Bool, true, false, Some, None, codes, refl, sym, ap, ◌∙◌, subst}
-use Rattle.std.proofs.lemmas.Slice.Eq.{bytes_eq-Decides}
-use Rattle.std.specs.Prelude.{◌||◌, bytes_eq}
+use Rattle.std.proofs.Common.{◌≡◌, List, ◌∷◌, true, false, Some, None, refl, sym, ap, ◌∙◌, subst}
 use Rattle.serde_json.specs.Data.{Data, null, boolean, number, string, array, object, Members, no_members, member, put}
 use Rattle.serde_json.specs.Find.{get, get_member}
 use Rattle.serde_json.proofs.Views.{get_member-put, get_member-put_other}
@@ -20,6 +18,7 @@ use Rattle.schemars_transform.proofs.Turns.{IsApart, defs_apart, definitions_apa
 use Rattle.schemars_transform.proofs.Parted.{made_in_parts, parted}
 use Rattle.schemars_definitions.specs.Joined.{HasNoDefinitions, HasPlaceAt, definition_keys}
 use Rattle.schemars_definitions.specs.Whole.{each_made, with_defs_at, with_names}
+use Rattle.schemars_definitions.proofs.JoinedTexts.{at_each_key}
 use Rattle.schemars_definitions.proofs.Members.{replaced-put}
 use Rattle.schemars_headline.specs.Drafts.{Draft, Draft2020_12, Draft2019_09, Draft07, made_for}
 use Rattle.schemars_headline.specs.Headline.{with_definitions}
@@ -68,13 +67,10 @@ apart_for Draft2019_09 = defs_apart
 apart_for Draft07 = definitions_apart
 
 apart_at : (k : Text) → is_listed k definition_keys ≡ true → IsApart k
-apart_at k listed = go (bytes_eq k (codes "$defs")) refl (bytes_eq k (codes "definitions")) refl listed
-  where
-    go : (b : Bool) → bytes_eq k (codes "$defs") ≡ b → (c : Bool) → bytes_eq k (codes "definitions") ≡ c → b || (c || false) ≡ true
-        → IsApart k
-    go true at c old h = subst IsApart (sym ((bytes_eq-Decides k (codes "$defs")).0 at)) defs_apart
-    go false at true old h = subst IsApart (sym ((bytes_eq-Decides k (codes "definitions")).0 old)) definitions_apart
-    go false at false old h = cc
+apart_at = at_each_key IsApart defs_apart definitions_apart
+
+none_at : (ms : Members) → HasNoDefinitions (object ms) → (k : Text) → is_listed k definition_keys ≡ true → get_member k ms ≡ None
+none_at ms apart = at_each_key (λ k. get_member k ms ≡ None) apart.0 apart.1
 
 -- an object without definitions has a place for them
 pub placed_for : (draft : Draft) (ms : Members) (own : Data) → HasNoDefinitions own

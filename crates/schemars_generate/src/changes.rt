@@ -7,7 +7,8 @@ use crate::settings::SchemaSettings;
 use schemars_definitions::Change;
 use schemars_schema::Schema;
 use schemars_transform::{
-    GenTransform, NoTransform, RemoveRefSiblings, ReplacePrefixItems, ReplaceUnevaluatedProperties,
+    AddNullable, GenTransform, NoTransform, RemoveRefSiblings, ReplaceBoolSchemas,
+    ReplaceConstValue, ReplacePrefixItems, ReplaceUnevaluatedProperties, SetSingleExample,
     apply_all, leave_unchanged,
 };
 use schemars_walk::Transform;
@@ -63,6 +64,42 @@ impl Change for Changes07 {
 
     fn change(&mut self, alloc: Global, schema: &mut Schema) -> Result<(), AllocError> {
         let settings: SchemaSettings<NoTransform> = SchemaSettings::draft07(alloc)?;
+        let SchemaSettings { mut transforms, .. } = settings;
+        apply_built_in(alloc, &mut transforms, schema)
+    }
+}
+
+// The transforms of OpenAPI.
+#[derive(Drop)]
+pub(crate) struct ChangesOpenApi3;
+
+impl Change for ChangesOpenApi3 {
+    ghost use Rattle.schemars_laws.specs.Laws.{for_openapi3};
+
+    ghost made = { λ d. for_openapi3 d };
+
+    fn changes_nothing(&self) -> bool {
+        false
+    }
+
+    fn leaves(&self, schema: &Schema) -> bool {
+        let bools = ReplaceBoolSchemas {
+            skip_additional_properties: true,
+        };
+        let transforms: [GenTransform<NoTransform>; 7] = [
+            GenTransform::ReplaceUnevaluatedProperties(ReplaceUnevaluatedProperties),
+            GenTransform::ReplaceBoolSchemas(bools),
+            GenTransform::AddNullable(AddNullable::default()),
+            GenTransform::RemoveRefSiblings(RemoveRefSiblings),
+            GenTransform::SetSingleExample(SetSingleExample),
+            GenTransform::ReplaceConstValue(ReplaceConstValue),
+            GenTransform::ReplacePrefixItems(ReplacePrefixItems),
+        ];
+        leave_unchanged(&transforms, schema)
+    }
+
+    fn change(&mut self, alloc: Global, schema: &mut Schema) -> Result<(), AllocError> {
+        let settings: SchemaSettings<NoTransform> = SchemaSettings::openapi3(alloc)?;
         let SchemaSettings { mut transforms, .. } = settings;
         apply_built_in(alloc, &mut transforms, schema)
     }
