@@ -1,7 +1,8 @@
 -- What is made for a row is its output.
-use Rattle.std.proofs.Common.{◌≡◌, ◌≢◌, ℕ, List, true, refl, ap, ◌∙◌, sym, subst, String, Global, string_bytes}
+use Rattle.std.proofs.Common.{◌≡◌, ◌≢◌, ℕ, List, true, false, refl, ap, ◌∙◌, sym, subst, String, Global, string_bytes}
 use Rattle.serde_json.specs.Data.{Data, Members}
-use Rattle.schemars_schema.specs.Json.{Text}
+use Rattle.serde_json.specs.Written.{members_have_float}
+use Rattle.schemars_text.specs.OrderedText.{definitions_text}
 use Rattle.schemars_types.specs.Rows.{Row}
 use Rattle.schemars_types.specs.Faults.{IsAccepted}
 use Rattle.schemars_transform.specs.declared.no_transform.NoTransform.{NoTransform}
@@ -12,24 +13,22 @@ use Rattle.schemagen_input.specs.Input.{is_table}
 use Rattle.schemagen_run.specs.declared.words.Asked.{Asked}
 use Rattle.schemagen_run.specs.declared.words.Dialect.{Dialect}
 use Rattle.schemagen_run.specs.declared.words.Dialect.TheVariants.{OpenApi3}
-use Rattle.schemagen_run.specs.declared.output.Output.TheVariants.{Document, DocumentText}
-use Rattle.schemagen_run.specs.Run.{IsWrittenDocument, AreDefinitionsOf, IsDefinitionsLine, IsLineIn, IsLineOf, fresh, transforms_of_dialect}
+use Rattle.schemagen_run.specs.declared.output.Output.TheVariants as output
+use Rattle.schemagen_run.specs.Run.{IsWrittenDocument, AreDefinitionsOf, IsLineIn, fresh, transforms_of_dialect}
 use Rattle.schemagen_run.specs.Output.{IsOutputOf, IsFreshFor}
 use Rattle.schemagen_run.proofs.Runs.{in_draft}
 
-pub document_is_output : (asked : Asked) (rows : List Row) (root : ℕ) (d : Data) → asked.dialect ≢ OpenApi3
-    → IsWrittenDocument asked rows root d → IsOutputOf asked rows root (Document d)
-document_is_output asked rows root d draft written = λ line of. in_draft asked rows root line asked.dialect draft (d, written, of)
-
 pub text_is_output : (asked : Asked) (rows : List Row) (root : ℕ) (d : Data) (s : String Global) → asked.dialect ≢ OpenApi3
-    → IsWrittenDocument asked rows root d → IsTextOf d (string_bytes s) → IsOutputOf asked rows root (DocumentText s)
+    → IsWrittenDocument asked rows root d → IsTextOf d (string_bytes s) → IsOutputOf asked rows root (output.Text s)
 text_is_output asked rows root d s draft written text = λ line of.
     in_draft asked rows root line asked.dialect draft (d, written, (of.0, (λ none. of.1 refl ∙ text none), of.2))
 
-pub definitions_line : (asked : Asked) (rows : List Row) (root : ℕ) (taken : Members) (line : Text) → asked.dialect ≡ OpenApi3
-    → AreDefinitionsOf asked rows root taken → IsDefinitionsLine taken line → IsLineOf asked rows root line
-definitions_line asked rows root taken line openapi3 are of =
-    subst (λ (d : Dialect). IsLineIn d asked rows root line) (sym openapi3) (taken, are, of)
+pub definitions_are_output : (asked : Asked) (rows : List Row) (root : ℕ) (taken : Members) (s : String Global)
+    → asked.dialect ≡ OpenApi3 → AreDefinitionsOf asked rows root taken
+    → (members_have_float taken ≡ false → string_bytes s ≡ definitions_text taken) → IsOutputOf asked rows root (output.Text s)
+definitions_are_output asked rows root taken s openapi3 are text = λ line of.
+    subst (λ (d : Dialect). IsLineIn d asked rows root line) (sym openapi3)
+    (taken, are, (of.0, (λ none. of.1 refl ∙ text none), of.2))
 
 pub is_fresh : (asked : Asked) (g : Generator NoTransform) (rows : List Row) (root : ℕ) → state g ≡ fresh asked rows
     → transforms_of g ≡ transforms_of_dialect asked.dialect → is_table rows root ≡ true → IsAccepted rows

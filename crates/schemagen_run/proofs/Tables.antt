@@ -22,7 +22,9 @@ use Rattle.schemars_generate.specs.Refusals.{HasFault}
 use Rattle.schemars_headline.specs.Headline.{Headline, IsDraftPath, CannotPlace}
 use Rattle.schemars_documents.specs.PlainTable.{IsPlainTable, HasPlainNotes, HasNoFloat}
 use Rattle.schemars_generate.specs.declared.settings.SchemaSettings.{SchemaSettings}
-use Rattle.schemars_generate.specs.Generator.{Generator, generator_over, settings_of, state}
+use Rattle.schemars_walk.specs.Walk.{TransformStep}
+use Rattle.schemars_generate.specs.DefinitionsText.{IsDefinitionsRefusal}
+use Rattle.schemars_generate.specs.Generator.{Generator, Transforms, generator_over, settings_of, state}
 use Rattle.schemars_generate.specs.Through.{IsUntransformed, IsRefused}
 use Rattle.schemars_headline.specs.State.{State, stripped, path_of, HasOwnDefinitions}
 use Rattle.schemars_laws.specs.Paths.{components}
@@ -179,11 +181,13 @@ memory_refusal asked rows root e memory = record {
   only_memory = λ _ _. memory;
 }
 
--- why it answers no part for a row that it has
-pub known_refusal : (root : ℕ) (held : ℕ) (e : GenerateError) → root < held → (e ≡ OutOfMemory) ⊎ (e ≡ UnknownType root)
-    → (e ≡ UnknownType root → held ≤ root) → e ≡ OutOfMemory
-known_refusal root held e known (inl memory) unknown = memory
-known_refusal root held e known (inr is) unknown = absurd (omega (arith, unknown is, known))
+-- why it answers no text of definitions for a row that it has
+pub definitions_refusal : (s : State) (root : ℕ) (ts : Transforms NoTransform) (Q : TransformStep NoTransform) (e : GenerateError)
+    → root < length s.rows → some_own ts.items ≡ false → IsDefinitionsRefusal Q ts s root e → (e ≡ UnknownType root → length s.rows ≤ root)
+    → e ≡ OutOfMemory
+definitions_refusal s root ts Q e known none (inl memory) unknown = memory
+definitions_refusal s root ts Q e known none (inr (inl is)) unknown = absurd (omega (arith, unknown is, known))
+definitions_refusal s root ts Q e known none (inr (inr h)) unknown = h.2.only_memory none
 
 -- the definitions that the generator takes are those that a part for the row leads to
 pub are_definitions : (s : State) (asked : Asked) (rows : List Row) (root : ℕ) (ts : List (GenTransform NoTransform)) (taken : Members)

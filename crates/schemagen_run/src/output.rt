@@ -7,16 +7,14 @@ ghost use Rattle.schemagen_run.specs.Writing.{WritesLine};
 use crate::fault::{Fault, WRITE};
 use crate::streams::{Failed, Sink};
 use schemars::Schema;
-use schemars::schema::{OrderedError, write_ordered_definitions};
+use schemars::schema::OrderedError;
 use schemars_text::sink::write_all;
-use serde_json::{Map, Value};
 
 /// What a run has made, whose text it has written.
 #[derive(Drop)]
 pub enum Output {
     Document(Schema),
-    Definitions(Map<String, Value>),
-    DocumentText(String),
+    Text(String),
 }
 
 /// Writes the text of an output, and a newline, and returns the output.
@@ -52,8 +50,7 @@ fn write_text<K: Sink>(output: &Output, sink: &mut K) -> Result<(), OrderedError
 {
     match output {
         Output::Document(document) => document.write_ordered(sink),
-        Output::Definitions(definitions) => write_ordered_definitions(definitions, sink),
-        Output::DocumentText(text) => write_bytes(text.as_bytes(), sink),
+        Output::Text(text) => write_bytes(text.as_bytes(), sink),
     }
 }
 

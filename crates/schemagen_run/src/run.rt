@@ -322,7 +322,8 @@ fn output_of(
     generated(alloc, asked, generator, root)
 }
 
-// What the generator makes for this row: for a draft the text of a root document.
+// What the generator makes for this row: for a draft the text of its root document, and for OpenAPI
+// that of the definitions that it leads to.
 fn generated(
     alloc: Global,
     asked: Asked,
@@ -354,10 +355,10 @@ fn text_of(
     ensures refused { IfErr result (IsRefusal asked generator.rows root) }
 {
     let text = generator.into_root_text_for_type(alloc, root)?;
-    Ok(Output::DocumentText(text))
+    Ok(Output::Text(text))
 }
 
-// The definitions that this row leads to, through the transforms.
+// The text of the definitions that this row leads to, through the transforms.
 fn definitions_of(
     alloc: Global,
     asked: Asked,
@@ -369,24 +370,8 @@ fn definitions_of(
     ensures ok { IfOk result (IsOutputOf asked generator.rows root) }
     ensures refused { IfErr result (IsRefusal asked generator.rows root) }
 {
-    let definitions = taken_definitions(alloc, generator, root)?;
-    Ok(Output::Definitions(definitions))
-}
-
-// Makes a part for this row, and takes the definitions that it leads to.
-fn taken_definitions(
-    alloc: Global,
-    mut generator: SchemaGenerator<NoTransform>,
-    root: TypeNo,
-) -> Result<Map<String, Value>, GenerateError>
-    requires own { some_own (transforms_of generator) ≡ false }
-    requires known { root < length generator.rows }
-    ensures ok { IfOk result (λ m. AreTaken (transforms_of generator) (state generator) root
-        (members_view m.entries)) }
-    ensures only_memory { IfErr result (λ e. e ≡ GenerateError.OutOfMemory) }
-{
-    generator.subschema_for_type(alloc, root)?;
-    generator.into_definitions(alloc)
+    let text = generator.into_definitions_text_for_type(alloc, root)?;
+    Ok(Output::Text(text))
 }
 
 // Writes the line of the document of the example that the value is.
