@@ -92,7 +92,7 @@ module _ {O : Type 0} (ts : List (GenTransform O)) (draft : Draft) (is : ts ≡ 
   local = ap are_local is ∙ local_for O draft
 
   -- what the transforms make of it
-  pub placed : Members → Data
+  abbrev pub placed : Members → Data
   placed os = made_by ts (object (put (key_for draft) (object no_members) os))
 
   pub has_place : (os : Members) → HasNoDefinitions (object os) → HasPlaceAt (key_for draft) (placed os)
