@@ -6,7 +6,7 @@ use Rattle.serde_json.proofs.Views.{get_member-put, get_member-put_other}
 use Rattle.schemars_text.specs.OrderedText.{is_listed}
 use Rattle.schemars_text.proofs.Members.{differ}
 use Rattle.schemars_schema.specs.Json.{Text}
-use Rattle.schemars_schema.specs.SchemaData.{members_in}
+use Rattle.schemars_schema.specs.SchemaData.{members_in, inserted}
 use Rattle.schemars_schema.specs.Edits.{replaced}
 use Rattle.schemars_schema.proofs.Placings.{placed_at-defs, placed_at-definitions}
 use Rattle.schemars_walk.specs.Rewritten.{forms}
@@ -127,6 +127,11 @@ only_objects (boolean b) apart = absurd apart
 only_objects (number n) apart = absurd apart
 only_objects (string s) apart = absurd apart
 only_objects (array ds) apart = absurd apart
+
+-- an empty object is put where the definitions of a draft go
+pub place_put : (draft : Draft) (key place : Text) (own first d : Data) → first ≡ inserted place d own → place ≡ key → key ≡ key_for draft
+    → d ≡ object no_members → first ≡ object (put (key_for draft) (object no_members) (members_in own))
+place_put draft key place own first d is at here empty = is ∙ (λ i. object (put ((at ∙ here) i) (empty i) (members_in own)))
 
 module _ {O : Type 0} (ts : List (GenTransform O)) (draft : Draft) (is : ts ≡ transforms_for draft) (own first last : Data)
     (apart : HasNoDefinitions own) (put_in : first ≡ object (put (key_for draft) (object no_members) (members_in own)))
