@@ -137,8 +137,8 @@ fn replaces_bools<O>(transform: &GenTransform<O>) -> bool
 // Whether the transform adds `nullable` as that of OpenAPI does.
 fn adds_nullable<O>(transform: &GenTransform<O>) -> bool
     ensures { IsTrue result → transform.now ≡ GenTransform.AddNullable (record {
-        remove_null_type = true;
-        add_const_null = true;
+      remove_null_type = true;
+      add_const_null = true;
     }) }
 {
     match transform {
