@@ -1,7 +1,7 @@
 -- Definitions that the transforms of OpenAPI change one by one.
-use Rattle.std.proofs.Common.{◌≡◌, List, true, false, inr, Ok, refl, sym, ap, ◌∙◌, subst}
+use Rattle.std.proofs.Common.{◌≡◌, List, true, false, inr, Ok, refl, ap, ◌∙◌, subst}
 use Rattle.schemars_generate.proofs.Words.{Data, Members, no_members, TransformStep, ApplyInOrder, Transforms}
-use Rattle.serde_json.specs.Data.{null, boolean, number, string, array, object, member}
+use Rattle.serde_json.specs.Data.{null, boolean, object, member}
 use Rattle.schemars_walk.specs.Walk.{AtSchema}
 use Rattle.schemars_walk.specs.Rewritten.{forms}
 use Rattle.schemars_laws.specs.Laws.{for_openapi3}

@@ -1,5 +1,5 @@
 //! The text of definitions.
-ghost use Rattle.std.specs.Prelude.{◌≡◌, ◌≤◌, ◌↔◌, Err, length, string_bytes, IfOk, IfErr, IsTrue};
+ghost use Rattle.std.specs.Prelude.{◌≡◌, ◌≤◌, ◌↔◌, true, Err, length, drop, string_bytes, IfOk, IfErr, IsTrue};
 ghost use Rattle.schemars_generate.specs.DefinitionsText.{IsDefinitionsText, IsDefinitionsRefusal, TakesEarly};
 ghost use Rattle.schemars_generate.specs.Generator.{held_transforms, state};
 ghost use Rattle.schemars_generate.specs.Settings.{transforms_openapi3};
@@ -100,16 +100,50 @@ fn are_openapi3<O>(transforms: &[GenTransform<O>]) -> bool
     match transforms {
         [
             GenTransform::ReplaceUnevaluatedProperties(_),
-            GenTransform::ReplaceBoolSchemas(bools),
-            GenTransform::AddNullable(nullable),
+            bools,
+            nullable,
+            rest @ ..,
+        ] => replaces_bools(bools) && adds_nullable(nullable) && end_as_openapi3(rest),
+        _ => false,
+    }
+}
+
+// Whether these are the transforms of OpenAPI from the fourth on.
+fn end_as_openapi3<O>(transforms: &[GenTransform<O>]) -> bool
+    ensures { IsTrue result → transforms.now ≡ drop 3 transforms_openapi3 }
+{
+    matches!(
+        transforms,
+        [
             GenTransform::RemoveRefSiblings(_),
             GenTransform::SetSingleExample(_),
             GenTransform::ReplaceConstValue(_),
             GenTransform::ReplacePrefixItems(_),
-        ] => {
-            bools.skip_additional_properties
-                && nullable.remove_null_type
-                && nullable.add_const_null
+        ]
+    )
+}
+
+// Whether the transform replaces boolean schemas as that of OpenAPI does.
+fn replaces_bools<O>(transform: &GenTransform<O>) -> bool
+    ensures { IsTrue result → transform.now
+        ≡ GenTransform.ReplaceBoolSchemas (record { skip_additional_properties = true }) }
+{
+    match transform {
+        GenTransform::ReplaceBoolSchemas(bools) => bools.skip_additional_properties,
+        _ => false,
+    }
+}
+
+// Whether the transform adds `nullable` as that of OpenAPI does.
+fn adds_nullable<O>(transform: &GenTransform<O>) -> bool
+    ensures { IsTrue result → transform.now ≡ GenTransform.AddNullable (record {
+      remove_null_type = true;
+      add_const_null = true;
+    }) }
+{
+    match transform {
+        GenTransform::AddNullable(nullable) => {
+            nullable.remove_null_type && nullable.add_const_null
         }
         _ => false,
     }
