@@ -28,8 +28,9 @@ impl Change for Changes2019_09 {
     }
 
     fn leaves(&self, schema: &Schema) -> bool {
-        let transforms: [GenTransform<NoTransform>; 1] =
-            [GenTransform::ReplacePrefixItems(ReplacePrefixItems)];
+        let transforms: [GenTransform<NoTransform>; 1] = [GenTransform::ReplacePrefixItems(
+            ReplacePrefixItems,
+        )];
         leave_unchanged(&transforms, schema)
     }
 

@@ -1,7 +1,5 @@
 -- Built-in transforms make what their functions make.
-use Rattle.std.proofs.Common.{Ok, ap, subst}
-use Rattle.schemars_walk.specs.Order.{InOrder}
-use Rattle.schemars_transform.specs.Member.{OfMember}
+use Rattle.std.proofs.Common.{Ok}
 use Rattle.schemars_transform.proofs.Laws.{built_ins_make}
 use Rattle.schemars_generate.proofs.changes.apply_built_in.Goals as goal
 

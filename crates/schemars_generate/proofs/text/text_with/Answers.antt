@@ -1,5 +1,5 @@
 -- The transforms went through the document with an empty object where its definitions go, and these were put there.
-use Rattle.std.proofs.Common.{◌≡◌, false, sym, ap, ◌∙◌, subst, string_bytes}
+use Rattle.std.proofs.Common.{◌≡◌, sym, ap, ◌∙◌, subst, string_bytes}
 use Rattle.serde_json.specs.View.{view}
 use Rattle.serde_json.specs.declared.value.Value.{Object}
 use Rattle.serde_json.proofs.Views.{view-Object}
