@@ -22,7 +22,7 @@ use Rattle.schemars_generate.specs.Refusals.{HasFault}
 use Rattle.schemars_headline.specs.Headline.{Headline, IsDraftPath, CannotPlace}
 use Rattle.schemars_documents.specs.PlainTable.{IsPlainTable, HasPlainNotes, HasNoFloat}
 use Rattle.schemars_generate.specs.declared.settings.SchemaSettings.{SchemaSettings}
-use Rattle.schemars_walk.specs.Walk.{TransformStep}
+use Rattle.schemars_generate.proofs.Words.{TransformStep}
 use Rattle.schemars_generate.specs.DefinitionsText.{IsDefinitionsRefusal}
 use Rattle.schemars_generate.specs.Generator.{Generator, Transforms, generator_over, settings_of, state}
 use Rattle.schemars_generate.specs.Through.{IsUntransformed, IsRefused}
