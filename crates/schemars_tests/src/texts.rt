@@ -81,7 +81,10 @@ fn openapi3(alloc: Global, table: &str) -> Result<SchemaGenerator, Fail> {
 fn other_texts_are_made_of_documents(rt: HostRuntime) -> Result<(), Fail> {
     let alloc = rt.alloc();
     let generator = openapi3(alloc, APART)?;
-    expect(!generator.writes_early(), "definitions that are not written early")?;
+    expect(
+        !generator.writes_early(),
+        "definitions that are not written early",
+    )?;
     let text = generator.into_root_text_for_type(alloc, 0)?;
     let document = openapi3(alloc, APART)?.into_root_schema_for_type(alloc, 0)?;
     let wanted = document.to_ordered_string(alloc)?;
