@@ -187,7 +187,7 @@ pub definitions_refusal : (s : State) (root : ℕ) (ts : Transforms NoTransform)
     → e ≡ OutOfMemory
 definitions_refusal s root ts Q e known none (inl memory) unknown = memory
 definitions_refusal s root ts Q e known none (inr (inl is)) unknown = absurd (omega (arith, unknown is, known))
-definitions_refusal s root ts Q e known none (inr (inr h)) unknown = h.2.only_memory none
+definitions_refusal s root ts Q e known none (inr (inr h)) unknown = h.3.only_memory none
 
 -- the definitions that the generator takes are those that a part for the row leads to
 pub are_definitions : (s : State) (asked : Asked) (rows : List Row) (root : ℕ) (ts : List (GenTransform NoTransform)) (taken : Members)

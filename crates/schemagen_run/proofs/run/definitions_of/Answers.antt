@@ -33,12 +33,12 @@ returns c =
           (are_definitions (state g) c.args.asked g.rows c.args.root _ made.taken c.requires.openapi3 told.fresh told.transforms (
             made.new,
             (
-              made.part,
-              made.subschema.is_part,
-              made.rest,
-              made.subschema.answer.adds,
-              made.keeps.own,
-              made.subschema.answer.is.reached tt,
+              made.part.schema,
+              made.part.subschema.is_part,
+              made.part.rest,
+              made.part.subschema.answer.adds,
+              made.part.keeps.own,
+              made.part.subschema.answer.is.reached tt,
               made.transformed.built_in none,
             ),
             (λ is. (made.transformed.openapi3 is).1),

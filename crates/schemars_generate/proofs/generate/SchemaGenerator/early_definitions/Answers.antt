@@ -52,10 +52,12 @@ returns-clause-text g c =
     (each_through Q ts openapi3 x.definitions) in
     subst (λ y. IsDefinitionsText Q (held_transforms y) (state y) n (string_bytes c.in_ok-text.text)) c.self.view_is (record {
       new = new;
-      part = d;
-      subschema = subschema_for s new n d refl c.self.invariant.1 one keeps.own answered;
-      keeps = keeps;
-      rest = refl;
+      part = record {
+        schema = d;
+        subschema = subschema_for s new n d refl c.self.invariant.1 one keeps.own answered;
+        keeps = keeps;
+        rest = refl;
+      };
       after = ts;
       taken = taken;
       transformed = are_transformed Q ts ts new taken c.self.invariant.1 one (subst HasKeysOnce same c.in_ok-text.ensures.once) through;

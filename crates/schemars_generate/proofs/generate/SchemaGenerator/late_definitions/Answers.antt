@@ -3,12 +3,13 @@ use Rattle.std.proofs.Common.{◌≡◌, ◌∙◌, ℕ, Result, Ok, Err, inl, i
 use Rattle.std.specs.Prelude.{IsErrAnd}
 use Rattle.schemars_walk.specs.declared.transform.TransformError.{TransformError}
 use Rattle.schemars_walk.specs.declared.transform.TransformError.TheVariants.{Memory, TooDeep, Own}
-use Rattle.schemars_generate.specs.DefinitionsText.{IsDefinitionsRefusal}
+use Rattle.schemars_generate.specs.DefinitionsText.{HasMadePart, IsDefinitionsRefusal}
 use Rattle.schemars_generate.specs.Generator.{Generator, held_transforms}
 use Rattle.schemars_generate.specs.Refusals.{told}
 use Rattle.schemars_generate.specs.declared.error.GenerateError.{GenerateError}
 use Rattle.schemars_generate.specs.declared.error.GenerateError.TheVariants.{UnknownType}
-use Rattle.schemars_generate.proofs.Words.{err_told, members_view, state, State, Transforms, TransformStep, AreTransformed, IsTakeRefusal}
+use Rattle.schemars_generate.specs.Answers.{IsSubschemaFor, KeepsDefinitions}
+use Rattle.schemars_generate.proofs.Words.{err_told, members_view, state, State, Data, Transforms, TransformStep, AreTransformed, IsTakeRefusal}
 use Rattle.schemars_generate.proofs.generate.SchemaGenerator.late_definitions.Goals as goal
 
 -- a part adds names and definitions alone
@@ -19,6 +20,12 @@ same_transforms old new rest = ap held_transforms rest
 only_adds : {O : Type 0} (old new : Generator O) → new ≡ record old { names = new.names; definitions = new.definitions }
     → state new ≡ record (state old) { names = new.names; definitions = new.definitions }
 only_adds old new rest = ap state rest
+
+part_made : {O : Type 0} (old new : Generator O) (n : ℕ) (schema : Data) → IsSubschemaFor (state old) (state new) n schema
+    → KeepsDefinitions (state old) (state new) → new ≡ record old { names = new.names; definitions = new.definitions }
+    → HasMadePart (state old) (state new) n
+part_made old new n schema subschema keeps rest =
+    record { schema = schema; subschema = subschema; keeps = keeps; rest = only_adds old new rest }
 
 -- ---- it is refused
 
@@ -62,14 +69,16 @@ returns-in_err-definitions-clause-refused g c =
     let Q = g.O.Transform.makes in
     let self = c.args.self in
     let kept = c.subschema_for_type.new.self in
+    let made = c.in_ok-subschema_for_type.ensures in
     let why = c.in_err-definitions.ensures.refused in
     let P : GenerateError → Type 0 = λ e. IsDefinitionsRefusal Q (held_transforms self) (state self) c.args.n e in
     err_told c.from_residual-in_err-definitions.result P _ c.from_residual-in_err-definitions.ensures.1
     (λ e is. subst P (sym is) (inr (inr (
       state kept,
+      part_made self kept c.args.n c.in_ok-subschema_for_type.field-0 made.subschema made.keeps made.rest,
       why.0,
       subst (λ ts. IsTakeRefusal Q ts why.0 (state kept) c.in_err-definitions.field-0.0)
-          (same_transforms self kept c.in_ok-subschema_for_type.ensures.rest) why.1,
+          (same_transforms self kept made.rest) why.1,
     ))))
 
 -- ---- the text
@@ -82,10 +91,7 @@ returns-clause-text g c =
     let taken = members_view c.in_ok-definitions.definitions.entries in
     record {
       new = state kept;
-      part = c.in_ok-subschema_for_type.field-0;
-      subschema = part.subschema;
-      keeps = part.keeps;
-      rest = only_adds c.args.self kept part.rest;
+      part = part_made c.args.self kept c.args.n c.in_ok-subschema_for_type.field-0 part.subschema part.keeps part.rest;
       after = made.0;
       taken = taken;
       transformed = subst (λ ts. AreTransformed g.O.Transform.makes ts made.0 (state kept) taken)
