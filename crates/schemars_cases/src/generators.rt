@@ -12,6 +12,7 @@ use schemars::types::{Shape, TypeEntry, TypeNo, Types};
 use schemars::{Contract, GenerateError, Schema};
 use serde_json::Value;
 use std::alloc::{AllocError, Global};
+use std::mem;
 
 /// The first wrong step of calls of a generator.
 pub(crate) fn fault_in(
@@ -75,6 +76,7 @@ fn told(
     let (word, argument) = call_in(call);
     match word {
         "root" => root(alloc, generator, number_in(argument)),
+        "last_definitions_text" => last_definitions_text(alloc, generator, number_in(argument)),
         "copy" => copied(alloc, generator),
         "copy_of_settings" => settings_copied(alloc, generator),
         "path" => String::from_str(alloc, generator.settings().definitions_path.as_str()),
@@ -129,6 +131,23 @@ fn root_text(
         Ok(copy) => copy.into_root_text_for_type(alloc, n),
         Err(error) => Err(error),
     };
+    text_or_refusal(alloc, text)
+}
+
+// The text of the definitions that row `n` leads to. A default generator is left.
+fn last_definitions_text(
+    alloc: Global,
+    generator: &mut SchemaGenerator<Own>,
+    n: TypeNo,
+) -> Result<String, AllocError> {
+    let last = mem::replace(generator, SchemaGenerator::default(alloc));
+    text_or_refusal(alloc, last.into_definitions_text_for_type(alloc, n))
+}
+
+fn text_or_refusal(
+    alloc: Global,
+    text: Result<String, GenerateError>,
+) -> Result<String, AllocError> {
     match text {
         Ok(text) => Ok(text),
         Err(error) => refusal(alloc, &error),
