@@ -7,21 +7,25 @@ use Rattle.std.specs.declared.vec.IntoIter.{IntoIter}
 use denote.Param.Weighed.{most}
 use Rattle.std.proofs.lemmas.Simd.{map-map}
 use Rattle.serde_json.specs.Data.{Data, boolean, array}
-use Rattle.serde_json.specs.View.{view, items_view}
-use Rattle.serde_json.specs.declared.value.Value.{Value, Array}
-use Rattle.serde_json.proofs.Views.{view-Array}
 use Rattle.schemars_schema.specs.Json.{Text}
+use Rattle.schemars_schema.specs.SchemaData.{object_of}
+use Rattle.schemars_builders.specs.NullLaw.{text_items}
 use Rattle.schemars_documents.specs.Template.{finished}
 use Rattle.schemars_documents.specs.OfShape.{KeywordTemplate, object_with, said, required_at, closed_keyword}
-use Rattle.schemars_documents.specs.View.{under_name, template_view, value_view, keyword_view, property_view}
-use Rattle.schemars_documents.specs.declared.template.SchemaTemplate.{SchemaTemplate, Finished, Object, the_lemmas}
-use Rattle.schemars_documents.specs.declared.template.ValueTemplate.{ValueTemplate, Value as Value', Named}
-
-pub seen_value : (v : Value) → value_view (Value' v) ≡ finished (view v)
-seen_value v = search (rules, the_lemmas)
+use Rattle.schemars_documents.specs.View.{under_name, template_view, value_view, keyword_view, property_view, scalar_keyword}
+use Rattle.schemars_documents.specs.declared.template.Scalar.{Scalar}
+use Rattle.schemars_documents.specs.declared.template.SchemaTemplate.{SchemaTemplate, Finished, Keywords, Object, the_lemmas}
+use Rattle.schemars_documents.specs.declared.template.ValueTemplate.{ValueTemplate, Texts, Named}
 
 pub seen_finished : (s : Data) → template_view (Finished s) ≡ finished s
 seen_finished s = search (rules, the_lemmas)
+
+pub seen_keywords : (es : Vec (Bor Text × Scalar) Global)
+    → template_view (Keywords es) ≡ finished (object_of (map scalar_keyword es.items))
+seen_keywords es = search (rules, the_lemmas)
+
+pub seen_texts : (ts : Vec (Bor Text) Global) → value_view (Texts ts) ≡ finished (array (text_items (map (λ t. t.now) ts.items)))
+seen_texts ts = search (rules, the_lemmas)
 
 pub seen_object : (es : Vec (Bor Text × ValueTemplate) Global) → template_view (Object es) ≡ object_with (map keyword_view es.items)
 seen_object es = seen ∙ ap object_with (map-map under_name (λ e. (e.0, value_view e.1)) es.items)
@@ -49,13 +53,14 @@ taken_within size s t (z ∷ seen) x more y e =
 
 -- ---- keywords of a map
 
-pub required_some : (v : Vec Value Global) (b : Bool) → b ≡ false → b ≡ (length v.items == 0)
-    → (codes "required", value_view (Value' (Array v))) ∷ [] ≡ required_at (items_view v.items)
-required_some v b e h = ap (λ t. (codes "required", t) ∷ []) (seen_value (Array v) ∙ ap finished (view-Array v)) ∙ go v.items h
+pub required_some : (v : Vec (Bor Text) Global) (b : Bool) → b ≡ false → b ≡ (length v.items == 0)
+    → (codes "required", value_view (Texts v)) ∷ [] ≡ required_at (text_items (map (λ n. n.now) v.items))
+required_some v b e h = ap (λ t. (codes "required", t) ∷ []) (seen_texts v) ∙ go v.items h
   where
-    go : (vs : List Value) → b ≡ (length vs == 0) → said (codes "required") (array (items_view vs)) ∷ [] ≡ required_at (items_view vs)
+    go : (ns : List (Bor Text)) → b ≡ (length ns == 0)
+        → said (codes "required") (array (text_items (map (λ n. n.now) ns))) ∷ [] ≡ required_at (text_items (map (λ n. n.now) ns))
     go [] h = absurd (true≢false (sym h ∙ e))
-    go (x ∷ vs) h = refl
+    go (n ∷ ns) h = refl
 
 pub in_order : (e : KeywordTemplate) (xs ys zs : List KeywordTemplate) → ((e ∷ xs) ++ ys) ++ zs ≡ e ∷ (xs ++ (ys ++ zs))
 in_order e xs ys zs = ap (λ es. e ∷ es) (append_assoc xs ys zs)

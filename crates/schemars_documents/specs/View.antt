@@ -1,13 +1,20 @@
 -- What a template says, apart from where it lies in memory.
 use Rattle.std.specs.Prelude.{List, [], ◌∷◌, map}
 use Rattle.std.specs.Borrow.{Bor}
+use Rattle.serde_json.specs.Data.{Data, number, string, array}
+use Rattle.serde_json.specs.Find.{of_integer}
 use Rattle.serde_json.specs.View.{view, members_view}
 use Rattle.schemars_schema.specs.Json.{Text}
+use Rattle.schemars_schema.specs.SchemaData.{object_of}
+use Rattle.schemars_builders.specs.NullLaw.{text_items}
 use Rattle.schemars_documents.specs.Template as spec
 use Rattle.schemars_documents.specs.Template.{Template}
+use Rattle.schemars_documents.specs.Documents.{Keyword}
 use Rattle.schemars_documents.specs.OfShape.{KeywordTemplate, templates_of, object_with, title_alone}
 use Rattle.schemars_documents.specs.declared.template.Ask as src-ask
 use Rattle.schemars_documents.specs.declared.template.Ask.TheVariants as ask
+use Rattle.schemars_documents.specs.declared.template.Scalar.{Scalar}
+use Rattle.schemars_documents.specs.declared.template.Scalar.TheVariants as scalar
 use Rattle.schemars_documents.specs.declared.template.SchemaTemplate.{SchemaTemplate, SchemaTemplate-F, fold-SchemaTemplate}
 use Rattle.schemars_documents.specs.declared.template.SchemaTemplate.TheOpen as node
 use Rattle.schemars_documents.specs.declared.template.ValueTemplate.{ValueTemplate, ValueTemplate-F, fold-ValueTemplate}
@@ -26,9 +33,17 @@ with_answers t (a ∷ rest) = with_answers (spec.with_keywords t (spec.asked a))
 abbrev pub under_name : Bor Text × Template → KeywordTemplate
 under_name e = (e.0.now, e.1)
 
+abbrev pub scalar_view : Scalar → Data
+scalar_view (scalar.Text t) = string t.now
+scalar_view (scalar.Integer n) = number (of_integer n)
+
+abbrev pub scalar_keyword : Bor Text × Scalar → Keyword
+scalar_keyword e = (e.0.now, scalar_view e.1)
+
 -- one node, whose inner templates are seen already
 abbrev pub schema_node : SchemaTemplate-F Template Template → Template
 schema_node (node.Finished s) = spec.finished s
+schema_node (node.Keywords es) = spec.finished (object_of (map scalar_keyword es.items))
 schema_node (node.Asked a) = spec.asked (ask_of a)
 schema_node (node.Object es) = object_with (map under_name es.items)
 schema_node (node.Nullable t) = spec.nullable t.value
@@ -39,6 +54,8 @@ schema_node (node.Tagged tag name closed t) = spec.tagged tag.now name.now close
 
 abbrev pub value_node : ValueTemplate-F Template Template → Template
 value_node (node.Value v) = spec.finished (view v)
+value_node (node.Text t) = spec.finished (string t.now)
+value_node (node.Texts ts) = spec.finished (array (text_items (map (λ t. t.now) ts.items)))
 value_node (node.Schema t) = t
 value_node (node.Schemas ts) = spec.list (templates_of ts.items)
 value_node (node.Named es) = object_with (map under_name es.items)

@@ -8,6 +8,8 @@ ghost use Rattle.schemars_types.specs.Meaning.{is_required};
 ghost use Rattle.schemars_documents.specs.Documents.{byte_document, bytes_document, schema_document, required_names, typed, type_alone, char_document, formatted_document, empty_list_document, annotated, with_title, with_meta_schema, root_document};
 ghost use Rattle.schemars_schema.specs.SchemaData.{IsSchema, members_in, inserted, put_all, put_members};
 
+use crate::shape::scalars::char_keywords;
+use crate::template::scalars::schema_of;
 use schemars_schema::Schema;
 use schemars_types::{Contract, Field, Required};
 use serde_json::{Map, Value};
@@ -24,33 +26,8 @@ pub fn type_alone(alloc: Global, name: &str) -> Result<Schema, AllocError>
 pub fn char_document(alloc: Global) -> Result<Schema, AllocError>
     ensures { IfOk result (λ s. s ≡ char_document) }
 {
-    let mut members = typed(alloc, "string")?;
-    serde_json::put(&mut members, alloc, "minLength", Value::from(1u64))?;
-    serde_json::put(&mut members, alloc, "maxLength", Value::from(1u64))?;
-    Ok(Schema::from(members))
-}
-
-/// A text of this format.
-pub fn formatted_document(alloc: Global, format: &str) -> Result<Schema, AllocError>
-    ensures { IfOk result (λ s. s ≡ formatted_document format.now) }
-{
-    let mut members = typed(alloc, "string")?;
-    serde_json::put(
-        &mut members,
-        alloc,
-        "format",
-        Value::try_from_str(alloc, format)?,
-    )?;
-    Ok(Schema::from(members))
-}
-
-/// A list of no items.
-pub fn empty_list_document(alloc: Global) -> Result<Schema, AllocError>
-    ensures { IfOk result (λ s. s ≡ empty_list_document) }
-{
-    let mut members = typed(alloc, "array")?;
-    serde_json::put(&mut members, alloc, "maxItems", Value::from(0u64))?;
-    Ok(Schema::from(members))
+    let keywords = char_keywords(alloc)?;
+    schema_of(alloc, &keywords)
 }
 
 /// Bytes: a list of them, or, where they are read, a text.
@@ -91,19 +68,18 @@ fn one_of_two(alloc: Global, first: &str, second: &str) -> Result<Map<String, Va
 }
 
 /// The names of the fields that have to be there.
-pub fn required_names(
+pub fn required_names<'t>(
     alloc: Global,
     contract: Contract,
-    fields: &[Field],
-) -> Result<Vec<Value>, AllocError>
-    ensures { IfOk result (λ v. items_view v.items
-        ≡ text_items (required_names contract (map field_of fields.now))) }
+    fields: &'t [Field],
+) -> Result<Vec<&'t str>, AllocError>
+    ensures { IfOk result (λ v. map (λ n. n.now) v.items
+        ≡ required_names contract (map field_of fields.now)) }
 {
     let mut names = Vec::with_capacity(alloc, fields.len())?;
     for field in fields {
         if is_required(contract, field.required) {
-            let name = Value::try_from_str(alloc, field.name.as_str())?;
-            serde_json::push(&mut names, name)?;
+            names.push(field.name.as_str())?;
         }
     }
     Ok(names)

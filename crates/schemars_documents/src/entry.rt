@@ -10,9 +10,7 @@ ghost use Rattle.schemars_documents.specs.Template.{row, finished, nullable};
 ghost use Rattle.schemars_documents.specs.View.{template_view};
 ghost use Rattle.schemars_documents.specs.OfShape.{template_of, entry_template, literal_document};
 
-use crate::documents::{
-    bytes_document, char_document, formatted_document, schema_document, type_alone,
-};
+use crate::documents::{bytes_document, schema_document};
 use crate::integers::{int_document, non_zero_document};
 use crate::shape::adjacent::adjacent_template;
 use crate::shape::choices::{bound_template, either_template, result_template};
@@ -22,10 +20,11 @@ use crate::shape::lists::{
     array_template, seq_template, set_template, tuple_template, up_to_template,
 };
 use crate::shape::maps::{range_template, struct_template};
+use crate::shape::scalars::{char_template, formatted_template, int_template};
 use crate::shape::tagged::internal_template;
 use crate::template::SchemaTemplate;
 use crate::template::basis::Basis;
-use crate::template::nodes::row;
+use crate::template::nodes::{row, type_alone};
 use schemars_schema::Schema;
 use schemars_types::{Contract, IntKind, Shape, TypeEntry, TypeNo};
 use std::alloc::{AllocError, Global};
@@ -55,16 +54,14 @@ fn template_of<'t>(
         ≡ template_of (basis_of basis.now) (shape_of shape.now)) }
 {
     match shape {
-        Shape::Null => Ok(SchemaTemplate::Finished(type_alone(alloc, "null")?)),
-        Shape::Bool => Ok(SchemaTemplate::Finished(type_alone(alloc, "boolean")?)),
-        Shape::Int(kind) => Ok(SchemaTemplate::Finished(int_document(alloc, *kind)?)),
+        Shape::Null => type_alone(alloc, "null"),
+        Shape::Bool => type_alone(alloc, "boolean"),
+        Shape::Int(kind) => int_template(alloc, *kind),
         Shape::NonZero(kind) => Ok(SchemaTemplate::Finished(non_zero_document(alloc, *kind)?)),
-        Shape::Number => Ok(SchemaTemplate::Finished(type_alone(alloc, "number")?)),
-        Shape::Text => Ok(SchemaTemplate::Finished(type_alone(alloc, "string")?)),
-        Shape::Char => Ok(SchemaTemplate::Finished(char_document(alloc)?)),
-        Shape::Formatted(format) => Ok(SchemaTemplate::Finished(formatted_document(
-            alloc, format,
-        )?)),
+        Shape::Number => type_alone(alloc, "number"),
+        Shape::Text => type_alone(alloc, "string"),
+        Shape::Char => char_template(alloc),
+        Shape::Formatted(format) => formatted_template(alloc, format.as_str()),
         Shape::Any => Ok(SchemaTemplate::Finished(Schema::from(true))),
         Shape::Bytes => bytes_template(alloc, basis.contract),
         Shape::SchemaItself => Ok(SchemaTemplate::Finished(schema_document(alloc)?)),

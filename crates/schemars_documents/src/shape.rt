@@ -5,4 +5,5 @@ pub(crate) mod enums;
 pub(crate) mod keyed;
 pub(crate) mod lists;
 pub(crate) mod maps;
+pub(crate) mod scalars;
 pub(crate) mod tagged;

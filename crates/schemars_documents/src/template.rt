@@ -8,8 +8,10 @@ ghost use Rattle.schemars_documents.specs.View.{ask_of, template_view, value_vie
 
 pub mod basis;
 pub mod nodes;
+pub(crate) mod scalars;
 
 use crate::documents::{annotate, set};
+use crate::template::scalars::{schema_of, texts_value};
 use schemars_builders::{allow_null, apply_internal_enum_variant_tag};
 use schemars_flatten::flatten;
 use schemars_schema::Schema;
@@ -29,12 +31,23 @@ pub enum Ask {
     Content(TypeNo),
 }
 
+/// The value of a keyword of a finished schema.
+#[derive(Clone, Copy)]
+pub enum Scalar<'t> {
+    /// A text.
+    Text(&'t str),
+    /// A whole number.
+    Integer(i64),
+}
+
 /// A schema in which rows are asked; their answers are filled in later.
 #[cycle(template)]
 #[derive(Drop)]
 pub enum SchemaTemplate<'t> {
     /// A finished schema.
     Finished(Schema),
+    /// A finished schema of these keywords; of equal keywords the last one counts.
+    Keywords(Vec<(&'t str, Scalar<'t>)>),
     /// The answer of a row.
     Asked(Ask),
     /// An object of these keywords; of equal keywords the last one counts.
@@ -63,6 +76,10 @@ pub enum SchemaTemplate<'t> {
 pub enum ValueTemplate<'t> {
     /// A finished value.
     Value(Value),
+    /// A text.
+    Text(&'t str),
+    /// A list of texts.
+    Texts(Vec<&'t str>),
     /// A schema.
     Schema(SchemaTemplate<'t>),
     /// A list of schemas.
@@ -89,6 +106,7 @@ fn add_asks(template: &SchemaTemplate<'_>, asks: &mut Vec<Ask>) -> Result<(), Al
 {
     match template {
         SchemaTemplate::Finished(_) => Ok(()),
+        SchemaTemplate::Keywords(_) => Ok(()),
         SchemaTemplate::Asked(ask) => Ok(asks.push(*ask)?),
         SchemaTemplate::Object(keywords) => {
             for keyword in keywords {
@@ -115,6 +133,8 @@ fn add_value_asks(template: &ValueTemplate<'_>, asks: &mut Vec<Ask>) -> Result<(
 {
     match template {
         ValueTemplate::Value(_) => Ok(()),
+        ValueTemplate::Text(_) => Ok(()),
+        ValueTemplate::Texts(_) => Ok(()),
         ValueTemplate::Schema(schema) => add_asks(schema, asks),
         ValueTemplate::Schemas(schemas) => {
             for schema in schemas {
@@ -160,6 +180,7 @@ fn fill_schema(
 {
     match template {
         SchemaTemplate::Finished(schema) => Ok(schema),
+        SchemaTemplate::Keywords(keywords) => schema_of(alloc, &keywords),
         SchemaTemplate::Asked(_) => Ok(next_part(parts)),
         SchemaTemplate::Object(keywords) => fill_object(alloc, keywords, parts),
         SchemaTemplate::Nullable(inner) => fill_nullable(alloc, inner, parts),
@@ -302,6 +323,8 @@ fn fill_value(
 {
     match template {
         ValueTemplate::Value(value) => Ok(value),
+        ValueTemplate::Text(text) => Value::try_from_str(alloc, text),
+        ValueTemplate::Texts(texts) => texts_value(alloc, &texts),
         ValueTemplate::Schema(schema) => {
             let schema = fill_schema(alloc, schema, parts)?;
             Ok(schema.to_value())

@@ -8,8 +8,7 @@ ghost use Rattle.schemars_documents.specs.OfShape.{said, adjacent_payload, adjac
 use crate::shape::enums::payload_template;
 use crate::shape::maps::whole_template;
 use crate::template::SchemaTemplate;
-use crate::template::nodes::one_of;
-use schemars_builders::new_unit_enum_variant;
+use crate::template::nodes::{one_of, unit};
 use schemars_schema::Schema;
 use schemars_types::{Adjacent, Contract, Payload, Variant};
 use std::alloc::{AllocError, Global};
@@ -88,8 +87,8 @@ fn members<'t>(
         ≡ said tag.now (unit_variant (variant_of variant.now).name)
         ∷ adjacent_payload contract content.now (variant_of variant.now).payload) }
 {
-    let name = new_unit_enum_variant(alloc, variant.name.as_str())?;
-    let mut members = vec![in alloc; (tag, SchemaTemplate::Finished(name))]?;
+    let name = unit(alloc, variant.name.as_str())?;
+    let mut members = vec![in alloc; (tag, name)]?;
     add_payload(alloc, contract, content, &variant.payload, &mut members)?;
     Ok(members)
 }

@@ -7,8 +7,7 @@ ghost use Rattle.schemars_documents.specs.OfShape.{member_template, result_templ
 
 use crate::shape::maps::member_template;
 use crate::template::SchemaTemplate;
-use crate::template::nodes::{one_of, row};
-use schemars_builders::new_unit_enum_variant;
+use crate::template::nodes::{one_of, row, unit};
 use schemars_types::TypeNo;
 use std::alloc::{AllocError, Global};
 
@@ -66,12 +65,11 @@ fn two_members<'t>(
 fn add_unit<'t>(
     alloc: Global,
     choices: &mut Vec<SchemaTemplate<'t>>,
-    name: &str,
+    name: &'t str,
 ) -> Result<(), AllocError>
     ensures { OnOk result (map template_view choices.new.items
         ≡ map template_view choices.old.items ++ finished (unit_variant name.now) ∷ []) }
 {
-    let unit = new_unit_enum_variant(alloc, name)?;
-    choices.push(SchemaTemplate::Finished(unit))?;
+    choices.push(unit(alloc, name)?)?;
     Ok(())
 }

@@ -1,23 +1,19 @@
 //! The templates of enums whose variants are tagged by their names, or by nothing.
 ghost use Rattle.std.specs.Prelude.{◌≡◌, ◌∷◌, [], codes, map, IfOk};
 ghost use Rattle.serde_json.specs.Data.{array};
-ghost use Rattle.serde_json.specs.View.{items_view};
 ghost use Rattle.schemars_shapes.specs.Shape.{payload_of, variant_of};
 ghost use Rattle.schemars_builders.specs.NullLaw.{text_items};
 ghost use Rattle.schemars_documents.specs.Template.{noted};
 ghost use Rattle.schemars_documents.specs.View.{template_view};
 ghost use Rattle.schemars_documents.specs.OfShape.{object_with, typed_template, said, payload_template, named_template, bare_units, other_items, external_template, payload_item, untagged_template, titled};
 
-use crate::documents::type_alone;
 use crate::shape::lists::tuple_template;
 use crate::shape::maps::{member_template, struct_template, typed};
-use crate::template::nodes::{any_of, object_with, one_of, row};
+use crate::template::nodes::{any_of, object_with, one_of, row, type_alone, unit};
 use crate::template::{SchemaTemplate, ValueTemplate};
-use schemars_builders::new_unit_enum_variant;
 use schemars_schema::Schema;
 use schemars_shapes::is_bare_unit;
 use schemars_types::{Contract, Payload, Variant};
-use serde_json::Value;
 use std::alloc::{AllocError, Global};
 
 /// A choice of the shared item of units without notes, if there is one, and the other items. The
@@ -63,15 +59,14 @@ pub fn untagged_template<'t>(
     any_of(alloc, items)
 }
 
-fn bare_units(alloc: Global, variants: &[Variant]) -> Result<Vec<Value>, AllocError>
-    ensures { IfOk result (λ v. items_view v.items
-        ≡ text_items (bare_units (map variant_of variants.now))) }
+fn bare_units<'t>(alloc: Global, variants: &'t [Variant]) -> Result<Vec<&'t str>, AllocError>
+    ensures { IfOk result (λ v. map (λ n. n.now) v.items
+        ≡ bare_units (map variant_of variants.now)) }
 {
     let mut names = Vec::with_capacity(alloc, variants.len())?;
     for variant in variants {
         if is_bare_unit(variant) {
-            let name = Value::try_from_str(alloc, variant.name.as_str())?;
-            serde_json::push(&mut names, name)?;
+            names.push(variant.name.as_str())?;
         }
     }
     Ok(names)
@@ -120,13 +115,13 @@ fn noted<'t>(
     Ok(SchemaTemplate::Noted(&variant.notes, Box::new(alloc, template)?))
 }
 
-fn units_template<'t>(alloc: Global, names: Vec<Value>) -> Result<SchemaTemplate<'t>, AllocError>
+fn units_template<'t>(alloc: Global, names: Vec<&'t str>) -> Result<SchemaTemplate<'t>, AllocError>
     ensures { IfOk result (λ t. template_view t
         ≡ object_with (typed_template (codes "string")
-        ∷ said (codes "enum") (array (items_view names.items)) ∷ [])) }
+        ∷ said (codes "enum") (array (text_items (map (λ n. n.now) names.entry.items))) ∷ [])) }
 {
     let mut keywords: Vec<(&'t str, ValueTemplate<'t>)> = typed(alloc, "string")?;
-    keywords.push(("enum", ValueTemplate::Value(Value::Array(names))))?;
+    keywords.push(("enum", ValueTemplate::Texts(names)))?;
     Ok(object_with(keywords))
 }
 
@@ -153,8 +148,7 @@ fn named_template<'t>(
         ≡ named_template contract name.now (payload_of payload.now)) }
 {
     if let Payload::Unit = payload {
-        let unit = new_unit_enum_variant(alloc, name)?;
-        return Ok(SchemaTemplate::Finished(unit));
+        return unit(alloc, name);
     }
     let part = payload_template(alloc, contract, payload)?;
     member_template(alloc, name, part, true)
@@ -218,7 +212,7 @@ pub(crate) fn payload_template<'t>(
         ≡ payload_template contract (payload_of payload.now)) }
 {
     match payload {
-        Payload::Unit => Ok(SchemaTemplate::Finished(type_alone(alloc, "null")?)),
+        Payload::Unit => type_alone(alloc, "null"),
         Payload::Newtype(n) => Ok(row(*n)),
         Payload::Tuple(parts) => tuple_template(alloc, parts),
         Payload::Struct(fields) => struct_template(alloc, contract, fields),

@@ -4,7 +4,7 @@ ghost use Rattle.schemars_documents.specs.Template.{row};
 ghost use Rattle.schemars_documents.specs.View.{template_view};
 ghost use Rattle.schemars_documents.specs.OfShape.{list_template, set_template, array_template, up_to_template, tuple_template};
 
-use crate::documents::empty_list_document;
+use crate::shape::scalars::empty_list_template;
 use crate::template::nodes::{count, object_with, row, row_value, text, truth};
 use crate::template::{SchemaTemplate, ValueTemplate};
 use schemars_types::TypeNo;
@@ -14,8 +14,7 @@ use std::alloc::{AllocError, Global};
 pub fn seq_template<'t>(alloc: Global, item: TypeNo) -> Result<SchemaTemplate<'t>, AllocError>
     ensures { IfOk result (λ t. template_view t ≡ list_template item []) }
 {
-    let array = text(alloc, "array")?;
-    let keywords = vec![in alloc; ("type", array), ("items", row_value(item))]?;
+    let keywords = vec![in alloc; ("type", text("array")), ("items", row_value(item))]?;
     Ok(object_with(keywords))
 }
 
@@ -23,9 +22,8 @@ pub fn seq_template<'t>(alloc: Global, item: TypeNo) -> Result<SchemaTemplate<'t
 pub fn set_template<'t>(alloc: Global, item: TypeNo) -> Result<SchemaTemplate<'t>, AllocError>
     ensures { IfOk result (λ t. template_view t ≡ set_template item) }
 {
-    let array = text(alloc, "array")?;
     let keywords = vec![in alloc;
-        ("type", array),
+        ("type", text("array")),
         ("items", row_value(item)),
         ("uniqueItems", truth(true)),
     ]?;
@@ -41,11 +39,10 @@ pub fn array_template<'t>(
     ensures { IfOk result (λ t. template_view t ≡ array_template item len) }
 {
     if len == 0 {
-        return Ok(SchemaTemplate::Finished(empty_list_document(alloc)?));
+        return empty_list_template(alloc);
     }
-    let array = text(alloc, "array")?;
     let keywords = vec![in alloc;
-        ("type", array),
+        ("type", text("array")),
         ("items", row_value(item)),
         ("minItems", count(len)),
         ("maxItems", count(len)),
@@ -61,9 +58,8 @@ pub fn up_to_template<'t>(
 ) -> Result<SchemaTemplate<'t>, AllocError>
     ensures { IfOk result (λ t. template_view t ≡ up_to_template item cap) }
 {
-    let array = text(alloc, "array")?;
     let keywords = vec![in alloc;
-        ("type", array),
+        ("type", text("array")),
         ("items", row_value(item)),
         ("maxItems", count(cap)),
     ]?;
@@ -75,13 +71,12 @@ pub fn tuple_template<'t>(alloc: Global, parts: &[TypeNo]) -> Result<SchemaTempl
     ensures { IfOk result (λ t. template_view t ≡ tuple_template parts.now) }
 {
     if parts.is_empty() {
-        return Ok(SchemaTemplate::Finished(empty_list_document(alloc)?));
+        return empty_list_template(alloc);
     }
     let len = parts.len() as u64;
-    let array = text(alloc, "array")?;
     let items = rows_in_order(alloc, parts)?;
     let keywords = vec![in alloc;
-        ("type", array),
+        ("type", text("array")),
         ("prefixItems", ValueTemplate::Schemas(items)),
         ("minItems", count(len)),
         ("maxItems", count(len)),

@@ -1,6 +1,5 @@
 //! The templates of maps by their members, as those of structs.
 ghost use Rattle.std.specs.Prelude.{◌≡◌, ◌∷◌, ◌++◌, [], map, IfOk, OnOk};
-ghost use Rattle.serde_json.specs.View.{items_view};
 ghost use Rattle.schemars_shapes.specs.Shape.{field_of, flattened_of, fields_of};
 ghost use Rattle.schemars_builders.specs.NullLaw.{text_items};
 ghost use Rattle.schemars_documents.specs.View.{ask_of, template_view, keyword_view, property_view};
@@ -10,19 +9,18 @@ use crate::documents::{is_required, required_names};
 use crate::template::nodes::{named, object_with, row, text, truth};
 use crate::template::{Ask, SchemaTemplate, ValueTemplate};
 use schemars_types::{Contract, Field, Fields, Flattened, TypeNo};
-use serde_json::Value;
 use std::alloc::{AllocError, Global};
 
 /// A map with these properties.
 pub fn map_template<'t>(
     alloc: Global,
     properties: Vec<(&'t str, SchemaTemplate<'t>)>,
-    required: Vec<Value>,
+    required: Vec<&'t str>,
     closed: bool,
 ) -> Result<SchemaTemplate<'t>, AllocError>
     ensures { IfOk result (λ t. template_view t
         ≡ map_template (map property_view properties.entry.items)
-        (items_view required.items) closed) }
+        (text_items (map (λ n. n.now) required.entry.items)) closed) }
 {
     let mut keywords: Vec<(&'t str, ValueTemplate<'t>)> = typed(alloc, "object")?;
     add_properties(&mut keywords, properties)?;
@@ -32,12 +30,14 @@ pub fn map_template<'t>(
 }
 
 /// The keyword `type` with this name, with room for the three others of a map.
-pub fn typed<'t>(alloc: Global, name: &str) -> Result<Vec<(&'t str, ValueTemplate<'t>)>, AllocError>
+pub fn typed<'t>(
+    alloc: Global,
+    name: &'t str,
+) -> Result<Vec<(&'t str, ValueTemplate<'t>)>, AllocError>
     ensures { IfOk result (λ v. map keyword_view v.items ≡ typed_template name.now ∷ []) }
 {
-    let name = text(alloc, name)?;
     let mut keywords: Vec<(&'t str, ValueTemplate<'t>)> = Vec::with_capacity(alloc, 4)?;
-    keywords.push(("type", name))?;
+    keywords.push(("type", text(name)))?;
     Ok(keywords)
 }
 
@@ -59,15 +59,16 @@ pub fn add_properties<'t>(
 
 fn add_required<'t>(
     keywords: &mut Vec<(&'t str, ValueTemplate<'t>)>,
-    required: Vec<Value>,
+    required: Vec<&'t str>,
 ) -> Result<(), AllocError>
     ensures { OnOk result (map keyword_view keywords.new.items
-        ≡ map keyword_view keywords.old.items ++ required_at (items_view required.items)) }
+        ≡ map keyword_view keywords.old.items
+        ++ required_at (text_items (map (λ n. n.now) required.entry.items))) }
 {
     if required.is_empty() {
         return Ok(());
     }
-    keywords.push(("required", ValueTemplate::Value(Value::Array(required))))?;
+    keywords.push(("required", ValueTemplate::Texts(required)))?;
     Ok(())
 }
 
@@ -173,7 +174,7 @@ pub fn member_template<'t>(
         ≡ member_template closed name.now (template_view part.entry)) }
 {
     let properties: Vec<(&'t str, SchemaTemplate<'t>)> = vec![in alloc; (name, part)]?;
-    let required = vec![in alloc; Value::try_from_str(alloc, name)?]?;
+    let required = vec![in alloc; name]?;
     map_template(alloc, properties, required, closed)
 }
 
@@ -193,14 +194,13 @@ pub fn whole_template<'t>(
 fn names<'t>(
     alloc: Global,
     properties: &[(&'t str, SchemaTemplate<'t>)],
-) -> Result<Vec<Value>, AllocError>
-    ensures { IfOk result (λ v. items_view v.items
-        ≡ text_items (map (λ e. e.0) (map property_view properties.now))) }
+) -> Result<Vec<&'t str>, AllocError>
+    ensures { IfOk result (λ v. map (λ n. n.now) v.items
+        ≡ map (λ e. e.0) (map property_view properties.now)) }
 {
     let mut names = Vec::with_capacity(alloc, properties.len())?;
     for property in properties {
-        let name = Value::try_from_str(alloc, property.0)?;
-        serde_json::push(&mut names, name)?;
+        names.push(property.0)?;
     }
     Ok(names)
 }
@@ -213,8 +213,6 @@ pub fn range_template<'t>(alloc: Global, n: TypeNo) -> Result<SchemaTemplate<'t>
         ("start", row(n)),
         ("end", row(n)),
     ]?;
-    let start = Value::try_from_str(alloc, "start")?;
-    let end = Value::try_from_str(alloc, "end")?;
-    let required = vec![in alloc; start, end]?;
+    let required = vec![in alloc; "start", "end"]?;
     map_template(alloc, properties, required, false)
 }

@@ -4,9 +4,8 @@ ghost use Rattle.schemars_shapes.specs.Shape.{internal_payload_of, internal_vari
 ghost use Rattle.schemars_documents.specs.View.{template_view};
 ghost use Rattle.schemars_documents.specs.OfShape.{content_template, internal_item, internal_template};
 
-use crate::documents::type_alone;
 use crate::shape::maps::struct_template;
-use crate::template::nodes::one_of;
+use crate::template::nodes::{one_of, type_alone};
 use crate::template::{Ask, SchemaTemplate};
 use schemars_schema::Schema;
 use schemars_types::{Contract, Internal, InternalPayload, InternalVariant};
@@ -81,7 +80,7 @@ fn content_template<'t>(
         ≡ content_template contract (internal_payload_of payload.now)) }
 {
     match payload {
-        InternalPayload::Unit => Ok(SchemaTemplate::Finished(type_alone(alloc, "null")?)),
+        InternalPayload::Unit => type_alone(alloc, "null"),
         InternalPayload::Newtype(n) => Ok(SchemaTemplate::Asked(Ask::Content(*n))),
         InternalPayload::Struct(fields) => struct_template(alloc, contract, fields),
     }

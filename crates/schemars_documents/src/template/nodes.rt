@@ -1,20 +1,51 @@
 //! Templates of one node.
 ghost use Rattle.std.specs.Prelude.{◌≡◌, ◌∷◌, [], map, IfOk};
 ghost use Rattle.serde_json.specs.Data.{string, number, unsigned, boolean};
+ghost use Rattle.schemars_schema.specs.SchemaData.{object_of};
+ghost use Rattle.schemars_builders.specs.Variants.{unit_variant};
+ghost use Rattle.schemars_documents.specs.Documents.{type_alone};
 ghost use Rattle.schemars_documents.specs.Template.{row, finished, list};
-ghost use Rattle.schemars_documents.specs.View.{template_view, value_view, keyword_view, property_view};
+ghost use Rattle.schemars_documents.specs.View.{template_view, value_view, keyword_view, property_view, scalar_keyword};
 ghost use Rattle.schemars_documents.specs.OfShape.{object_with, templates_of, one_of_template, any_of_template};
 
-use crate::template::{Ask, SchemaTemplate, ValueTemplate};
+use crate::template::{Ask, Scalar, SchemaTemplate, ValueTemplate};
 use schemars_types::TypeNo;
 use serde_json::Value;
 use std::alloc::{AllocError, Global};
 
-/// This text.
-pub fn text<'t>(alloc: Global, text: &str) -> Result<ValueTemplate<'t>, AllocError>
-    ensures { IfOk result (λ t. value_view t ≡ finished (string text.now)) }
+/// A finished schema of these keywords.
+#[tactic(auto, using(crate::proofs::Templates::seen_keywords))]
+pub fn keywords<'t>(keywords: Vec<(&'t str, Scalar<'t>)>) -> SchemaTemplate<'t>
+    ensures { template_view result
+        ≡ finished (object_of (map scalar_keyword keywords.entry.items)) }
 {
-    Ok(ValueTemplate::Value(Value::try_from_str(alloc, text)?))
+    SchemaTemplate::Keywords(keywords)
+}
+
+/// The schema of all values of one JSON type.
+pub fn type_alone<'t>(alloc: Global, name: &'t str) -> Result<SchemaTemplate<'t>, AllocError>
+    ensures { IfOk result (λ t. template_view t ≡ finished (type_alone name.now)) }
+{
+    let one = vec![in alloc; ("type", Scalar::Text(name))]?;
+    Ok(keywords(one))
+}
+
+/// A unit by its name.
+pub fn unit<'t>(alloc: Global, name: &'t str) -> Result<SchemaTemplate<'t>, AllocError>
+    ensures { IfOk result (λ t. template_view t ≡ finished (unit_variant name.now)) }
+{
+    let both = vec![in alloc;
+        ("type", Scalar::Text("string")),
+        ("const", Scalar::Text(name)),
+    ]?;
+    Ok(keywords(both))
+}
+
+/// This text.
+pub fn text<'t>(text: &'t str) -> ValueTemplate<'t>
+    ensures { value_view result ≡ finished (string text.now) }
+{
+    ValueTemplate::Text(text)
 }
 
 /// This number.

@@ -1,5 +1,5 @@
 use Rattle.std.proofs.Common.{◌++◌, map, ap, ◌∙◌, codes}
-use Rattle.serde_json.specs.View.{items_view}
+use Rattle.schemars_builders.specs.NullLaw.{text_items}
 use Rattle.schemars_documents.specs.View.{property_view}
 use Rattle.schemars_documents.specs.OfShape.{object_with, typed_template, properties_at, required_at, closed_keyword}
 use Rattle.schemars_documents.proofs.Templates.{in_order}
@@ -8,7 +8,7 @@ use Rattle.schemars_documents.proofs.shape.maps.map_template.Goals as goal
 pub returns : goal.returns
 returns c =
     let ps = properties_at (map property_view c.args.properties.items) in
-    let rs = required_at (items_view c.args.required.items) in
+    let rs = required_at (text_items (map (λ n. n.now) c.args.required.items)) in
     let cs = closed_keyword c.args.closed in
     let all = c.in_ok-add_closed.ensures
     ∙ (ap (λ es. es ++ cs)
