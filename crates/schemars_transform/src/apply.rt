@@ -35,9 +35,10 @@ pub fn apply_all<O: Transform + Drop>(
         transforms.new.items schema.new }
 {
     if transforms.len() < 2 || !are_local(transforms) {
-        return apply_each(alloc, transforms, schema);
+        return apply_each(alloc, transforms, schema, None);
     }
-    if are_idle(transforms, needs_of(schema.as_value())) {
+    let needs = needs_of(schema);
+    if are_idle(transforms, needs) {
         return Ok(());
     }
     if let Some(definitions) = take_names(alloc, schema, "$defs") {
@@ -46,15 +47,42 @@ pub fn apply_all<O: Transform + Drop>(
     if let Some(definitions) = take_names(alloc, schema, "definitions") {
         return apply_apart(alloc, transforms, schema, "definitions", definitions);
     }
-    apply_each(alloc, transforms, schema)
+    apply_each(alloc, transforms, schema, Some(needs))
 }
 
-/// Returns whether built-in transforms leave a schema as it is, found by one walk that changes
-/// nothing. `false` says nothing.
-pub fn leave_unchanged<O>(transforms: &[GenTransform<O>], schema: &Schema) -> bool
-    ensures { result ≡ true → made_by transforms.now schema.now ≡ schema.now }
+/// Applies transforms to a schema with these needs, one after another, as their list does, and
+/// passes over built-in ones that would change nothing.
+///
+/// # Errors
+///
+/// The first error of a transform; later ones are not called.
+pub fn apply_needed<O: Transform>(
+    alloc: Global,
+    transforms: &mut Vec<GenTransform<O>>,
+    schema: &mut Schema,
+    needs: Needs,
+) -> Result<(), TransformError>
+    requires { needs ≡ needs_of schema.old }
+    ensures { InOrder (OfMember O.makes) transforms.old.items schema.old result
+        transforms.new.items schema.new }
 {
-    are_idle(transforms, needs_of(schema.as_value()))
+    apply_each(alloc, transforms, schema, Some(needs))
+}
+
+/// Returns whether each of the transforms is a built-in one that leaves every schema with these
+/// needs as it is. `false` says nothing.
+pub fn are_idle<O>(transforms: &[GenTransform<O>], needs: Needs) -> bool
+    ensures value { result ≡ are_idle transforms.now needs }
+    ensures unchanged { result ≡ true → (d : Data) → needs_of d ≡ needs
+        → made_by transforms.now d ≡ d }
+{
+    all_idle(transforms, needs)
+}
+
+fn all_idle<O>(transforms: &[GenTransform<O>], needs: Needs) -> bool
+    ensures { result ≡ are_idle transforms.now needs }
+{
+    transforms.iter().all(|t| is_idle(t, needs))
 }
 
 // Applies transforms to the definitions that were taken out of a schema, and to what was left.
@@ -74,7 +102,7 @@ fn apply_apart<O: Transform + Drop>(
 {
     let mut definitions = definitions;
     apply_to_members(alloc, transforms, &mut definitions)?;
-    apply_each(alloc, transforms, schema)?;
+    apply_each(alloc, transforms, schema, None)?;
     put_names(schema, key, definitions);
     Ok(())
 }
@@ -139,11 +167,13 @@ fn apply_each<O: Transform>(
     alloc: Global,
     transforms: &mut Vec<GenTransform<O>>,
     schema: &mut Schema,
+    needs: Option<Needs>,
 ) -> Result<(), TransformError>
+    requires { IfSome needs (λ known. known ≡ needs_of schema.old) }
     ensures { InOrder (OfMember O.makes) transforms.old.items schema.old result
         transforms.new.items schema.new }
 {
-    let mut needs = None;
+    let mut needs = needs;
     for transform in transforms.iter_mut() {
         apply_one(alloc, transform, schema, &mut needs)?;
     }
@@ -185,7 +215,7 @@ impl<O: Transform> Transform for Sparing<O> {
     ghost makes = { λ t s r u v. ApplyInOrder O.makes t.transforms s r u.transforms v };
 
     fn transform(&mut self, alloc: Global, schema: &mut Schema) -> Result<(), TransformError> {
-        apply_each(alloc, &mut self.transforms, schema)
+        apply_each(alloc, &mut self.transforms, schema, None)
     }
 }
 
@@ -220,18 +250,11 @@ fn known_needs(schema: &Schema, needs: &mut Option<Needs>) -> Needs
     match *needs {
         Some(known) => known,
         None => {
-            let found = needs_of(schema.as_value());
+            let found = needs_of(schema);
             *needs = Some(found);
             found
         }
     }
-}
-
-// Whether each of the transforms leaves every schema inside one with these needs as it is.
-fn are_idle<O>(transforms: &[GenTransform<O>], needs: Needs) -> bool
-    ensures { result ≡ are_idle transforms.now needs }
-{
-    transforms.iter().all(|t| is_idle(t, needs))
 }
 
 // Whether a transform leaves every schema inside one with these needs as it is.

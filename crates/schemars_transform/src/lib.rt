@@ -9,7 +9,7 @@ mod gen_transform;
 mod needs;
 mod no_transform;
 
-pub use apply::{apply_all, apply_to_members, leave_unchanged};
+pub use apply::{apply_all, apply_needed, apply_to_members, are_idle};
 pub use built_in::bool_schemas::ReplaceBoolSchemas;
 pub use built_in::const_value::ReplaceConstValue;
 pub use built_in::formats::RestrictFormats;
@@ -22,4 +22,5 @@ pub use built_in::unevaluated::ReplaceUnevaluatedProperties;
 pub use copies::try_clone_all;
 pub use error::CloneError;
 pub use gen_transform::GenTransform;
+pub use needs::{Keyword, Needs, needs_of};
 pub use no_transform::NoTransform;

@@ -3,15 +3,16 @@ ghost use Rattle.std.specs.Prelude.{◌≡◌};
 ghost use Rattle.serde_json.specs.Data.{member, no_members};
 ghost use Rattle.serde_json.specs.View.{view, items_view, members_view};
 ghost use Rattle.schemars_walk.specs.Walk.{place_meant};
-ghost use Rattle.schemars_transform.specs.Needs.{keyword_named, place_asked, is_changed, with_keyword, needed, needed_at, needs_of, needed_by_items, needed_by_names, needed_by_keywords};
+ghost use Rattle.schemars_transform.specs.Needs.{no_needs, keyword_named, place_asked, is_changed, with_keyword, needed, needed_at, needs_of, needed_by_items, needed_by_names, needed_by_keywords};
 
 use crate::built_in::nullable::has_null;
+use schemars_schema::Schema;
 use schemars_walk::rewrite::place::{Place, place_under};
 use serde_json::{Map, Value};
 
-/// What a schema has, or a schema inside it, that a transform changes.
+/// What a schema has, or a schema inside it, that built-in transforms change.
 #[derive(Clone, Copy)]
-pub(crate) struct Needs {
+pub struct Needs {
     /// A truth value as a schema, other than under `additionalProperties`.
     pub(crate) truth_value: bool,
     /// A truth value under `additionalProperties`.
@@ -30,35 +31,126 @@ pub(crate) struct Needs {
     pub(crate) unevaluated: bool,
 }
 
-// A keyword that a transform looks for.
+/// What a schema has, or a schema inside it, that built-in transforms change, found by one walk.
+pub fn needs_of(schema: &Schema) -> Needs
+    ensures { result ≡ needs_of schema.now }
+{
+    let mut needs = Needs::none();
+    add_schema(schema.as_value(), &mut needs);
+    needs
+}
+
+impl Needs {
+    /// Nothing that a built-in transform changes.
+    pub fn none() -> Needs
+        ensures { result ≡ no_needs }
+    {
+        Needs {
+            truth_value: false,
+            additional: false,
+            reference: false,
+            examples: false,
+            constant: false,
+            prefix_items: false,
+            null_type: false,
+            unevaluated: false,
+        }
+    }
+
+    /// Adds what a value needs as a schema.
+    pub fn add_schema(&mut self, value: &Value)
+        ensures { self.new ≡ (needed (view value.now) self.old).as_schema }
+    {
+        add_schema(value, self);
+    }
+
+    /// Adds what the schemas in a value need that stands at this place.
+    pub fn add_at(&mut self, place: Place, value: &Value)
+        ensures { self.new
+            ≡ needed_at (place_meant place) self.old (needed (view value.now) self.old) }
+    {
+        add_at(place, value, self);
+    }
+
+    /// Adds what a keyword needs, which is alone in its object or not, and the schemas in its
+    /// value.
+    pub fn add_keyword(&mut self, alone: bool, key: &str, value: &Value)
+        ensures { self.new ≡ needed_by_keywords alone (member key.now (view value.now) no_members)
+            self.old }
+    {
+        add_keyword(alone, key, value, self);
+    }
+
+    /// Notes a keyword, if a transform changes its value.
+    pub fn note(&mut self, keyword: Keyword, changed: bool)
+        ensures { self.new ≡ with_keyword keyword changed self.old }
+    {
+        match keyword {
+            Keyword::Other => {}
+            Keyword::Additional => self.additional = self.additional || changed,
+            Keyword::Reference => self.reference = self.reference || changed,
+            Keyword::Examples => self.examples = self.examples || changed,
+            Keyword::Const => self.constant = self.constant || changed,
+            Keyword::PrefixItems => self.prefix_items = self.prefix_items || changed,
+            Keyword::Types => self.null_type = self.null_type || changed,
+            Keyword::Unevaluated => self.unevaluated = self.unevaluated || changed,
+        }
+    }
+}
+
+/// A keyword that built-in transforms look for, or another one.
 #[derive(Clone, Copy)]
-enum Keyword {
+pub enum Keyword {
+    /// No built-in transform looks for it.
     Other,
+    /// `additionalProperties`.
     Additional,
+    /// `$ref`.
     Reference,
+    /// `examples`.
     Examples,
+    /// `const`.
     Const,
+    /// `prefixItems`.
     PrefixItems,
+    /// `type`.
     Types,
+    /// `unevaluatedProperties`.
     Unevaluated,
 }
 
-/// What a schema needs.
-pub(crate) fn needs_of(schema: &Value) -> Needs
-    ensures { result ≡ needs_of (view schema.now) }
-{
-    let mut needs = Needs {
-        truth_value: false,
-        additional: false,
-        reference: false,
-        examples: false,
-        constant: false,
-        prefix_items: false,
-        null_type: false,
-        unevaluated: false,
-    };
-    add_schema(schema, &mut needs);
-    needs
+impl Keyword {
+    /// The keyword of this name.
+    pub fn named(key: &str) -> Keyword
+        ensures { result ≡ keyword_named key.now }
+    {
+        match key.len() {
+            4 if key == "type" => Keyword::Types,
+            4 if key == "$ref" => Keyword::Reference,
+            5 if key == "const" => Keyword::Const,
+            8 if key == "examples" => Keyword::Examples,
+            11 if key == "prefixItems" => Keyword::PrefixItems,
+            20 if key == "additionalProperties" => Keyword::Additional,
+            21 if key == "unevaluatedProperties" => Keyword::Unevaluated,
+            _ => Keyword::Other,
+        }
+    }
+
+    /// Returns whether a transform changes this value of the keyword, which is alone in its object
+    /// or not.
+    pub fn is_changed(self, alone: bool, value: &Value) -> bool
+        ensures { result ≡ is_changed self alone (view value.now) }
+    {
+        match self {
+            Keyword::Other => false,
+            Keyword::Additional => value.is_boolean(),
+            Keyword::Reference => !alone,
+            Keyword::Examples | Keyword::Const | Keyword::PrefixItems | Keyword::Unevaluated => {
+                true
+            }
+            Keyword::Types => has_null(value),
+        }
+    }
 }
 
 #[cycle(needs)]
@@ -90,8 +182,8 @@ fn add_keyword(alone: bool, key: &str, value: &Value, needs: &mut Needs)
     ensures { needs.new ≡ needed_by_keywords alone (member key.now (view value.now) no_members)
         needs.old }
 {
-    let keyword = keyword_named(key);
-    note(keyword, is_changed(keyword, alone, value), needs);
+    let keyword = Keyword::named(key);
+    needs.note(keyword, keyword.is_changed(alone, value));
     add_at(place_asked(key, value), value, needs);
 }
 
@@ -147,48 +239,5 @@ fn place_asked(key: &str, value: &Value) -> Place
         Place::Nothing
     } else {
         place_under(key)
-    }
-}
-
-fn keyword_named(key: &str) -> Keyword
-    ensures { result ≡ keyword_named key.now }
-{
-    match key.len() {
-        4 if key == "type" => Keyword::Types,
-        4 if key == "$ref" => Keyword::Reference,
-        5 if key == "const" => Keyword::Const,
-        8 if key == "examples" => Keyword::Examples,
-        11 if key == "prefixItems" => Keyword::PrefixItems,
-        20 if key == "additionalProperties" => Keyword::Additional,
-        21 if key == "unevaluatedProperties" => Keyword::Unevaluated,
-        _ => Keyword::Other,
-    }
-}
-
-// Whether a transform changes what is under a keyword.
-fn is_changed(keyword: Keyword, alone: bool, value: &Value) -> bool
-    ensures { result ≡ is_changed keyword alone (view value.now) }
-{
-    match keyword {
-        Keyword::Other => false,
-        Keyword::Additional => value.is_boolean(),
-        Keyword::Reference => !alone,
-        Keyword::Examples | Keyword::Const | Keyword::PrefixItems | Keyword::Unevaluated => true,
-        Keyword::Types => has_null(value),
-    }
-}
-
-fn note(keyword: Keyword, changed: bool, needs: &mut Needs)
-    ensures { needs.new ≡ with_keyword keyword changed needs.old }
-{
-    match keyword {
-        Keyword::Other => {}
-        Keyword::Additional => needs.additional = needs.additional || changed,
-        Keyword::Reference => needs.reference = needs.reference || changed,
-        Keyword::Examples => needs.examples = needs.examples || changed,
-        Keyword::Const => needs.constant = needs.constant || changed,
-        Keyword::PrefixItems => needs.prefix_items = needs.prefix_items || changed,
-        Keyword::Types => needs.null_type = needs.null_type || changed,
-        Keyword::Unevaluated => needs.unevaluated = needs.unevaluated || changed,
     }
 }

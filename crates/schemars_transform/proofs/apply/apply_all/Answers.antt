@@ -6,7 +6,7 @@ use Rattle.schemars_transform.proofs.apply.apply_all.Goals as goal
 
 pub returns-then-are_idle : goal.returns-then-are_idle
 returns-then-are_idle g c =
-    let transforms = ap (λ ts. are_idle ts c.needs_of.result) c.deref-2.ensures.value in
-    let needs = ap (are_idle c.args.transforms.now.items) (c.needs_of.ensures ∙ ap needs_of c.as_value.ensures.value) in
+    let transforms = ap (λ ts. are_idle ts c.needs_of-needs.result) c.deref-2.ensures.value in
+    let needs = ap (are_idle c.args.transforms.now.items) c.needs_of-needs.ensures in
     idle_list g.O.Transform.makes c.args.transforms.now.items c.args.schema.now
-    (sym (transforms ∙ needs) ∙ (sym c.are_idle.ensures ∙ c.if-are_idle.true))
+    (sym (transforms ∙ needs) ∙ (sym c.are_idle.ensures.value ∙ c.if-are_idle.true))

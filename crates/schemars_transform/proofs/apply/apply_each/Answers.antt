@@ -9,7 +9,7 @@ use Rattle.schemars_transform.proofs.apply.apply_each.Goals as goal
 
 pub loop-transform-init : goal.loop-transform-init
 loop-transform-init g c = record {
-  needs = tt;
+  needs = c.requires;
   goes_on = order_begins (OfMember g.O.Transform.makes) c.args.transforms.now.items c.deref_mut-transform-items.result.now
       c.args.schema.now c.deref_mut-transform-items.ensures.value;
 }
