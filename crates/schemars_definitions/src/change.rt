@@ -1,8 +1,10 @@
 //! What is made of each definition before it is written.
 ghost use Rattle.std.specs.Prelude.{◌≡◌, true, OnOk};
 ghost use Rattle.serde_json.specs.Data.{Data};
+ghost use Rattle.schemars_transform.specs.Needs.{needs_of};
 
 use schemars_schema::Schema;
+use schemars_transform::Needs;
 use std::alloc::{AllocError, Global};
 
 /// What is made of each definition before it is written, as a dialect's built-in transforms do.
@@ -16,17 +18,18 @@ pub trait Change {
     fn changes_nothing(&self) -> bool
         ensures { result ≡ true → (d : Data) → made d ≡ d };
 
-    /// Returns whether this schema stays as it is. `false` says nothing.
-    fn leaves(&self, schema: &Schema) -> bool
-        ensures { result ≡ true → made schema.now ≡ schema.now };
+    /// Returns whether every schema with these needs stays as it is. `false` says nothing.
+    fn leaves(&self, needs: Needs) -> bool
+        ensures { result ≡ true → (d : Data) → needs_of d ≡ needs → made d ≡ d };
 
-    /// Makes of a schema what is made of it. After an error it is still a schema, with unspecified
-    /// content.
+    /// Makes of a schema with these needs what is made of it. After an error it is still a schema,
+    /// with unspecified content.
     ///
     /// # Errors
     ///
     /// `AllocError` if memory runs out.
-    fn change(&mut self, alloc: Global, schema: &mut Schema) -> Result<(), AllocError>
+    fn change(&mut self, alloc: Global, schema: &mut Schema, needs: Needs) -> Result<(), AllocError>
+        requires { needs ≡ needs_of schema.old }
         ensures { OnOk result (schema.new ≡ made schema.old) };
 }
 
@@ -41,11 +44,16 @@ impl Change for Unchanged {
         true
     }
 
-    fn leaves(&self, _schema: &Schema) -> bool {
+    fn leaves(&self, _needs: Needs) -> bool {
         true
     }
 
-    fn change(&mut self, _alloc: Global, _schema: &mut Schema) -> Result<(), AllocError> {
+    fn change(
+        &mut self,
+        _alloc: Global,
+        _schema: &mut Schema,
+        _needs: Needs,
+    ) -> Result<(), AllocError> {
         Ok(())
     }
 }

@@ -9,8 +9,9 @@ ghost use Rattle.schemars_definitions.specs.Keys.{HasKeysOnce};
 ghost use Rattle.schemars_definitions.specs.Whole.{each_made, with_names};
 
 use crate::change::Change;
-use crate::kept::{Kept, changed_text};
+use crate::kept::Kept;
 use schemars_schema::Schema;
+use schemars_transform::needs_of;
 use std::alloc::{AllocError, Global};
 use std::collections::BTreeMap;
 
@@ -167,4 +168,22 @@ fn push_changed<C: Change>(
 {
     let text = changed_text(alloc, schema, change)?;
     out.push_str(text.as_str())
+}
+
+// The ordered text of what is made of a schema.
+fn changed_text<C: Change>(
+    alloc: Global,
+    schema: Schema,
+    change: &mut C,
+) -> Result<String, AllocError>
+    ensures { IfOk result (λ s. has_float (C.made schema) ≡ false
+        → string_bytes s ≡ ordered_text (C.made schema)) }
+{
+    if change.changes_nothing() {
+        return schema.to_ordered_string(alloc);
+    }
+    let mut schema = schema;
+    let needs = needs_of(&schema);
+    change.change(alloc, &mut schema, needs)?;
+    schema.to_ordered_string(alloc)
 }

@@ -2,11 +2,14 @@
 ghost use Rattle.std.specs.Prelude.{◌≡◌, false, string_bytes, IfOk};
 ghost use Rattle.serde_json.specs.Written.{has_float};
 ghost use Rattle.schemars_text.specs.OrderedText.{ordered_text};
+ghost use Rattle.schemars_transform.specs.Needs.{needs_of};
 ghost use Rattle.schemars_definitions.specs.Kept.{IsOrdered, definition_in};
+ghost use Rattle.schemars_definitions.specs.Texts.{IsWholeTextOf};
 
 use crate::change::Change;
 use crate::plain::is_json;
 use schemars_schema::Schema;
+use schemars_transform::{Needs, needs_of};
 use std::alloc::{AllocError, Global};
 
 #[derive(Drop)]
@@ -34,25 +37,33 @@ impl Kept {
         if !is_json(schema.as_value()) {
             return Ok(Kept::Value(schema));
         }
-        let before = schema.to_ordered_string(alloc)?;
-        if change.leaves(&schema) {
-            return Ok(Kept::Text(before));
+        let text = schema.to_ordered_string(alloc)?;
+        if change.changes_nothing() {
+            return Ok(Kept::Text(text));
         }
-        let after = changed_text(alloc, schema, change)?;
+        let needs = needs_of(&schema);
+        if change.leaves(needs) {
+            return Ok(Kept::Text(text));
+        }
+        Kept::changed(alloc, text, schema, needs, change)
+    }
+
+    // Keeps a definition as its text and that of what is made of it.
+    pub(crate) fn changed<C: Change>(
+        alloc: Global,
+        before: String,
+        schema: Schema,
+        needs: Needs,
+        change: &mut C,
+    ) -> Result<Kept, AllocError>
+        requires text { IsWholeTextOf (string_bytes before) schema }
+        requires needs { needs ≡ needs_of schema }
+        ensures definition { IfOk result (λ kept. definition_in kept ≡ schema) }
+        ensures ordered { IfOk result (λ kept. IsOrdered C.made kept) }
+    {
+        let mut schema = schema;
+        change.change(alloc, &mut schema, needs)?;
+        let after = schema.to_ordered_string(alloc)?;
         Ok(Kept::Changed { before, after })
     }
-}
-
-// The ordered text of what is made of a schema.
-pub(crate) fn changed_text<C: Change>(
-    alloc: Global,
-    schema: Schema,
-    change: &mut C,
-) -> Result<String, AllocError>
-    ensures { IfOk result (λ s. has_float (C.made schema) ≡ false
-        → string_bytes s ≡ ordered_text (C.made schema)) }
-{
-    let mut schema = schema;
-    change.change(alloc, &mut schema)?;
-    schema.to_ordered_string(alloc)
 }

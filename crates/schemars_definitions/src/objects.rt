@@ -8,6 +8,7 @@ ghost use Rattle.std.specs.Borrow.{Lends, sem};
 use crate::entries::{insert_new, replace};
 use crate::store::Definitions;
 use schemars_schema::Schema;
+use schemars_transform::Needs;
 use serde_json::{Map, Value};
 use std::alloc::{AllocError, Global};
 use std::marker::Model;
@@ -99,8 +100,29 @@ impl Definitions for Objects {
         false
     }
 
-    fn finish_text(&mut self, _name: &str, _text: String) -> bool {
-        false
+    fn changes_nothing(&self) -> bool {
+        true
+    }
+
+    fn finish_text(
+        &mut self,
+        _name: &str,
+        text: String,
+        _needs: Option<Needs>,
+    ) -> Result<(), String> {
+        Err(text)
+    }
+
+    fn finish_changed(
+        &mut self,
+        _alloc: Global,
+        name: &str,
+        _text: String,
+        schema: Schema,
+        _needs: Needs,
+    ) -> Result<(), AllocError> {
+        replace(&mut self.members, name, schema.to_value());
+        Ok(())
     }
 
     fn remove(&mut self, name: &str) {

@@ -1,11 +1,13 @@
 //! A store of definitions.
-ghost use Rattle.std.specs.Prelude.{◌≡◌, IfOk, OnOk, OnErr, is_some, not, true, false, string_bytes};
+ghost use Rattle.std.specs.Prelude.{◌≡◌, IfOk, IfErr, IfSome, OnOk, OnErr, is_some, not, true, false, string_bytes};
 ghost use Rattle.serde_json.specs.Data.{Data, Members, boolean, put};
 ghost use Rattle.serde_json.specs.Find.{get_member};
 ghost use Rattle.schemars_schema.specs.Edits.{replaced, without};
+ghost use Rattle.schemars_transform.specs.Needs.{needs_of};
 ghost use Rattle.schemars_definitions.specs.Texts.{IsWholeTextOf};
 
 use schemars_schema::Schema;
+use schemars_transform::Needs;
 use std::alloc::{AllocError, Global};
 
 /// A store of definitions by name. A definition is `false` from when it is begun until it is
@@ -35,13 +37,39 @@ pub trait Definitions {
     /// Returns whether definitions are kept as text.
     fn keeps_texts(&self) -> bool;
 
-    /// Puts the schema whose ordered text this is in the place of the definition of this name, if
-    /// there is one and definitions are kept as text. Returns whether they are.
-    fn finish_text(&mut self, name: &str, text: String) -> bool
-        requires { (d : Data) × IsWholeTextOf (string_bytes text) d }
-        ensures ok { result ≡ true → (d : Data) → IsWholeTextOf (string_bytes text) d
-            → kept self.new ≡ replaced name.now d (kept self.old) }
-        ensures same { result ≡ false → kept self.new ≡ kept self.old };
+    /// Returns whether every definition is written as it is kept. If not, `finish_text` can tell
+    /// that only from what a definition needs.
+    fn changes_nothing(&self) -> bool;
+
+    /// Puts the schema whose ordered text this is, and whose needs these are, in the place of the
+    /// definition of this name, if there is one.
+    ///
+    /// # Errors
+    ///
+    /// The text, if definitions are not kept as text, or if the needs do not tell that the schema
+    /// is written as it is kept.
+    fn finish_text(&mut self, name: &str, text: String, needs: Option<Needs>) -> Result<(), String>
+        requires { (d : Data) × IsWholeTextOf (string_bytes text) d
+            × IfSome needs (λ known. known ≡ needs_of d) }
+        ensures ok { OnOk result ((d : Data) → IsWholeTextOf (string_bytes text) d
+            → kept self.new ≡ replaced name.now d (kept self.old)) }
+        ensures err { OnErr result (kept self.new ≡ kept self.old) }
+        ensures text { IfErr result (λ unkept. unkept ≡ text) };
+
+    /// Puts a schema in the place of the definition of this name, as `finish` does, where its
+    /// ordered text and its needs are known.
+    fn finish_changed(
+        &mut self,
+        alloc: Global,
+        name: &str,
+        text: String,
+        schema: Schema,
+        needs: Needs,
+    ) -> Result<(), AllocError>
+        requires text { IsWholeTextOf (string_bytes text) schema }
+        requires needs { needs ≡ needs_of schema }
+        ensures ok { OnOk result (kept self.new ≡ replaced name.now schema (kept self.old)) }
+        ensures err { OnErr result (kept self.new ≡ kept self.old) };
 
     /// Removes the definition of this name, if there is one.
     fn remove(&mut self, name: &str)

@@ -1,8 +1,9 @@
 //! Definitions as text.
-ghost use Rattle.std.specs.Prelude.{◌≡◌, ◌↔◌, false, string_bytes, IfOk, IsTrue};
-ghost use Rattle.serde_json.specs.Data.{no_members};
+ghost use Rattle.std.specs.Prelude.{◌≡◌, ◌↔◌, true, false, string_bytes, IfOk, IfSome, IsTrue};
+ghost use Rattle.serde_json.specs.Data.{Data, no_members};
 ghost use Rattle.serde_json.specs.Written.{has_float, members_have_float};
 ghost use Rattle.schemars_text.specs.OrderedText.{ordered_text, definitions_text};
+ghost use Rattle.schemars_transform.specs.Needs.{needs_of};
 ghost use Rattle.schemars_definitions.specs.Joined.{HasNoDefinitions, HasPlaceAt};
 ghost use Rattle.schemars_definitions.specs.Keys.{HasKeysOnce};
 ghost use Rattle.schemars_definitions.specs.Whole.{each_made, with_names};
@@ -13,6 +14,7 @@ use crate::joined::{definitions_text, joined};
 use crate::kept::Kept;
 use crate::store::Definitions;
 use schemars_schema::Schema;
+use schemars_transform::Needs;
 use std::alloc::{AllocError, Global};
 use std::collections::BTreeMap;
 use std::marker::Model;
@@ -122,20 +124,54 @@ impl<C: Change> Definitions for Texts<C> {
     }
 
     fn keeps_texts(&self) -> bool {
+        true
+    }
+
+    fn changes_nothing(&self) -> bool {
         self.change.changes_nothing()
     }
 
-    fn finish_text(&mut self, name: &str, text: String) -> bool {
-        if !self.change.changes_nothing() {
-            return false;
+    fn finish_text(
+        &mut self,
+        name: &str,
+        text: String,
+        needs: Option<Needs>,
+    ) -> Result<(), String> {
+        if !leaves(&self.change, needs) {
+            return Err(text);
         }
         replace(&mut self.definitions, name, Kept::Text(text));
-        true
+        Ok(())
+    }
+
+    fn finish_changed(
+        &mut self,
+        alloc: Global,
+        name: &str,
+        text: String,
+        schema: Schema,
+        needs: Needs,
+    ) -> Result<(), AllocError> {
+        let kept = Kept::changed(alloc, text, schema, needs, &mut self.change)?;
+        replace(&mut self.definitions, name, kept);
+        Ok(())
     }
 
     fn remove(&mut self, name: &str) {
         let _ = self.definitions.remove(name);
     }
+}
+
+// Whether a change leaves each schema as it is that has these needs, if they are known.
+fn leaves<C: Change>(change: &C, needs: Option<Needs>) -> bool
+    ensures { result ≡ true → (d : Data) → IfSome needs (λ known. known ≡ needs_of d)
+        → C.made d ≡ d }
+{
+    change.changes_nothing()
+        || match needs {
+            Some(needs) => change.leaves(needs),
+            None => false,
+        }
 }
 
 /// Returns whether a document is an object with neither `$defs` nor `definitions`.

@@ -2,14 +2,15 @@
 ghost use Rattle.std.specs.Prelude.{◌≡◌, false, OnOk};
 ghost use Rattle.schemars_transform.specs.BuiltIn.{made_by};
 ghost use Rattle.schemars_transform.specs.Member.{some_own};
+ghost use Rattle.schemars_transform.specs.Needs.{needs_of};
 
 use crate::settings::SchemaSettings;
 use schemars_definitions::Change;
 use schemars_schema::Schema;
 use schemars_transform::{
-    AddNullable, GenTransform, NoTransform, RemoveRefSiblings, ReplaceBoolSchemas,
+    AddNullable, GenTransform, Needs, NoTransform, RemoveRefSiblings, ReplaceBoolSchemas,
     ReplaceConstValue, ReplacePrefixItems, ReplaceUnevaluatedProperties, SetSingleExample,
-    apply_all, leave_unchanged,
+    apply_all, apply_needed, are_idle,
 };
 use schemars_walk::Transform;
 use std::alloc::{AllocError, Global};
@@ -27,17 +28,22 @@ impl Change for Changes2019_09 {
         false
     }
 
-    fn leaves(&self, schema: &Schema) -> bool {
+    fn leaves(&self, needs: Needs) -> bool {
         let transforms: [GenTransform<NoTransform>; 1] = [GenTransform::ReplacePrefixItems(
             ReplacePrefixItems,
         )];
-        leave_unchanged(&transforms, schema)
+        are_idle(&transforms, needs)
     }
 
-    fn change(&mut self, alloc: Global, schema: &mut Schema) -> Result<(), AllocError> {
+    fn change(
+        &mut self,
+        alloc: Global,
+        schema: &mut Schema,
+        needs: Needs,
+    ) -> Result<(), AllocError> {
         let settings: SchemaSettings<NoTransform> = SchemaSettings::draft2019_09(alloc)?;
         let SchemaSettings { mut transforms, .. } = settings;
-        apply_built_in(alloc, &mut transforms, schema)
+        apply_where_needed(alloc, &mut transforms, schema, needs)
     }
 }
 
@@ -54,19 +60,24 @@ impl Change for Changes07 {
         false
     }
 
-    fn leaves(&self, schema: &Schema) -> bool {
+    fn leaves(&self, needs: Needs) -> bool {
         let transforms: [GenTransform<NoTransform>; 3] = [
             GenTransform::ReplaceUnevaluatedProperties(ReplaceUnevaluatedProperties),
             GenTransform::RemoveRefSiblings(RemoveRefSiblings),
             GenTransform::ReplacePrefixItems(ReplacePrefixItems),
         ];
-        leave_unchanged(&transforms, schema)
+        are_idle(&transforms, needs)
     }
 
-    fn change(&mut self, alloc: Global, schema: &mut Schema) -> Result<(), AllocError> {
+    fn change(
+        &mut self,
+        alloc: Global,
+        schema: &mut Schema,
+        needs: Needs,
+    ) -> Result<(), AllocError> {
         let settings: SchemaSettings<NoTransform> = SchemaSettings::draft07(alloc)?;
         let SchemaSettings { mut transforms, .. } = settings;
-        apply_built_in(alloc, &mut transforms, schema)
+        apply_where_needed(alloc, &mut transforms, schema, needs)
     }
 }
 
@@ -83,7 +94,7 @@ impl Change for ChangesOpenApi3 {
         false
     }
 
-    fn leaves(&self, schema: &Schema) -> bool {
+    fn leaves(&self, needs: Needs) -> bool {
         let bools = ReplaceBoolSchemas {
             skip_additional_properties: true,
         };
@@ -96,13 +107,18 @@ impl Change for ChangesOpenApi3 {
             GenTransform::ReplaceConstValue(ReplaceConstValue),
             GenTransform::ReplacePrefixItems(ReplacePrefixItems),
         ];
-        leave_unchanged(&transforms, schema)
+        are_idle(&transforms, needs)
     }
 
-    fn change(&mut self, alloc: Global, schema: &mut Schema) -> Result<(), AllocError> {
+    fn change(
+        &mut self,
+        alloc: Global,
+        schema: &mut Schema,
+        needs: Needs,
+    ) -> Result<(), AllocError> {
         let settings: SchemaSettings<NoTransform> = SchemaSettings::openapi3(alloc)?;
         let SchemaSettings { mut transforms, .. } = settings;
-        apply_built_in(alloc, &mut transforms, schema)
+        apply_where_needed(alloc, &mut transforms, schema, needs)
     }
 }
 
@@ -116,6 +132,23 @@ pub(crate) fn apply_built_in<O: Transform + Drop>(
     ensures { OnOk result (schema.new ≡ made_by transforms.old.items schema.old) }
 {
     match apply_all(alloc, transforms, schema) {
+        Ok(()) => Ok(()),
+        Err(_) => Err(AllocError),
+    }
+}
+
+// The same, to a schema with these needs.
+fn apply_where_needed<O: Transform + Drop>(
+    alloc: Global,
+    transforms: &mut Vec<GenTransform<O>>,
+    schema: &mut Schema,
+    needs: Needs,
+) -> Result<(), AllocError>
+    requires own { some_own transforms.old.items ≡ false }
+    requires needs { needs ≡ needs_of schema.old }
+    ensures { OnOk result (schema.new ≡ made_by transforms.old.items schema.old) }
+{
+    match apply_needed(alloc, transforms, schema, needs) {
         Ok(()) => Ok(()),
         Err(_) => Err(AllocError),
     }

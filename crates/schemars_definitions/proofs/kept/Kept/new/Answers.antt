@@ -1,33 +1,38 @@
 -- What is kept as text is read back.
-use Rattle.std.proofs.Common.{ap, subst, string_bytes}
+use Rattle.std.proofs.Common.{sym, ap, subst, string_bytes}
 use Rattle.std.specs.Prelude.{unwrap_or}
 use Rattle.serde_json.specs.Data.{null}
 use Rattle.schemars_schema.specs.Json.{IsWholeJson}
-use Rattle.schemars_definitions.proofs.ReadBack.{read_back}
+use Rattle.schemars_definitions.proofs.ReadBack.{read_back, has_float-json}
 use Rattle.schemars_definitions.proofs.kept.Kept.new.Goals as goal
 
+pub returns-then-changes_nothing-clause-definition : goal.returns-then-changes_nothing-clause-definition
+returns-then-changes_nothing-clause-definition g c =
+    let whole = subst IsWholeJson c.as_value.ensures.value (c.is_json.ensures c.if-not-is_json.false) in
+    ap (λ o. unwrap_or o null) (read_back (string_bytes c.in_ok-text.text) c.args.schema whole c.in_ok-text.ensures.ordered).0
+
+pub returns-then-changes_nothing-clause-ordered : goal.returns-then-changes_nothing-clause-ordered
+returns-then-changes_nothing-clause-ordered g c =
+    let whole = subst IsWholeJson c.as_value.ensures.value (c.is_json.ensures c.if-not-is_json.false) in (
+      c.args.schema,
+      read_back (string_bytes c.in_ok-text.text) c.args.schema whole c.in_ok-text.ensures.ordered,
+      c.changes_nothing.ensures c.if-changes_nothing.true c.args.schema,
+    )
+
 pub returns-then-leaves-clause-definition : goal.returns-then-leaves-clause-definition
-returns-then-leaves-clause-definition g c = ap (λ o. unwrap_or o null)
-    (read_back (string_bytes c.in_ok-before.before) c.args.schema (subst IsWholeJson c.as_value.ensures.value
-    (c.is_json.ensures c.if-not-is_json.false)) c.in_ok-before.ensures.ordered).0
+returns-then-leaves-clause-definition g c =
+    let whole = subst IsWholeJson c.as_value.ensures.value (c.is_json.ensures c.if-not-is_json.false) in
+    ap (λ o. unwrap_or o null) (read_back (string_bytes c.in_ok-text.text) c.args.schema whole c.in_ok-text.ensures.ordered).0
 
 pub returns-then-leaves-clause-ordered : goal.returns-then-leaves-clause-ordered
 returns-then-leaves-clause-ordered g c =
     let whole = subst IsWholeJson c.as_value.ensures.value (c.is_json.ensures c.if-not-is_json.false) in (
       c.args.schema,
-      read_back (string_bytes c.in_ok-before.before) c.args.schema whole c.in_ok-before.ensures.ordered,
-      c.leaves.ensures c.if-leaves.true,
+      read_back (string_bytes c.in_ok-text.text) c.args.schema whole c.in_ok-text.ensures.ordered,
+      c.leaves.ensures c.if-leaves.true c.args.schema (sym c.needs_of-needs.ensures),
     )
 
-pub returns-clause-definition : goal.returns-clause-definition
-returns-clause-definition g c = ap (λ o. unwrap_or o null)
-    (read_back (string_bytes c.in_ok-before.before) c.args.schema (subst IsWholeJson c.as_value.ensures.value
-    (c.is_json.ensures c.if-not-is_json.false)) c.in_ok-before.ensures.ordered).0
-
-pub returns-clause-ordered : goal.returns-clause-ordered
-returns-clause-ordered g c =
-    let whole = subst IsWholeJson c.as_value.ensures.value (c.is_json.ensures c.if-not-is_json.false) in (
-      c.args.schema,
-      read_back (string_bytes c.in_ok-before.before) c.args.schema whole c.in_ok-before.ensures.ordered,
-      c.in_ok-after.ensures,
-    )
+pub changed-requires-clause-text : goal.changed-requires-clause-text
+changed-requires-clause-text g c =
+    let whole = subst IsWholeJson c.as_value.ensures.value (c.is_json.ensures c.if-not-is_json.false) in
+    (whole, c.in_ok-text.ensures.ordered (has_float-json c.args.schema whole))

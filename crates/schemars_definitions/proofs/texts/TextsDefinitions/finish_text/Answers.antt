@@ -15,12 +15,12 @@ invariant_of-self g c =
     let d = c.requires.0 in
     let is = c.requires.1 in
     let read = read_back (string_bytes c.args.text) d is.0 (λ none. is.1) in
-    let stays = c.changes_nothing.ensures c.if-not-changes_nothing.false d in
+    let stays = c.leaves.ensures c.if-not-leaves.false d c.requires.2 in
     subst (AreOrdered g.C.Change.made) (sym c.replace.ensures) (ordered-set g.C.Change.made (has_name c.args.name.now) (Text c.args.text)
     c.self.inside.definitions.entries (d, read, stays) c.self.invariant)
 
 pub returns-clause-ok : goal.returns-clause-ok
-returns-clause-ok g c = λ kept d is.
+returns-clause-ok g c = λ d is.
     let name = c.args.name.now in
     let read = read_back (string_bytes c.args.text) d is.0 (λ none. is.1) in
     ap definitions_in c.replace.ensures ∙ replaced-by definition_in name (Text c.args.text) c.self.inside.definitions.entries
