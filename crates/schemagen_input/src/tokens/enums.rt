@@ -17,11 +17,11 @@ use std::alloc::Global;
 /// What the members of an enum say.
 #[derive(Drop)]
 pub struct EnumMembers<V> {
-    /// No member has a name that is none of the four.
+    /// No member has a name besides `tag`, `content`, `closed` and `variants`.
     pub adjacent: bool,
-    /// None is anything but the tag, whether the enum is closed, and its variants.
+    /// None has one besides `tag`, `closed` and `variants`.
     pub internal: bool,
-    /// None is anything but its variants.
+    /// None has one besides `variants`.
     pub plain: bool,
     pub tag: Option<String>,
     pub content: Option<String>,
