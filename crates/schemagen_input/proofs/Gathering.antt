@@ -1,4 +1,4 @@
--- What is said of a field, a struct, a row and a shape, with one member more.
+-- What is said of a field, a struct, a variant, an enum, a row and one member, with one member more.
 use Rattle.std.proofs.Common.{◌≡◌, List, [], ◌∷◌, ◌++◌, map, Bor, true, false, ◌&&◌, Option, Some, None, option_map, option_and_then, codes, string_bytes, refl, ap, ◌∙◌, sym, subst, true≢false, Ordering, Less, Equal, Greater, is_eq, nat_cmp}
 use Rattle.std.specs.Cmp.Lexicographic.{slice_cmp}
 use Rattle.std.specs.Option.{option_map_or}
@@ -11,18 +11,19 @@ use Rattle.serde_json.specs.Data.{Data, no_items, Members, no_members, member, o
 use Rattle.serde_json.specs.Find.{as_array, as_bool, as_object, as_str, get}
 use Rattle.serde_json.specs.View.{items_of, members_view}
 use Rattle.schemars_schema.specs.Json.{Text}
-use Rattle.schemars_shapes.specs.Shape.{field_of, flattened_of, required_of, shape_of}
-use Rattle.schemars_shapes.specs.declared.shape.Shape as source
+use Rattle.schemars_shapes.specs.Shape.{field_of, flattened_of, no_payload, payload_of, required_of, shape_of}
 use Rattle.schemars_text.specs.OrderedText.{is_listed}
-use Rattle.schemagen_input.specs.Forms.{field_in, field_names, flattened_from, number_in, optional_member, read_each, read_list, required, required_in}
-use Rattle.schemagen_input.specs.Gathered.{AreOfField, AreOfStruct, AreOfShape, AreOfRow, AreSeveral, can_be_lone}
-use Rattle.schemagen_input.specs.Input.{row_names, shape_in, shape_under}
+use Rattle.schemagen_input.specs.Forms.{adjacent_names, field_in, field_names, flattened_from, internal_names, number_in, optional_member, payload_in, read_each, read_list, required, required_in, variant_keys}
+use Rattle.schemagen_input.specs.Gathered.{AreOfField, AreOfStruct, AreOfVariant, AreOfEnum, AreOfTagged, AreOfRow, AreSeveral, can_be_lone}
+use Rattle.schemagen_input.specs.Input.{row_names, shape_in}
 use Rattle.schemagen_input.specs.Tokens.{listed, with_last}
+use Rattle.schemagen_input.specs.declared.tokens.enums.EnumMembers.{EnumMembers}
 use Rattle.schemagen_input.specs.declared.tokens.field.FieldMembers.{FieldMembers}
 use Rattle.schemagen_input.specs.declared.tokens.fields.StructMembers.{StructMembers}
 use Rattle.schemagen_input.specs.declared.tokens.row.RowMembers.{RowMembers}
-use Rattle.schemagen_input.specs.declared.tokens.shape.ShapeMembers.{ShapeMembers}
-use Rattle.schemagen_input.specs.declared.tokens.shape.ShapeMembers.TheVariants.{Empty, Lone, Several}
+use Rattle.schemagen_input.specs.declared.tokens.tagged.TaggedMembers.{TaggedMembers}
+use Rattle.schemagen_input.specs.declared.tokens.tagged.TaggedMembers.TheVariants.{Empty, Lone, Several}
+use Rattle.schemagen_input.specs.declared.tokens.variant.VariantMembers.{VariantMembers}
 use Rattle.schemagen_input.proofs.OneMember.{Follows, needed_follows, optional_follows, only_follows, other_name, stays}
 
 -- a list that is missing is empty
@@ -103,6 +104,28 @@ module _ (k : Text) (d : Data) (ms : Members) where
       (stays (codes "flatten") (listed flattened_from) k d (option_map (λ v. map flattened_of v.items) old.flatten) flatten)
       (stays (codes "closed") as_bool k d old.closed closed)
 
+  pub variant_follows : (old new : VariantMembers) → AreOfVariant old (object ms)
+      → new.only ≡ is_listed k variant_keys && old.only
+      → Follows (codes "name") as_str k d (option_map string_bytes old.name) (option_map string_bytes new.name)
+      → Follows (codes "notes") as_object k d (option_map (λ n. members_view n.entries) old.notes) (option_map (λ n. members_view n.entries) new.notes)
+      → Follows (codes "payload") payload_in k d (option_map payload_of old.payload) (option_map payload_of new.payload)
+      → AreOfVariant new (object (put k d ms))
+  variant_follows old new were only name notes payload = record {
+    only = only_follows variant_keys k d ms old.only new.only were.only only;
+    name = needed_follows as_str (codes "name") k d ms _ _ were.name name;
+    notes = optional_follows as_object (codes "notes") k d ms _ _ no_members were.notes notes;
+    payload = optional_follows payload_in (codes "payload") k d ms _ _ no_payload were.payload payload;
+  }
+
+  pub variant_stays : (old : VariantMembers) → bytes_eq k (codes "name") ≡ false → bytes_eq k (codes "notes") ≡ false
+      → bytes_eq k (codes "payload") ≡ false → AreOfVariant old (object ms) → AreOfVariant (record old { only = false }) (object (put k d ms))
+  variant_stays old name notes payload were =
+      let unknown : is_listed k variant_keys ≡ false = rw (name, notes, payload) refl in
+      variant_follows old (record old { only = false }) were (sym (ap (λ b. b && old.only) unknown))
+      (stays (codes "name") as_str k d (option_map string_bytes old.name) name)
+      (stays (codes "notes") as_object k d (option_map (λ n. members_view n.entries) old.notes) notes)
+      (stays (codes "payload") payload_in k d (option_map payload_of old.payload) payload)
+
   pub row_follows : (old new : RowMembers) → AreOfRow old (object ms)
       → new.only ≡ is_listed k row_names && old.only
       → Follows (codes "id") as_str k d (option_map string_bytes old.id) (option_map string_bytes new.id)
@@ -132,7 +155,45 @@ module _ (k : Text) (d : Data) (ms : Members) where
       (stays (codes "notes") as_object k d (option_map (λ n. members_view n.entries) old.notes) notes)
       (stays (codes "shape") shape_in k d (option_map shape_of old.shape) shape)
 
--- ---- shapes
+module _ {V W : Type 0} (variant_of : V → W) (says : Data → Option W) (k : Text) (d : Data) (ms : Members) where
+  pub enum_follows : (old new : EnumMembers V) → AreOfEnum variant_of says old (object ms)
+      → new.adjacent ≡ is_listed k adjacent_names && old.adjacent
+      → new.internal ≡ is_listed k internal_names && old.internal
+      → new.plain ≡ is_listed k (codes "variants" ∷ []) && old.plain
+      → Follows (codes "tag") as_str k d (option_map string_bytes old.tag) (option_map string_bytes new.tag)
+      → Follows (codes "content") as_str k d (option_map string_bytes old.content) (option_map string_bytes new.content)
+      → Follows (codes "closed") as_bool k d old.closed new.closed
+      → Follows (codes "variants") (listed says) k d (option_map (λ v. map variant_of v.items) old.variants)
+      (option_map (λ v. map variant_of v.items) new.variants)
+      → AreOfEnum variant_of says new (object (put k d ms))
+  enum_follows old new were adjacent internal plain tag content closed variants = record {
+    adjacent = only_follows adjacent_names k d ms old.adjacent new.adjacent were.adjacent adjacent;
+    internal = only_follows internal_names k d ms old.internal new.internal were.internal internal;
+    plain = only_follows (codes "variants" ∷ []) k d ms old.plain new.plain were.plain plain;
+    tag = needed_follows as_str (codes "tag") k d ms _ _ were.tag tag;
+    content = needed_follows as_str (codes "content") k d ms _ _ were.content content;
+    closed = optional_follows as_bool (codes "closed") k d ms _ _ false were.closed closed;
+    variants = optional_follows (listed says) (codes "variants") k d ms _ _ [] (were.variants ∙ list_is says (codes "variants") (object ms)) variants
+        ∙ sym (list_is says (codes "variants") (object (put k d ms)));
+  }
+
+  pub enum_stays : (old : EnumMembers V) → bytes_eq k (codes "tag") ≡ false → bytes_eq k (codes "content") ≡ false
+      → bytes_eq k (codes "closed") ≡ false → bytes_eq k (codes "variants") ≡ false → AreOfEnum variant_of says old (object ms)
+      → AreOfEnum variant_of says (record old { adjacent = false; internal = false; plain = false }) (object (put k d ms))
+  enum_stays old tag content closed variants were =
+      let not_adjacent : is_listed k adjacent_names ≡ false = rw (tag, content, closed, variants) refl in
+      let not_internal : is_listed k internal_names ≡ false = rw (tag, closed, variants) refl in
+      let not_plain : is_listed k (codes "variants" ∷ []) ≡ false = rw variants refl in
+      enum_follows old (record old { adjacent = false; internal = false; plain = false }) were
+      (sym (ap (λ b. b && old.adjacent) not_adjacent))
+      (sym (ap (λ b. b && old.internal) not_internal))
+      (sym (ap (λ b. b && old.plain) not_plain))
+      (stays (codes "tag") as_str k d (option_map string_bytes old.tag) tag)
+      (stays (codes "content") as_str k d (option_map string_bytes old.content) content)
+      (stays (codes "closed") as_bool k d old.closed closed)
+      (stays (codes "variants") (listed says) k d (option_map (λ v. map variant_of v.items) old.variants) variants)
+
+-- ---- one member
 
 equal_texts : (k l : Text) → slice_cmp nat_cmp k l ≡ Equal → k ≡ l
 equal_texts k l is = (bytes_eq-Decides k l).0 (sym (is_eq-slice_cmp k l) ∙ ap is_eq is)
@@ -164,19 +225,19 @@ two_names k l d e apart = by (slice_cmp nat_cmp k l) refl
     by Equal is = absurd (other_name l k apart (equal_texts k l is))
     by Greater is = tt
 
-module _ (name : Bor Text) (d : Data) (ms : Members) where
-  pub lone_follows : (old : ShapeMembers) (shape : Option source.Shape) → can_be_lone name.now old ≡ true → AreOfShape old ms
-      → option_map shape_of shape ≡ shape_under name.now d → AreOfShape (Lone name shape) (put name.now d ms)
-  lone_follows Empty shape may were said = (d, ap (put name.now d) were, said)
-  lone_follows (Lone lone s) shape may were said =
-      let is : lone.now ≡ name.now = (bytes_eq-Decides lone.now name.now).0 may in (
+module _ {T V : Type 0} (value_of : T → V) (says : Text → Data → Option V) (name : Bor Text) (d : Data) (ms : Members) where
+  pub lone_follows : (old : TaggedMembers T) (said : Option T) → can_be_lone name.now old ≡ true → AreOfTagged value_of says old ms
+      → option_map value_of said ≡ says name.now d → AreOfTagged value_of says (Lone name said) (put name.now d ms)
+  lone_follows Empty said may were is = (d, ap (put name.now d) were, is)
+  lone_follows (Lone lone before) said may were is =
+      let same : lone.now ≡ name.now = (bytes_eq-Decides lone.now name.now).0 may in (
         d,
-        ap (put name.now d) were.1 ∙ ap (λ l. put name.now d (member l were.0 no_members)) is ∙ rw (tied_itself nat_list_cmp_total name.now),
-        said,
+        ap (put name.now d) were.1 ∙ ap (λ l. put name.now d (member l were.0 no_members)) same ∙ rw (tied_itself nat_list_cmp_total name.now),
+        is,
       )
-  lone_follows Several shape may were said = absurd (true≢false (sym may))
+  lone_follows Several said may were is = absurd (true≢false (sym may))
 
-  pub several_follow : (old : ShapeMembers) → can_be_lone name.now old ≡ false → AreOfShape old ms → AreSeveral (put name.now d ms)
+  pub several_follow : (old : TaggedMembers T) → can_be_lone name.now old ≡ false → AreOfTagged value_of says old ms → AreSeveral (put name.now d ms)
   several_follow Empty may were = absurd (true≢false may)
-  several_follow (Lone lone s) may were = subst (λ found. AreSeveral (put name.now d found)) (sym were.1) (two_names name.now lone.now d were.0 may)
+  several_follow (Lone lone before) may were = subst (λ found. AreSeveral (put name.now d found)) (sym were.1) (two_names name.now lone.now d were.0 may)
   several_follow Several may were = several_more name.now d ms were

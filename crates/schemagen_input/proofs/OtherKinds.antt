@@ -9,6 +9,7 @@ use Rattle.json.proofs.Grammar.{value_is}
 use Rattle.serde_json.specs.Data.{Data, Num, null, boolean, number, string, array, object, Items, Members}
 use Rattle.serde_json.specs.Find.{as_array, as_bool, as_object, as_str}
 use Rattle.serde_json.specs.Read.{of_json, converted, number_of}
+use Rattle.schemagen_input.specs.Forms.{externally_tagged}
 use Rattle.schemagen_json.proofs.Reading.{string_read, boolean_read, null_read, number_read, number_refused, array_opened, object_opened, array_too_deep, object_too_deep, items_at, members_at}
 
 abbrev Read : Type 0
@@ -76,3 +77,9 @@ module _ (depth : ℕ) (t : Token) (rest after : List spec.Token) (d : Data) (is
   pub not_truth : ((b : Bool) → t ≢ Truth b) → as_bool d ≡ None
   not_truth other =
       other_kind as_bool depth t rest after d refl (λ n. refl) (λ s first. refl) (λ b first. absurd (other b first)) (λ first items. refl) (λ first ms. refl) is
+
+  pub not_tagged : {T : Type 0} (unit : List ℕ → Option T) (content : List ℕ → Data → Option T) → ((s : Bor (List ℕ)) → t ≢ String s)
+      → t ≢ BeginObject → externally_tagged unit content d ≡ None
+  not_tagged unit content not_text not_members =
+      other_kind (externally_tagged unit content) depth t rest after d refl (λ n. refl) (λ s first. absurd (not_text s first)) (λ b first. refl)
+      (λ first items. refl) (λ first. absurd (not_members first)) is

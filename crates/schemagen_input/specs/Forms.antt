@@ -195,9 +195,12 @@ internal_variant_in d = option_and_then variant_inside (variant_in d)
 abbrev pub internals_in : Data → Option (List Variant)
 internals_in d = read_list internal_variant_in (codes "variants") d
 
+abbrev pub internal_names : List Text
+internal_names = codes "tag" ∷ codes "closed" ∷ codes "variants" ∷ []
+
 abbrev pub internal_in : Data → Option Shape
 internal_in d =
-    if has_only (codes "tag" ∷ codes "closed" ∷ codes "variants" ∷ []) d
+    if has_only internal_names d
     then option_and_then (λ tag. option_and_then (λ closed. option_map (enum (by_tag tag closed)) (internals_in d))
     (optional_member false as_bool (codes "closed") d)) (needed_member as_str (codes "tag") d)
     else None

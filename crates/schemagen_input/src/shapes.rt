@@ -14,7 +14,8 @@ use schemars_schema::Schema;
 use schemars_types::{Shape, TypeEntry, TypeNo};
 use std::alloc::{AllocError, Global};
 
-fn shape_named(name: &str) -> Option<Shape>
+/// The shape that a text says.
+pub fn shape_named(name: &str) -> Option<Shape>
     ensures { option_map shape_of result ≡ shape_named name.now }
 {
     match name {

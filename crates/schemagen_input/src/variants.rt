@@ -13,7 +13,8 @@ use schemars_types::{
 };
 use std::alloc::Global;
 
-fn payload_named(name: &str) -> Option<Payload>
+/// The payload that a text says.
+pub fn payload_named(name: &str) -> Option<Payload>
     ensures { option_map payload_of result ≡ payload_named name.now }
 {
     match name {
@@ -164,8 +165,8 @@ fn payload_inside(payload: Payload) -> Option<InternalPayload>
     }
 }
 
-// A variant that has fields, the members of a row, or nothing beside its tag.
-fn variant_inside(variant: Variant) -> Option<InternalVariant>
+/// A variant that has fields, the members of a row, or nothing beside its tag.
+pub fn variant_inside(variant: Variant) -> Option<InternalVariant>
     ensures { option_map internal_variant_of result ≡ variant_inside (variant_of variant) }
 {
     let Variant {

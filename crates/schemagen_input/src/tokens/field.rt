@@ -2,12 +2,14 @@
 ghost use Rattle.std.specs.Prelude.{◌≡◌, ◌<◌, Err, IfOk, OnOk, length, option_map};
 ghost use Rattle.serde_json.specs.Data.{Data, Members, object};
 ghost use Rattle.schemars_shapes.specs.Shape.{field_of, required_of};
+ghost use Rattle.schemars_shapes.specs.Shape as shapes;
 ghost use Rattle.schemagen_input.specs.Forms.{field_in, required_in};
 ghost use Rattle.schemagen_input.specs.Gathered.{AreOfField};
 ghost use Rattle.schemagen_input.specs.Tokens.{IsNext, IsNoValue};
 
 use crate::fields::required_in;
 use crate::tokens::object::{ObjectMembers, read_object};
+use crate::tokens::said::Said;
 use crate::tokens::single::{read_notes, read_number, read_text};
 use json::Reader;
 use schemagen_json::{ParseError, read_value};
@@ -96,19 +98,21 @@ fn read_required(
     Ok(required_in(&value))
 }
 
-/// The field that the next value says.
-pub fn read_field(
-    alloc: Global,
-    reader: &mut Reader<'_>,
-    depth: usize,
-) -> Result<Option<Field>, ParseError>
-    ensures ok { IfOk result (λ f. (d : Data) × IsNext depth reader.old d reader.new
-        × (option_map field_of f ≡ field_in d)) }
-    ensures shorter { OnOk result (length reader.new < length reader.old) }
-    ensures not_json { result ≡ Err ParseError.NotJson → IsNoValue depth reader.old }
-{
-    match read_object::<FieldMembers>(alloc, reader, depth)? {
-        Some(members) => Ok(members.into_field()),
-        None => Ok(None),
+impl Said for Field {
+    ghost Value = { shapes.Field };
+
+    ghost value_of = { field_of };
+
+    ghost said = { field_in };
+
+    fn read(
+        alloc: Global,
+        reader: &mut Reader<'_>,
+        depth: usize,
+    ) -> Result<Option<Field>, ParseError> {
+        match read_object::<FieldMembers>(alloc, reader, depth)? {
+            Some(members) => Ok(members.into_field()),
+            None => Ok(None),
+        }
     }
 }

@@ -7,8 +7,8 @@ ghost use Rattle.schemagen_input.specs.Tokens.{IsNext, IsNoValue};
 
 use crate::listing::NewRow;
 use crate::tokens::object::{ObjectMembers, read_object};
-use crate::tokens::shape::read_shape;
 use crate::tokens::single::{read_flag, read_notes, read_text};
+use crate::tokens::tagged::read_tagged;
 use json::Reader;
 use schemagen_json::{ParseError, read_value};
 use schemars_types::{Shape, TypeEntry};
@@ -53,7 +53,7 @@ impl<'a> ObjectMembers<'a> for RowMembers {
             "name" => self.name = read_text(alloc, reader, depth)?,
             "inline" => self.inline = read_flag(alloc, reader, depth)?,
             "notes" => self.notes = read_notes(alloc, reader, depth)?,
-            "shape" => self.shape = read_shape(alloc, reader, depth)?,
+            "shape" => self.shape = read_tagged(alloc, reader, depth)?,
             _ => {
                 drop(read_value(alloc, reader, depth)?);
                 self.only = false;

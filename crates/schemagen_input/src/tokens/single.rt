@@ -1,12 +1,13 @@
-//! Texts, numbers, truth values and notes.
-ghost use Rattle.std.specs.Prelude.{◌≡◌, ◌<◌, Err, IfOk, OnOk, length, option_map, string_bytes};
+//! Texts, numbers, lists of numbers, truth values and notes.
+ghost use Rattle.std.specs.Prelude.{◌≡◌, ◌<◌, ℕ, Err, IfOk, OnOk, length, option_map, string_bytes};
 ghost use Rattle.serde_json.specs.Data.{Data};
 ghost use Rattle.serde_json.specs.Find.{as_bool, as_object, as_str};
 ghost use Rattle.serde_json.specs.View.{members_view};
-ghost use Rattle.schemagen_input.specs.Forms.{number_in};
+ghost use Rattle.schemagen_input.specs.Forms.{number_in, parts_from};
 ghost use Rattle.schemagen_input.specs.Tokens.{IsNext, IsNoValue};
 
 use crate::members::number_in;
+use crate::tokens::said::{Said, read_list};
 use json::{Reader, Token};
 use schemagen_json::{ParseError, copy_members, read_value, read_value_from};
 use schemars_types::TypeNo;
@@ -47,6 +48,36 @@ pub fn read_number(
 {
     let value = read_value(alloc, reader, depth)?;
     Ok(number_in(&value))
+}
+
+impl Said for TypeNo {
+    ghost Value = { ℕ };
+
+    ghost value_of = { λ n. n };
+
+    ghost said = { number_in };
+
+    fn read(
+        alloc: Global,
+        reader: &mut Reader<'_>,
+        depth: usize,
+    ) -> Result<Option<TypeNo>, ParseError> {
+        read_number(alloc, reader, depth)
+    }
+}
+
+/// The numbers of rows in the list that the next value is.
+pub fn read_parts(
+    alloc: Global,
+    reader: &mut Reader<'_>,
+    depth: usize,
+) -> Result<Option<Vec<TypeNo>>, ParseError>
+    ensures ok { IfOk result (λ v. (d : Data) × IsNext depth reader.old d reader.new
+        × (option_map (λ parts. parts.items) v ≡ parts_from d)) }
+    ensures shorter { OnOk result (length reader.new < length reader.old) }
+    ensures not_json { result ≡ Err ParseError.NotJson → IsNoValue depth reader.old }
+{
+    read_list(alloc, reader, depth)
 }
 
 /// The truth value that the next value is.

@@ -1,43 +1,42 @@
--- Each item says a field, or the list is not that of a struct.
+-- Each item says something, or the list says nothing.
 use Rattle.std.proofs.Common.{◌≡◌, ◌-◌, ◌<◌, [], ◌∷◌, ◌++◌, length, Some, None, option_map, ap, sym, ◌∙◌, arith, rules}
 use Rattle.json.specs.Json.{parse_map, after_end_array, value}
 use Rattle.serde_json.specs.View.{items_of}
 use Rattle.schemagen_json.proofs.Reading.{items_before, items_before-none, one_more_item, item_read, item_refused, items_closed}
-use Rattle.schemars_shapes.specs.Shape.{field_of}
-use Rattle.schemagen_input.specs.Forms.{field_in, read_each}
+use Rattle.schemagen_input.specs.Forms.{read_each}
 use Rattle.schemagen_input.specs.Tokens.{with_last}
 use Rattle.schemagen_input.proofs.Gathering.{each_more}
-use Rattle.schemagen_input.proofs.tokens.fields.read_items.Goals as goal
+use Rattle.schemagen_input.proofs.tokens.said.read_items.Goals as goal
 
-pub returns-in_err-field-clause-not_json : goal.returns-in_err-field-clause-not_json
-returns-in_err-field-clause-not_json c = λ is.
+pub returns-in_err-item-clause-not_json : goal.returns-in_err-item-clause-not_json
+returns-in_err-item-clause-not_json g c = λ is.
     let l = c.items in
     let going : (after_end_array l.reader ≡ None) × (c.take_end_array.new.self ≡ l.reader) = grind arith in
     l.invariant.3 ∙ ap (parse_map (items_before l.invariant.1))
-    (item_refused (value c.args.depth) l.invariant.0 l.reader going.0 (rw (← going.1) (c.read_field.ensures.not_json (search (rules, is)))))
+    (item_refused (value c.args.depth) l.invariant.0 l.reader going.0 (rw (← going.1) (c.read.ensures.not_json (search (rules, is)))))
 
 pub items-preserved : goal.items-preserved
-items-preserved c =
+items-preserved g c =
     let l = c.items in
     let n = l.invariant.0 in
     let ds = l.invariant.1 in
     let going : (after_end_array l.reader ≡ None) × (c.take_end_array.new.self ≡ l.reader) = grind arith in
-    let done = c.in_ok-field.ensures in
+    let done = c.in_ok-item.ensures in
     let d = done.ok.0 in
-    let rest = c.read_field.new.reader in
+    let rest = c.read.new.reader in
     let less : length rest < length l.reader = rw (← going.1) done.shorter in
     let turn = item_read (value c.args.depth) n l.reader rest d (omega (arith, l.invariant.2)) going.0 (rw (← going.1) done.ok.1) in (
       n - 1,
       ds ++ d ∷ [],
       omega (arith, l.invariant.2),
       l.invariant.3 ∙ ap (parse_map (items_before ds)) turn ∙ one_more_item ds d _,
-      c.in_ok-fields.ensures ∙ ap (λ o. with_last o (option_map field_of c.in_ok-field.field)) l.invariant.4
-          ∙ ap (with_last (read_each field_in (items_of ds))) done.ok.2 ∙ sym (each_more field_in ds d),
+      c.in_ok-found.ensures ∙ ap (λ o. with_last o (option_map g.T.Said.value_of c.in_ok-item.item)) l.invariant.4
+          ∙ ap (with_last (read_each g.T.Said.said (items_of ds))) done.ok.2 ∙ sym (each_more g.T.Said.said ds d),
       omega (arith, l.invariant.5),
     )
 
 pub returns-clause-ok : goal.returns-clause-ok
-returns-clause-ok c =
+returns-clause-ok g c =
     let l = c.items in
     let ds = l.invariant.1 in
     let rest = c.take_end_array.new.self in (

@@ -1,4 +1,4 @@
--- A list says the fields of its items.
+-- A list says what its items say.
 use Rattle.std.proofs.Common.{◌≡◌, [], ◌∷◌, option_and_then, ap, sym, ◌∙◌, arith, rules}
 use Rattle.std.proofs.lemmas.Result.{IfOk-weaker}
 use Rattle.json.specs.Token.{Token}
@@ -8,21 +8,21 @@ use Rattle.serde_json.specs.Data.{array}
 use Rattle.serde_json.specs.View.{items_of}
 use Rattle.schemagen_json.specs.BorrowedValue.{data_of}
 use Rattle.schemagen_json.proofs.Reading.{nothing_read, array_opened, array_too_deep, read_at}
-use Rattle.schemagen_input.specs.Forms.{field_in, read_each}
+use Rattle.schemagen_input.specs.Forms.{read_each}
 use Rattle.schemagen_input.proofs.OtherKinds.{not_array}
-use Rattle.schemagen_input.proofs.tokens.fields.read_list.Goals as goal
+use Rattle.schemagen_input.proofs.tokens.said.read_list.Goals as goal
 
 pub returns-in_err-token-clause-not_json : goal.returns-in_err-token-clause-not_json
-returns-in_err-token-clause-not_json c = λ is. nothing_read c.args.depth c.args.reader.now [] (grind arith)
+returns-in_err-token-clause-not_json g c = λ is. nothing_read c.args.depth c.args.reader.now [] (grind arith)
 
 pub returns-then-depth-eq0-clause-not_json : goal.returns-then-depth-eq0-clause-not_json
-returns-then-depth-eq0-clause-not_json c = λ is.
+returns-then-depth-eq0-clause-not_json g c = λ is.
     let first : c.args.reader.now ≡ Token.begin_array ∷ c.next.new.self = grind (arith, c.in-BeginArray.is) in
     let none : c.args.depth ≡ 0 = omega arith in
     ap (λ k. read_at k c.args.reader.now) none ∙ array_too_deep c.args.reader.now c.next.new.self first
 
 pub returns-else-depth-eq0-clause-ok : goal.returns-else-depth-eq0-clause-ok
-returns-else-depth-eq0-clause-ok c =
+returns-else-depth-eq0-clause-ok g c =
     let first : c.args.reader.now ≡ Token.begin_array ∷ c.next.new.self = grind (arith, c.in-BeginArray.is) in
     IfOk-weaker c.read_items.result _ _ (λ v found. (
       array (items_of found.0),
@@ -31,16 +31,16 @@ returns-else-depth-eq0-clause-ok c =
     )) c.read_items.ensures.ok
 
 pub returns-else-depth-eq0-clause-not_json : goal.returns-else-depth-eq0-clause-not_json
-returns-else-depth-eq0-clause-not_json c = λ is.
+returns-else-depth-eq0-clause-not_json g c = λ is.
     let first : c.args.reader.now ≡ Token.begin_array ∷ c.next.new.self = grind (arith, c.in-BeginArray.is) in
     array_opened c.args.depth c.args.reader.now c.next.new.self (omega arith) first ∙ ap (parse_map array) (c.read_items.ensures.not_json is)
 
 pub returns-in_ok-read_value_from-in_default-clause-ok : goal.returns-in_ok-read_value_from-in_default-clause-ok
-returns-in_ok-read_value_from-in_default-clause-ok c =
+returns-in_ok-read_value_from-in_default-clause-ok g c =
     let t = c.in_ok-token.token in
     let rest = c.next.new.self in
     let d = data_of c.in_ok-read_value_from-in_default.field-0 in
     let is = c.in_ok-read_value_from-in_default.ensures.ok in
     let first : c.args.reader.now ≡ token_of t ∷ rest = grind arith in
     let none = not_array c.args.depth t rest c.read_value_from.new.reader d is (search rules) in
-    (d, ap (read_at c.args.depth) first ∙ is, sym (ap (option_and_then (read_each field_in)) none))
+    (d, ap (read_at c.args.depth) first ∙ is, sym (ap (option_and_then (read_each g.T.Said.said)) none))
