@@ -1,6 +1,6 @@
 -- What each part stands for.
-use Rattle.std.proofs.Common.{◌≡◌, rules, Bor, BTreeMap, Global, Vec}
-use Rattle.serde_json.specs.Data.{string, array, object}
+use Rattle.std.proofs.Common.{◌≡◌, Bool, rules, Bor, BTreeMap, Global, Vec}
+use Rattle.serde_json.specs.Data.{null, boolean, string, array, object}
 use Rattle.serde_json.specs.View.{view}
 use Rattle.serde_json.specs.declared.value.Value.{Value}
 use Rattle.schemars_schema.specs.Json.{Text}
@@ -10,6 +10,12 @@ use Rattle.schemars_render.specs.declared.assembled.Assembled as part
 
 pub seen_value : (v : Bor Value) → assembled_view (part.Value v) ≡ view v.now
 seen_value v = search (rules, the_lemmas)
+
+pub seen_null : assembled_view part.Null ≡ null
+seen_null = search (rules, the_lemmas)
+
+pub seen_bool : (b : Bool) → assembled_view (part.Bool b) ≡ boolean b
+seen_bool b = search (rules, the_lemmas)
 
 pub seen_text : (t : Bor Text) → assembled_view (part.Text t) ≡ string t.now
 seen_text t = search (rules, the_lemmas)

@@ -1,15 +1,14 @@
 -- Parts that are JSON of 64-bit whole numbers.
-use Rattle.std.proofs.Common.{◌≡◌, List, [], ◌∷◌, Bor, Less, nat_cmp, zero, suc, arith}
+use Rattle.std.proofs.Common.{List, [], ◌∷◌, nat_cmp, zero, suc, arith}
 use Rattle.std.proofs.lemmas.Str.{IsUtf8-from_ascii}
 use Rattle.std.specs.Prelude.{IsUtf8, ⊤, codes}
 use Rattle.std.specs.Cmp.Lexicographic.{slice_cmp}
-use Rattle.std.specs.List.{AllByRecursion}
 use Rattle.std.specs.List.Sorted.{IsStrictlySortedBy}
 use Rattle.std.specs.Str.{IsAscii}
 use Rattle.std.specs.Map.{keys_of}
-use Rattle.schemars_schema.specs.Json.{Text, IsWholeJson, AreWholeJsonMembers, IsAbove}
+use Rattle.schemars_schema.specs.Json.{Text, IsWholeJson, AreWholeJsonMembers}
 use Rattle.schemars_render.specs.Assembled.{assembled_view, reference_to, members_assembled}
-use Rattle.schemars_render.specs.declared.assembled.Assembled.{Assembled}
+use Rattle.schemars_render.proofs.Entries.{Entry, above}
 
 key_is_ascii : IsAscii (codes "$ref")
 key_is_ascii zero = omega arith
@@ -22,17 +21,9 @@ key_is_ascii (suc (suc (suc (suc i)))) = omega arith
 pub whole_reference : (target : Text) → IsUtf8 target → IsWholeJson (reference_to target)
 whole_reference target h = (IsUtf8-from_ascii (codes "$ref") key_is_ascii, h, tt, tt)
 
-abbrev pub Entry : Type 0
-Entry = Bor Text × Assembled
-
 abbrev pub AreWholeEntries : List Entry → Type 0
 AreWholeEntries [] = ⊤
 AreWholeEntries (e ∷ es) = IsUtf8 e.0.now × IsWholeJson (assembled_view e.1) × AreWholeEntries es
-
-above : (key : Bor Text) (es : List Entry) → AllByRecursion (λ l. slice_cmp nat_cmp key.now l.now ≡ Less) (keys_of es)
-    → IsAbove key.now (members_assembled es)
-above key [] h = tt
-above key (e ∷ es) h = (h.0, above key es h.1)
 
 -- where the keys ascend, the entries decide
 pub whole_members : (es : List Entry) → AreWholeEntries es → IsStrictlySortedBy (λ k l. slice_cmp nat_cmp k.now l.now) (keys_of es)

@@ -1,7 +1,8 @@
 -- The JSON value that a schema in parts stands for.
-use Rattle.std.specs.Prelude.{List, [], ◌∷◌, map, codes}
+use Rattle.std.specs.Prelude.{List, [], ◌∷◌, map, Option, Some, None, codes}
 use Rattle.std.specs.Borrow.{Bor}
-use Rattle.serde_json.specs.Data.{Data, string, array, object, Items, Members, no_members, member}
+use Rattle.serde_json.specs.Data.{Data, null, boolean, number, string, array, object, Items, Members, no_members, member}
+use Rattle.serde_json.specs.Find.{of_integer}
 use Rattle.serde_json.specs.View.{view, items_of}
 use Rattle.schemars_text.specs.Text.{Text}
 use Rattle.schemars_render.specs.declared.assembled.Assembled.{Assembled, Assembled-F, fold-Assembled}
@@ -16,6 +17,9 @@ reference_to target = object (member (codes "$ref") (string target) no_members)
 
 abbrev pub assembled_step : Assembled-F Data → Data
 assembled_step (part.Value v) = view v.now
+assembled_step part.Null = null
+assembled_step (part.Bool b) = boolean b
+assembled_step (part.Integer n) = number (of_integer n)
 assembled_step (part.Text t) = string t.now
 assembled_step (part.Reference t) = reference_to t.now
 assembled_step (part.List ds) = array (items_of ds.items)
@@ -29,3 +33,8 @@ items_assembled ps = items_of (map assembled_view ps)
 
 abbrev pub members_assembled : List (Bor Text × Assembled) → Members
 members_assembled es = members_of (map (λ e. (e.0, assembled_view e.1)) es)
+
+-- what is there, or d
+abbrev pub there_or : Data → Option Data → Data
+there_or d None = d
+there_or d (Some e) = e

@@ -1,4 +1,5 @@
 -- The definitions that contracts cite.
 pub mod Answer
 pub mod Assembled
+pub mod Rendered
 pub mod Writing

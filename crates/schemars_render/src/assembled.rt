@@ -7,6 +7,9 @@ use std::collections::BTreeMap;
 #[derive(Drop)]
 pub(crate) enum Assembled<'t> {
     Value(&'t Value),
+    Null,
+    Bool(bool),
+    Integer(i64),
     Text(&'t str),
     // a schema that is a reference to this target
     Reference(&'t str),

@@ -1,17 +1,23 @@
 //! A template that is filled with answers, in parts.
 ghost use Rattle.std.specs.Prelude.{◌≡◌, map, IfOk, OnOk};
-ghost use Rattle.schemars_documents.specs.Template.{list, filled, left, first, behind};
+ghost use Rattle.serde_json.specs.Data.{array};
+ghost use Rattle.schemars_schema.specs.SchemaData.{object_of};
+ghost use Rattle.schemars_builders.specs.NullLaw.{text_items};
+ghost use Rattle.schemars_documents.specs.Template.{finished, list, filled, left, first, behind};
 ghost use Rattle.schemars_documents.specs.OfShape.{object_with, templates_of};
-ghost use Rattle.schemars_documents.specs.View.{template_view, value_view, keyword_view, property_view};
+ghost use Rattle.schemars_documents.specs.View.{ask_of, template_view, value_view, keyword_view, property_view, with_answers, scalar_view, scalar_keyword};
 ghost use Rattle.schemars_render.specs.Assembled.{assembled_view};
 
-use crate::answer::Answer;
 use crate::assembled::Assembled;
 use crate::error::Stop;
-use crate::keywords::{annotate, put_part, reference_or_null, titled};
-use schemars_documents::template::{SchemaTemplate, ValueTemplate};
+use crate::keywords::{annotate, titled};
+use crate::members::put_part;
+use crate::nulls::with_null;
+use crate::tagging::with_tag;
+use crate::uniting::with_keywords_of;
+use schemars_documents::template::{Ask, Scalar, SchemaTemplate, ValueTemplate};
 use std::alloc::Global;
-use std::collections::BTreeMap;
+use std::collections::{BTreeMap, VecDeque};
 
 // The schema with these answers in the places of the rows. The answers for what follows are left.
 #[cycle(assemble)]
@@ -19,20 +25,21 @@ use std::collections::BTreeMap;
 pub(crate) fn assemble_schema<'a>(
     alloc: Global,
     template: &'a SchemaTemplate<'_>,
-    answers: &mut &'a [Answer],
+    answers: &mut VecDeque<Assembled<'a>>,
 ) -> Result<Assembled<'a>, Stop>
     ensures value { IfOk result (λ p. assembled_view p
-        ≡ filled (template_view template.now) answers.old.now) }
-    ensures left { OnOk result (answers.new.now
-        ≡ left (template_view template.now) answers.old.now) }
+        ≡ filled (template_view template.now) (map assembled_view answers.old.items)) }
+    ensures left { OnOk result (map assembled_view answers.new.items
+        ≡ left (template_view template.now) (map assembled_view answers.old.items)) }
 {
     match template {
         SchemaTemplate::Finished(schema) => Ok(Assembled::Value(schema.as_value())),
+        SchemaTemplate::Keywords(keywords) => assemble_keywords(alloc, keywords),
         SchemaTemplate::Asked(_) => next_answer(answers),
         SchemaTemplate::Object(keywords) => assemble_object(alloc, keywords, answers),
         SchemaTemplate::Nullable(inner) => {
             let schema = assemble_schema(alloc, inner, answers)?;
-            reference_or_null(alloc, schema)
+            with_null(alloc, schema)
         }
         SchemaTemplate::Noted(notes, inner) => {
             let schema = assemble_schema(alloc, inner, answers)?;
@@ -42,8 +49,18 @@ pub(crate) fn assemble_schema<'a>(
             let schema = assemble_schema(alloc, inner, answers)?;
             titled(alloc, schema, &**title)
         }
-        SchemaTemplate::WithMembers(_, _) => Err(Stop::NotCovered),
-        SchemaTemplate::Tagged { .. } => Err(Stop::NotCovered),
+        SchemaTemplate::WithMembers(inner, asks) => {
+            assemble_with_members(alloc, inner, asks, answers)
+        }
+        SchemaTemplate::Tagged {
+            tag,
+            name,
+            closed,
+            inner,
+        } => {
+            let schema = assemble_schema(alloc, inner, answers)?;
+            with_tag(alloc, schema, &**tag, &**name, *closed)
+        }
     }
 }
 
@@ -51,12 +68,12 @@ pub(crate) fn assemble_schema<'a>(
 fn assemble_object<'a>(
     alloc: Global,
     keywords: &'a Vec<(&str, ValueTemplate<'_>)>,
-    answers: &mut &'a [Answer],
+    answers: &mut VecDeque<Assembled<'a>>,
 ) -> Result<Assembled<'a>, Stop>
     ensures value { IfOk result (λ p. assembled_view p
-        ≡ filled (object_with (map keyword_view keywords.now.items)) answers.old.now) }
-    ensures left { OnOk result (answers.new.now
-        ≡ left (object_with (map keyword_view keywords.now.items)) answers.old.now) }
+        ≡ filled (object_with (map keyword_view keywords.now.items)) (map assembled_view answers.old.items)) }
+    ensures left { OnOk result (map assembled_view answers.new.items
+        ≡ left (object_with (map keyword_view keywords.now.items)) (map assembled_view answers.old.items)) }
 {
     let mut members = BTreeMap::new(alloc);
     for keyword in keywords {
@@ -71,15 +88,17 @@ fn assemble_object<'a>(
 fn assemble_value<'a>(
     alloc: Global,
     template: &'a ValueTemplate<'_>,
-    answers: &mut &'a [Answer],
+    answers: &mut VecDeque<Assembled<'a>>,
 ) -> Result<Assembled<'a>, Stop>
     ensures value { IfOk result (λ p. assembled_view p
-        ≡ filled (value_view template.now) answers.old.now) }
-    ensures left { OnOk result (answers.new.now
-        ≡ left (value_view template.now) answers.old.now) }
+        ≡ filled (value_view template.now) (map assembled_view answers.old.items)) }
+    ensures left { OnOk result (map assembled_view answers.new.items
+        ≡ left (value_view template.now) (map assembled_view answers.old.items)) }
 {
     match template {
         ValueTemplate::Value(value) => Ok(Assembled::Value(value)),
+        ValueTemplate::Text(text) => Ok(Assembled::Text(&**text)),
+        ValueTemplate::Texts(texts) => assemble_texts(alloc, texts),
         ValueTemplate::Schema(schema) => assemble_schema(alloc, schema, answers),
         ValueTemplate::Schemas(schemas) => assemble_schemas(alloc, schemas, answers),
         ValueTemplate::Named(schemas) => assemble_named(alloc, schemas, answers),
@@ -90,12 +109,12 @@ fn assemble_value<'a>(
 fn assemble_schemas<'a>(
     alloc: Global,
     schemas: &'a Vec<SchemaTemplate<'_>>,
-    answers: &mut &'a [Answer],
+    answers: &mut VecDeque<Assembled<'a>>,
 ) -> Result<Assembled<'a>, Stop>
     ensures value { IfOk result (λ p. assembled_view p ≡ filled (list (templates_of
-        (map template_view schemas.now.items))) answers.old.now) }
-    ensures left { OnOk result (answers.new.now ≡ left (list (templates_of
-        (map template_view schemas.now.items))) answers.old.now) }
+        (map template_view schemas.now.items))) (map assembled_view answers.old.items)) }
+    ensures left { OnOk result (map assembled_view answers.new.items ≡ left (list (templates_of
+        (map template_view schemas.now.items))) (map assembled_view answers.old.items)) }
 {
     let mut parts = Vec::with_capacity(alloc, schemas.len())?;
     for schema in schemas {
@@ -109,12 +128,12 @@ fn assemble_schemas<'a>(
 fn assemble_named<'a>(
     alloc: Global,
     schemas: &'a Vec<(&str, SchemaTemplate<'_>)>,
-    answers: &mut &'a [Answer],
+    answers: &mut VecDeque<Assembled<'a>>,
 ) -> Result<Assembled<'a>, Stop>
     ensures value { IfOk result (λ p. assembled_view p
-        ≡ filled (object_with (map property_view schemas.now.items)) answers.old.now) }
-    ensures left { OnOk result (answers.new.now
-        ≡ left (object_with (map property_view schemas.now.items)) answers.old.now) }
+        ≡ filled (object_with (map property_view schemas.now.items)) (map assembled_view answers.old.items)) }
+    ensures left { OnOk result (map assembled_view answers.new.items
+        ≡ left (object_with (map property_view schemas.now.items)) (map assembled_view answers.old.items)) }
 {
     let mut members = BTreeMap::new(alloc);
     for named in schemas {
@@ -124,12 +143,83 @@ fn assemble_named<'a>(
     Ok(Assembled::Object(members))
 }
 
-fn next_answer<'a>(answers: &mut &'a [Answer]) -> Result<Assembled<'a>, Stop>
-    ensures value { IfOk result (λ p. assembled_view p ≡ first answers.old.now) }
-    ensures left { OnOk result (answers.new.now ≡ behind answers.old.now) }
+#[cycle(assemble)]
+fn assemble_with_members<'a>(
+    alloc: Global,
+    inner: &'a Box<SchemaTemplate<'_>>,
+    asks: &'a Vec<Ask>,
+    answers: &mut VecDeque<Assembled<'a>>,
+) -> Result<Assembled<'a>, Stop>
+    ensures value { IfOk result (λ p. assembled_view p ≡ filled (with_answers
+        (template_view inner.now.value) (map ask_of asks.now.items)) (map assembled_view answers.old.items)) }
+    ensures left { OnOk result (map assembled_view answers.new.items ≡ left (with_answers
+        (template_view inner.now.value) (map ask_of asks.now.items)) (map assembled_view answers.old.items)) }
 {
-    match answers.split_off_first() {
-        Some(answer) => Ok(answer.as_part()),
+    let schema = assemble_schema(alloc, inner, answers)?;
+    add_members(alloc, schema, asks, answers)
+}
+
+// Puts the keywords of as many answers into the schema as members are asked for.
+fn add_members<'a>(
+    alloc: Global,
+    schema: Assembled<'a>,
+    asks: &[Ask],
+    answers: &mut VecDeque<Assembled<'a>>,
+) -> Result<Assembled<'a>, Stop>
+    ensures value { IfOk result (λ p. assembled_view p ≡ filled (with_answers
+        (finished (assembled_view schema.entry)) (map ask_of asks.now)) (map assembled_view answers.old.items)) }
+    ensures left { OnOk result (map assembled_view answers.new.items ≡ left (with_answers
+        (finished (assembled_view schema.entry)) (map ask_of asks.now)) (map assembled_view answers.old.items)) }
+{
+    let mut schema = schema;
+    for _ask in asks {
+        let part = next_answer(answers)?;
+        schema = with_keywords_of(alloc, schema, part)?;
+    }
+    Ok(schema)
+}
+
+fn next_answer<'a>(answers: &mut VecDeque<Assembled<'a>>) -> Result<Assembled<'a>, Stop>
+    ensures value { IfOk result (λ p. assembled_view p ≡ first (map assembled_view answers.old.items)) }
+    ensures left { OnOk result (map assembled_view answers.new.items ≡ behind (map assembled_view answers.old.items)) }
+{
+    match answers.pop_front() {
+        Some(answer) => Ok(answer),
         None => Err(Stop::NotCovered),
     }
+}
+
+// A finished schema of these keywords.
+fn assemble_keywords<'a>(
+    alloc: Global,
+    keywords: &'a Vec<(&str, Scalar<'_>)>,
+) -> Result<Assembled<'a>, Stop>
+    ensures { IfOk result (λ p. assembled_view p
+        ≡ object_of (map scalar_keyword keywords.now.items)) }
+{
+    let mut members = BTreeMap::new(alloc);
+    for keyword in keywords {
+        put_part(&mut members, &*keyword.0, scalar_part(&keyword.1))?;
+    }
+    Ok(Assembled::Object(members))
+}
+
+fn scalar_part<'a>(scalar: &'a Scalar<'_>) -> Assembled<'a>
+    ensures { assembled_view result ≡ scalar_view scalar.now }
+{
+    match scalar {
+        Scalar::Text(text) => Assembled::Text(&**text),
+        Scalar::Integer(number) => Assembled::Integer(*number),
+    }
+}
+
+fn assemble_texts<'a>(alloc: Global, texts: &'a Vec<&str>) -> Result<Assembled<'a>, Stop>
+    ensures { IfOk result (λ p. assembled_view p
+        ≡ array (text_items (map (λ t. t.now) texts.now.items))) }
+{
+    let mut parts = Vec::with_capacity(alloc, texts.len())?;
+    for text in texts {
+        parts.push(Assembled::Text(&**text))?;
+    }
+    Ok(Assembled::List(parts))
 }

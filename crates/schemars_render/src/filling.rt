@@ -14,16 +14,16 @@ use std::collections::VecDeque;
 pub fn fill(
     alloc: Global,
     template: SchemaTemplate<'_>,
-    answers: Vec<Answer>,
+    answers: Vec<Answer<'_>>,
 ) -> Result<Schema, AllocError>
-    ensures { IfOk result (λ s. s ≡ filled (template_view template.entry) answers.items) }
+    ensures { IfOk result (λ s. s ≡ filled (template_view template.entry) answers.entry.items) }
 {
     let schemas = into_schemas(alloc, answers)?;
     schemars_documents::template::fill(alloc, template, schemas)
 }
 
-fn into_schemas(alloc: Global, answers: Vec<Answer>) -> Result<VecDeque<Schema>, AllocError>
-    ensures { IfOk result (λ v. v.items ≡ answers.items) }
+fn into_schemas(alloc: Global, answers: Vec<Answer<'_>>) -> Result<VecDeque<Schema>, AllocError>
+    ensures { IfOk result (λ v. v.items ≡ answers.entry.items) }
 {
     let mut schemas = VecDeque::with_capacity(alloc, answers.len())?;
     for answer in answers {

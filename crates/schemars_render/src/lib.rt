@@ -7,11 +7,16 @@ mod assembling;
 mod error;
 mod filling;
 mod keywords;
+mod members;
+mod needs;
+mod nulls;
 mod places;
 mod rendering;
+mod tagging;
+mod uniting;
 mod whole;
 mod writing;
 
 pub use answer::Answer;
 pub use filling::fill;
-pub use rendering::render;
+pub use rendering::{Rendered, render};

@@ -1,23 +1,39 @@
 //! The text of a template that is filled with answers.
-ghost use Rattle.std.specs.Prelude.{◌≡◌, string_bytes, IfOk, IfSome};
-ghost use Rattle.schemars_text.specs.OrderedText.{ordered_text};
+ghost use Rattle.std.specs.Prelude.{◌≡◌, map, IfOk, IfSome};
 ghost use Rattle.schemars_schema.specs.Json.{IsWholeJson};
 ghost use Rattle.schemars_documents.specs.Template.{filled};
 ghost use Rattle.schemars_documents.specs.View.{template_view};
+ghost use Rattle.schemars_transform.specs.Needs.{needs_of};
+ghost use Rattle.schemars_render.specs.Assembled.{assembled_view};
+ghost use Rattle.schemars_render.specs.Rendered.{IsRendered};
 
 use crate::answer::Answer;
+use crate::assembled::Assembled;
 use crate::assembling::assemble_schema;
 use crate::error::Stop;
+use crate::needs::needs_of;
 use crate::whole::is_whole;
 use crate::writing::text_of;
 use schemars_documents::template::SchemaTemplate;
+use schemars_transform::Needs;
 use std::alloc::{AllocError, Global};
+use std::collections::VecDeque;
+
+/// A schema as text.
+#[derive(Drop)]
+pub struct Rendered {
+    /// Its ordered text.
+    pub text: String,
+    /// What it has that built-in transforms change, if that was asked.
+    pub needs: Option<Needs>,
+}
 
 /// Returns the ordered text of the schema that the template is with these answers in the places of
-/// the rows, if it is JSON of 64-bit whole numbers.
+/// the rows, if it is JSON of 64-bit whole numbers, and what it needs, if `asks_needs`.
 ///
-/// There is no text where the schema has to be made first: where members of other schemas are put
-/// into it, or a tag, or null is added to one that is no reference, or an answer is missing.
+/// There is no text where the schema has to be made first: where an answer is missing, and in a few
+/// rare cases where null, a tag or the members of another schema are added, as where both schemas
+/// have an `anyOf`.
 ///
 /// # Errors
 ///
@@ -25,17 +41,65 @@ use std::alloc::{AllocError, Global};
 pub fn render<'a>(
     alloc: Global,
     template: &'a SchemaTemplate<'_>,
-    answers: &'a [Answer],
-) -> Result<Option<String>, AllocError>
-    ensures text { IfOk result (λ o. IfSome o (λ t. string_bytes t
-        ≡ ordered_text (filled (template_view template.now) answers.now))) }
-    ensures whole { IfOk result (λ o. IfSome o (λ _. IsWholeJson
-        (filled (template_view template.now) answers.now))) }
+    answers: &'a [Answer<'_>],
+    asks_needs: bool,
+) -> Result<Option<Rendered>, AllocError>
+    ensures { IfOk result (λ o. IfSome o
+        (IsRendered (filled (template_view template.now) answers.now))) }
 {
-    let mut rest = answers;
-    match assemble_schema(alloc, template, &mut rest) {
-        Ok(schema) if is_whole(&schema) => Ok(Some(text_of(alloc, &schema)?)),
+    match assemble(alloc, template, answers) {
+        Ok(schema) if is_whole(&schema) => {
+            let rendered = written(alloc, &schema, asks_needs)?;
+            Ok(Some(rendered))
+        }
         Ok(_) | Err(Stop::NotCovered) => Ok(None),
         Err(Stop::OutOfMemory(error)) => Err(error),
     }
+}
+
+// The text of a schema, and what it needs, if that is asked.
+fn written(alloc: Global, schema: &Assembled<'_>, asks_needs: bool) -> Result<Rendered, AllocError>
+    requires { IsWholeJson (assembled_view schema.now) }
+    ensures { IfOk result (IsRendered (assembled_view schema.now)) }
+{
+    let needs = needs_if_asked(schema, asks_needs);
+    let text = text_of(alloc, schema)?;
+    Ok(Rendered { text, needs })
+}
+
+fn needs_if_asked(schema: &Assembled<'_>, asks_needs: bool) -> Option<Needs>
+    ensures { IfSome result (λ known. known ≡ needs_of (assembled_view schema.now)) }
+{
+    if asks_needs {
+        Some(needs_of(schema))
+    } else {
+        None
+    }
+}
+
+// The schema in parts, which borrow the template and the answers.
+fn assemble<'a>(
+    alloc: Global,
+    template: &'a SchemaTemplate<'_>,
+    answers: &'a [Answer<'_>],
+) -> Result<Assembled<'a>, Stop>
+    ensures { IfOk result (λ p. assembled_view p
+        ≡ filled (template_view template.now) answers.now) }
+{
+    let mut parts = assemble_answers(alloc, answers)?;
+    assemble_schema(alloc, template, &mut parts)
+}
+
+// Each of the answers in parts.
+fn assemble_answers<'a>(
+    alloc: Global,
+    answers: &'a [Answer<'_>],
+) -> Result<VecDeque<Assembled<'a>>, Stop>
+    ensures { IfOk result (λ v. map assembled_view v.items ≡ answers.now) }
+{
+    let mut parts = VecDeque::with_capacity(alloc, answers.len())?;
+    for answer in answers {
+        parts.push_back(answer.assemble(alloc)?)?;
+    }
+    Ok(parts)
 }

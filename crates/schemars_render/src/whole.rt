@@ -5,6 +5,7 @@ ghost use Rattle.schemars_render.specs.Assembled.{assembled_view, items_assemble
 
 use crate::assembled::Assembled;
 use schemars_definitions::is_json;
+use serde_json::Value;
 use std::collections::BTreeMap;
 
 // Whether the part is JSON of 64-bit whole numbers.
@@ -14,6 +15,8 @@ pub(crate) fn is_whole(part: &Assembled<'_>) -> bool
 {
     match part {
         Assembled::Value(value) => is_json(value),
+        Assembled::Null | Assembled::Bool(_) => true,
+        Assembled::Integer(number) => is_json(&Value::from(*number)),
         Assembled::Text(text) => is_text(text),
         Assembled::Reference(target) => is_text(target),
         Assembled::List(parts) => are_whole(parts),

@@ -14,6 +14,7 @@ use crate::places::find_fixed;
 use json::Token;
 use schemars_text::places::{FIRST_KEYWORDS, LAST_KEYWORDS, has_fixed_place};
 use schemars_text::{Layout, Output};
+use serde_json::Value;
 use std::alloc::{AllocError, Global};
 use std::collections::BTreeMap;
 
@@ -34,6 +35,9 @@ fn write_part(part: &Assembled<'_>, layout: Layout, out: &mut Output) -> Result<
 {
     match part {
         Assembled::Value(value) => out.value(value, layout),
+        Assembled::Null => out.token(Token::Null),
+        Assembled::Bool(b) => out.token(Token::Bool(*b)),
+        Assembled::Integer(number) => out.value(&Value::from(*number), layout),
         Assembled::Text(text) => out.token(Token::String(text)),
         Assembled::Reference(target) => write_reference(target, out),
         Assembled::List(parts) => {

@@ -9,18 +9,18 @@ use Rattle.schemars_render.proofs.assembling.+assemble.Given as goal
 
 abbrev pub invariant-assemble_object-loop-keyword : goal.invariant-assemble_object-loop-keyword
 invariant-assemble_object-loop-keyword l =
-    GoesOn keyword_view (drop l.keyword-index l.keyword-items) l.answers.now (members_assembled l.members.entries) l.keyword-items
-    l.fn.answers.now
+    GoesOn keyword_view (drop l.keyword-index l.keyword-items) (map assembled_view l.answers.items) (members_assembled l.members.entries) l.keyword-items
+    (map assembled_view l.fn.answers.items)
 
 abbrev pub invariant-assemble_schemas-loop-schema : goal.invariant-assemble_schemas-loop-schema
 invariant-assemble_schemas-loop-schema l = record {
-  value : map assembled_view l.parts.items ++ filled_in (templates_of (map template_view (drop l.schema-index l.schema-items))) l.answers.now
-      ≡ filled_in (templates_of (map template_view l.schema-items)) l.fn.answers.now;
-  left : left_in (templates_of (map template_view (drop l.schema-index l.schema-items))) l.answers.now
-      ≡ left_in (templates_of (map template_view l.schema-items)) l.fn.answers.now;
+  value : map assembled_view l.parts.items ++ filled_in (templates_of (map template_view (drop l.schema-index l.schema-items))) (map assembled_view l.answers.items)
+      ≡ filled_in (templates_of (map template_view l.schema-items)) (map assembled_view l.fn.answers.items);
+  left : left_in (templates_of (map template_view (drop l.schema-index l.schema-items))) (map assembled_view l.answers.items)
+      ≡ left_in (templates_of (map template_view l.schema-items)) (map assembled_view l.fn.answers.items);
 }
 
 abbrev pub invariant-assemble_named-loop-named : goal.invariant-assemble_named-loop-named
 invariant-assemble_named-loop-named l =
-    GoesOn property_view (drop l.named-index l.named-items) l.answers.now (members_assembled l.members.entries) l.named-items
-    l.fn.answers.now
+    GoesOn property_view (drop l.named-index l.named-items) (map assembled_view l.answers.items) (members_assembled l.members.entries) l.named-items
+    (map assembled_view l.fn.answers.items)

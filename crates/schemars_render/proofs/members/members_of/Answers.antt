@@ -3,7 +3,7 @@ use Rattle.serde_json.specs.View.{members_view}
 use Rattle.schemars_schema.specs.SchemaData.{put_members}
 use Rattle.schemars_definitions.proofs.KeyOrder.{put-ascending}
 use Rattle.schemars_render.specs.Assembled.{members_assembled}
-use Rattle.schemars_render.proofs.keywords.members_of.Goals as goal
+use Rattle.schemars_render.proofs.members.members_of.Goals as goal
 
 -- Members in the order of their keys are put in as they are.
 pub returns : goal.returns

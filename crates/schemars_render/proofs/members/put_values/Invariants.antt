@@ -3,7 +3,7 @@ use Rattle.std.proofs.Common.{◌≡◌}
 use Rattle.serde_json.specs.View.{members_view}
 use Rattle.schemars_schema.specs.SchemaData.{put_members}
 use Rattle.schemars_render.specs.Assembled.{members_assembled}
-use Rattle.schemars_render.proofs.keywords.put_values.Given as goal
+use Rattle.schemars_render.proofs.members.put_values.Given as goal
 
 abbrev pub invariant-loop-name : goal.invariant-loop-name
 invariant-loop-name l =
