@@ -15,6 +15,7 @@ ghost use Rattle.schemars_build.specs.Missing.{row_asked};
 ghost use Rattle.schemars_build.specs.Parts.{IsAnswer, IsOwn};
 ghost use Rattle.schemars_build.specs.Making.{Wanted, own, asked, wanted, row_wanted, IsReply, IsTemplate, IsTemplateAt, IsOpened, IsInMaking, document, IsGivenBack, HasReplied, GoesOn, IsTaken, HasFirst, AreMaking};
 ghost use Rattle.schemars_build.specs.Measure.{measure_of_asked, measure_of_own_document, measure_of_part, measure_of_making, measure_of_turn, IsWithin, IsLess};
+ghost use Rattle.schemars_render.specs.Rendered.{IsRendered};
 ghost use Rattle.schemars_build.specs.declared.build.Document as src;
 
 use crate::registry::Registry;
@@ -23,7 +24,7 @@ use schemars_documents::entry_template;
 use schemars_documents::template::basis::Basis;
 use schemars_documents::template::{Ask, SchemaTemplate};
 use schemars_flatten::{as_flattened, must_be_in_place, open_inside};
-use schemars_render::{Answer, fill, render};
+use schemars_render::{Answer, Rendered, fill, render};
 use schemars_schema::Schema;
 use schemars_schema::encoding::encode_ref_name;
 use schemars_types::{Contract, TypeNo, Types, row_inside, without_options};
@@ -67,7 +68,7 @@ struct Document<'t> {
     in_definition: bool,
     template: SchemaTemplate<'t>,
     asks: Vec<Ask>,
-    answers: Vec<Answer>,
+    answers: Vec<Answer<'t>>,
 }
 
 // What is asked first: a row's own document, or an answer.
@@ -143,11 +144,11 @@ fn run<D: Definitions>(
 }
 
 // Gives an answer to the document that waits for it. Where none waits, it is what was asked first.
-fn deliver(
-    making: &mut Vec<Document<'_>>,
-    answer: Option<Answer>,
-) -> Result<Option<Answer>, AllocError>
-    ensures { IfOk result (IsTaken (reverse making.old.items) answer (reverse making.new.items)) }
+fn deliver<'t>(
+    making: &mut Vec<Document<'t>>,
+    answer: Option<Answer<'t>>,
+) -> Result<Option<Answer<'t>>, AllocError>
+    ensures { IfOk result (IsTaken (reverse making.old.items) answer.entry (reverse making.new.items)) }
 {
     let Some(answer) = answer else {
         return Ok(None);
@@ -165,7 +166,7 @@ fn step<'t, D: Definitions>(
     plan: &Plan<'t>,
     registry: &mut Registry<D>,
     making: &mut Vec<Document<'t>>,
-) -> Result<Option<Answer>, AllocError>
+) -> Result<Option<Answer<'t>>, AllocError>
     requires checked { IsChecked (plan_of plan.now).rows }
     requires first { HasFirst (IsTemplate (plan_of plan.now)) (reverse making.old.items) }
     ensures rolled_back { OnErr result (rolled_back registry.new ≡ rolled_back registry.old) }
@@ -201,7 +202,7 @@ fn start<'t, D: Definitions>(
     making: &mut Vec<Document<'t>>,
     in_definition: bool,
     request: Request,
-) -> Result<Option<Answer>, AllocError>
+) -> Result<Option<Answer<'t>>, AllocError>
     requires checked { IsChecked (plan_of plan.now).rows }
     requires known { row_wanted (wanted request) < length (plan_of plan.now).rows }
     ensures rolled_back { rolled_back registry.new ≡ rolled_back registry.old }
@@ -224,7 +225,7 @@ fn reply_to<'t, D: Definitions>(
     making: &mut Vec<Document<'t>>,
     in_definition: bool,
     ask: Ask,
-) -> Result<Option<Answer>, AllocError>
+) -> Result<Option<Answer<'t>>, AllocError>
     requires checked { IsChecked (plan_of plan.now).rows }
     requires known { row_asked (ask_of ask) < length (plan_of plan.now).rows }
     ensures rolled_back { rolled_back registry.new ≡ rolled_back registry.old }
@@ -255,7 +256,7 @@ fn start_own<'t, D: Definitions>(
     making: &mut Vec<Document<'t>>,
     in_definition: bool,
     n: TypeNo,
-) -> Result<Option<Answer>, AllocError>
+) -> Result<Option<Answer<'t>>, AllocError>
     requires checked { IsChecked (plan_of plan.now).rows }
     requires known { n < length (plan_of plan.now).rows }
     ensures rolled_back { rolled_back registry.new ≡ rolled_back registry.old }
@@ -269,9 +270,9 @@ fn start_own<'t, D: Definitions>(
     let template = template_at(alloc, plan, n)?;
     let asks = template.asks(alloc)?;
     if asks.is_empty() {
-        let schema = fill(alloc, template, Vec::new(alloc))?;
+        let answer = Answer::filled(alloc, template, Vec::new(alloc))?;
         registry.leave(entered);
-        return Ok(Some(Answer::schema(schema)));
+        return Ok(Some(answer));
     }
     let answers = Vec::with_capacity(alloc, asks.len())?;
     making.push(Document {
@@ -294,7 +295,7 @@ fn place_part<'t, D: Definitions>(
     making: &mut Vec<Document<'t>>,
     in_definition: bool,
     n: TypeNo,
-) -> Result<Option<Answer>, AllocError>
+) -> Result<Option<Answer<'t>>, AllocError>
     requires checked { IsChecked (plan_of plan.now).rows }
     requires known { n < length (plan_of plan.now).rows }
     ensures rolled_back { rolled_back registry.new ≡ rolled_back registry.old }
@@ -344,7 +345,7 @@ fn push_document<'t>(
     in_definition: bool,
     n: TypeNo,
     purpose: Purpose,
-) -> Result<Option<Answer>, AllocError>
+) -> Result<Option<Answer<'t>>, AllocError>
     requires checked { IsChecked (plan_of plan.now).rows }
     requires known { n < length (plan_of plan.now).rows }
     ensures { IfOk result (λ o. (d : src.Document)
@@ -394,7 +395,7 @@ fn finish_document<'t, D: Definitions>(
     registry: &mut Registry<D>,
     making: &mut Vec<Document<'t>>,
     document: Document<'t>,
-) -> Result<Option<Answer>, AllocError>
+) -> Result<Option<Answer<'t>>, AllocError>
     requires checked { IsChecked (plan_of plan.now).rows }
     requires template { IsTemplate (plan_of plan.now) document }
     requires all_answered { length document.asks.items ≤ length document.answers.items }
@@ -416,9 +417,9 @@ fn finish_document<'t, D: Definitions>(
     } = document;
     match purpose {
         Purpose::Own(entered) => {
-            let schema = fill(alloc, template, answers)?;
+            let answer = Answer::filled(alloc, template, answers)?;
             registry.leave(entered);
-            Ok(Some(Answer::schema(schema)))
+            Ok(Some(answer))
         }
         Purpose::Definition(name, entered) => {
             let reference = reference_to(alloc, plan.path, name.as_str())?;
@@ -449,22 +450,55 @@ fn define<D: Definitions>(
     registry: &mut Registry<D>,
     name: &str,
     template: SchemaTemplate<'_>,
-    answers: Vec<Answer>,
+    answers: Vec<Answer<'_>>,
 ) -> Result<(), AllocError>
     ensures ok { OnOk result (registry.new ≡ record registry.old {
-      definitions = replaced name.now (filled (template_view template.entry) answers.items)
+      definitions = replaced name.now (filled (template_view template.entry) answers.entry.items)
           registry.old.definitions;
     }) }
     ensures err { OnErr result (registry.new ≡ registry.old) }
 {
-    if registry.keeps_texts()
-        && let Some(text) = render(alloc, &template, &answers)?
-        && registry.finish_text(name, text)
-    {
-        return Ok(());
+    let rendered = if registry.keeps_texts() {
+        render(alloc, &template, &answers, !registry.changes_nothing())?
+    } else {
+        None
+    };
+    match rendered {
+        Some(rendered) => finish_rendered(alloc, registry, name, rendered, template, answers),
+        None => {
+            let schema = fill(alloc, template, answers)?;
+            registry.finish(alloc, name, schema)
+        }
     }
+}
+
+// Puts what is made of the template into the place of the definition that was begun, where its text
+// is known. The schema itself is made only where the text is not all that is kept.
+fn finish_rendered<D: Definitions>(
+    alloc: Global,
+    registry: &mut Registry<D>,
+    name: &str,
+    rendered: Rendered,
+    template: SchemaTemplate<'_>,
+    answers: Vec<Answer<'_>>,
+) -> Result<(), AllocError>
+    requires { IsRendered (filled (template_view template) answers.items) rendered }
+    ensures ok { OnOk result (registry.new ≡ record registry.old {
+      definitions = replaced name.now
+          (filled (template_view template.entry) answers.entry.items)
+          registry.old.definitions;
+    }) }
+    ensures err { OnErr result (registry.new ≡ registry.old) }
+{
+    let Rendered { text, needs } = rendered;
+    let Err(text) = registry.finish_text(name, text, needs) else {
+        return Ok(());
+    };
     let schema = fill(alloc, template, answers)?;
-    registry.finish(alloc, name, schema)
+    match needs {
+        Some(needs) => registry.finish_changed(alloc, name, text, schema, needs),
+        None => registry.finish(alloc, name, schema),
+    }
 }
 
 fn is_inline(types: &Types, n: TypeNo) -> bool
@@ -477,7 +511,7 @@ fn is_inline(types: &Types, n: TypeNo) -> bool
 }
 
 // The whole document.
-fn root_reference(alloc: Global) -> Result<Answer, AllocError>
+fn root_reference<'t>(alloc: Global) -> Result<Answer<'t>, AllocError>
     ensures { IfOk result (λ s. s ≡ reference (codes "#")) }
 {
     let text = String::from_str(alloc, "#")?;
@@ -485,7 +519,7 @@ fn root_reference(alloc: Global) -> Result<Answer, AllocError>
 }
 
 // The definition of this name.
-fn reference_to(alloc: Global, path: &str, name: &str) -> Result<Answer, AllocError>
+fn reference_to<'t>(alloc: Global, path: &str, name: &str) -> Result<Answer<'t>, AllocError>
     ensures { IfOk result (λ s. s ≡ reference (reference_to path.now name.now)) }
 {
     let token = encode_ref_name(alloc, name)?;

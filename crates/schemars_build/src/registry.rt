@@ -1,9 +1,10 @@
 //! What documents are made into.
-ghost use Rattle.std.specs.Prelude.{ℕ, List, true, false, map, ◌≡◌, ◌∷◌, ◌++◌, ◌||◌, [], None, Some, length, IfOk, OnOk, OnErr, is_some, string_bytes, not, ◌&&◌, if◌then◌else◌};
+ghost use Rattle.std.specs.Prelude.{ℕ, List, true, false, map, ◌≡◌, ◌∷◌, ◌++◌, ◌||◌, [], None, Some, length, IfOk, IfErr, IfSome, OnOk, OnErr, is_some, string_bytes, not, ◌&&◌, if◌then◌else◌};
 ghost use Rattle.serde_json.specs.Data.{Data, boolean, put, no_members};
 ghost use Rattle.serde_json.specs.Find.{get_member, as_object};
 ghost use Rattle.serde_json.specs.View.{members_view};
 ghost use Rattle.schemars_schema.specs.Edits.{replaced};
+ghost use Rattle.schemars_transform.specs.Needs.{needs_of};
 ghost use Rattle.schemars_definitions.specs.Texts.{IsWholeTextOf};
 ghost use Rattle.schemars_build.specs.Naming.{name_of, IsOneToOne};
 ghost use Rattle.schemars_types.specs.declared.contract.Contract.{Contract};
@@ -16,6 +17,7 @@ use crate::names::Names;
 use crate::pending::Pending;
 use schemars_definitions::{Definitions, Objects};
 use schemars_schema::Schema;
+use schemars_transform::Needs;
 use schemars_types::{Contract, TypeNo, Types};
 use serde_json::{Map, Value};
 use std::alloc::{AllocError, Global};
@@ -217,15 +219,52 @@ impl<D: Definitions> Registry<D> {
         self.definitions.keeps_texts()
     }
 
-    /// Puts a definition that was begun in its place, where definitions are kept as text: the schema
-    /// whose ordered text this is. Answers whether it did.
-    pub fn finish_text(&mut self, name: &str, text: String) -> bool
-        requires { (d : Data) × IsWholeTextOf (string_bytes text) d }
-        ensures ok { result ≡ true → (d : Data) → IsWholeTextOf (string_bytes text) d
-            → self.new ≡ record self.old { definitions = replaced name.now d self.old.definitions } }
-        ensures same { result ≡ false → self.new ≡ self.old }
+    /// Whether each definition is written as it is kept, whatever it needs.
+    pub fn changes_nothing(&self) -> bool {
+        self.definitions.changes_nothing()
+    }
+
+    /// Puts a definition that was begun in its place: the schema whose ordered text this is, and
+    /// whose needs these are.
+    ///
+    /// # Errors
+    ///
+    /// The text, if the store does not keep it.
+    pub fn finish_text(
+        &mut self,
+        name: &str,
+        text: String,
+        needs: Option<Needs>,
+    ) -> Result<(), String>
+        requires { (d : Data) × IsWholeTextOf (string_bytes text) d
+            × IfSome needs (λ known. known ≡ needs_of d) }
+        ensures ok { OnOk result ((d : Data) → IsWholeTextOf (string_bytes text) d
+            → self.new ≡ record self.old
+            { definitions = replaced name.now d self.old.definitions }) }
+        ensures err { OnErr result (self.new ≡ self.old) }
+        ensures text { IfErr result (λ unkept. unkept ≡ text) }
     {
-        self.definitions.finish_text(name, text)
+        self.definitions.finish_text(name, text, needs)
+    }
+
+    /// Puts a definition that was begun in its place, where its ordered text and its needs are
+    /// known.
+    pub fn finish_changed(
+        &mut self,
+        alloc: Global,
+        name: &str,
+        text: String,
+        schema: Schema,
+        needs: Needs,
+    ) -> Result<(), AllocError>
+        requires text { IsWholeTextOf (string_bytes text) schema }
+        requires needs { needs ≡ needs_of schema }
+        ensures ok { OnOk result (self.new
+            ≡ record self.old { definitions = replaced name.now schema self.old.definitions }) }
+        ensures err { OnErr result (self.new ≡ self.old) }
+    {
+        self.definitions
+            .finish_changed(alloc, name, text, schema, needs)
     }
 
     /// Notes that the root was referred to, where a definition does so.

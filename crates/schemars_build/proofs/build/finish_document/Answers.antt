@@ -17,9 +17,8 @@ returns-in-Own-clause-replies g c = λ outside old want h.
     let now = c.args.registry.now in
     let new = c.leave.new.self in
     let d = c.args.document in
-    let s = c.schema.result in
-    let filled = filled_made plan outside old want now d h c.requires.all_answered s c.requires.checked
-    (c.schema.ensures ∙ c.in_ok-schema-in-Own.ensures) in
+    let s = c.in_ok-answer-in-Own.answer in
+    let filled = filled_made plan outside old want now d h c.requires.all_answered s c.requires.checked c.in_ok-answer-in-Own.ensures in
     closing_replies plan outside old want now new d (reverse c.args.making.now.items) s h (left_fewer plan now new _ c.leave.ensures)
     (closes_own plan outside old want now d h s filled c.in-Own.entered new c.in-Own.is c.leave.ensures)
 
@@ -56,11 +55,11 @@ returns-in-Members-clause-replies g c = λ outside old want h.
     let now = c.args.registry.now in
     let d = c.args.document in
     let s = c.in_ok-schema-in-Members.schema in
-    let t = c.schema-in-Members-2.result in
+    let t = c.schema-in-Members.result in
     let filled = filled_made plan outside old want now d h c.requires.all_answered s c.requires.checked c.in_ok-schema-in-Members.ensures in
     closing_replies plan outside old want now now d (reverse c.args.making.now.items) t h (omega arith)
     (closes_members plan outside old want now d h s filled c.in-Members.is_optional t c.in-Members.is
-    (c.schema-in-Members-2.ensures ∙ c.in_ok-as_flattened-in-Members.ensures))
+    (c.schema-in-Members.ensures ∙ c.in_ok-as_flattened-in-Members.ensures))
 
 pub returns-then-not-must_be_in_place-clause-replies : goal.returns-then-not-must_be_in_place-clause-replies
 returns-then-not-must_be_in_place-clause-replies g c =

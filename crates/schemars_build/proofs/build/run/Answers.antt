@@ -34,6 +34,10 @@ pub returns-in_err-answer-2-clause-rolled_back : goal.returns-in_err-answer-2-cl
 returns-in_err-answer-2-clause-rolled_back g c = c.in_err-answer-2.ensures.rolled_back ∙ goes_on_undone (plan_of c.args.plan.now) c.args.in_definition
     c.args.registry.now (wanted c.args.request) c.going.registry (reverse c.going.making.items) c.going.answer c.going.invariant
 
+pub returns-in-Some-clause-rolled_back : goal.returns-in-Some-clause-rolled_back
+returns-in-Some-clause-rolled_back g c = goes_on_undone (plan_of c.args.plan.now) c.args.in_definition c.args.registry.now
+    (wanted c.args.request) c.going.registry (reverse c.going.making.items) c.going.answer c.going.invariant
+
 -- nothing waits
 home : (g : _) (c : goal.After-drop-making-in-Some g) → Step (plan_of c.args.plan.now) c.args.registry.now c.going.registry
     × IsReply (plan_of c.args.plan.now) c.args.in_definition c.args.registry.now c.going.registry (wanted c.args.request) c.in-Some.answer

@@ -1,4 +1,4 @@
-use Rattle.std.proofs.Common.{◌≡◌, ◌≤◌, length, reverse, Some, refl, ap, ◌∙◌, arith, rules}
+use Rattle.std.proofs.Common.{◌≡◌, ◌≤◌, length, reverse, refl, ap, ◌∙◌, arith, rules}
 use Rattle.schemars_build.proofs.Words.{plan_of, own, IsInMaking, IsOpened, answer, document, measure_of_own_document}
 use Rattle.schemars_build.specs.declared.build.Document.{Document}
 use Rattle.schemars_build.specs.declared.build.Purpose.TheVariants as purpose
@@ -55,11 +55,11 @@ returns-then-is_empty-clause-replies g c =
     (opened_now plan d c.requires.known c.in_ok-template.ensures c.in_ok-asks.ensures c.new.ensures.items)
     (leads_at_once plan inside old (own n))
     (refl, c.in_ok-entered.ensures.is_new, c.in_ok-entered.ensures.ok) in
-    let s = c.in_ok-schema.schema in
-    let filled = filled_made plan inside old (own n) mid d h all s c.requires.checked c.in_ok-schema.ensures in
+    let s = c.in_ok-answer.answer in
+    let filled = filled_made plan inside old (own n) mid d h all s c.requires.checked c.in_ok-answer.ensures in
     record {
       reply = answer s;
-      given = (ap Some c.schema.ensures, refl);
+      given = (refl, refl);
       replied = closes_own plan inside old (own n) mid d h s filled c.in_ok-entered.entered c.leave.new.self refl c.leave.ensures;
       is_like = tt;
     }
