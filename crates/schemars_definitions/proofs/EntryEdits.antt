@@ -1,12 +1,14 @@
 -- The members that values by name stand for, where one is looked up, added, replaced or removed.
-use Rattle.std.proofs.Common.{◌≡◌, Bool, true, false, cond, List, [], ◌∷◌, String, Global, string_bytes, string_cmp, Option, Some, None, option_map, is_some, Ordering, Less, Equal, Greater, nat_cmp, is_eq, refl, sym, ap, ◌∙◌, length, arith}
+use Rattle.std.proofs.Common.{◌≡◌, Bool, true, false, cond, List, [], ◌∷◌, String, Global, string_bytes, string_cmp, Option, Some, None, option_map, is_some, Ordering, Less, Equal, Greater, nat_cmp, is_eq, refl, sym, ap, ◌∙◌}
 use Rattle.std.proofs.lemmas.Map.Text.{is_eq-slice_cmp}
-use Rattle.std.specs.Prelude.{bytes_eq, if◌then◌else◌, IsTrue, ◌↔◌}
+use Rattle.std.specs.Prelude.{bytes_eq, if◌then◌else◌, All, string_eq}
+use Rattle.std.proofs.lemmas.List.Elements.{All-nil, All-cons, All-head, All-tail}
 use Rattle.std.specs.BTreeMap.{insert_entry}
+use Rattle.indexmap.specs.IndexMap.{insert_entry as put_entry}
 use Rattle.std.specs.Cmp.Lexicographic.{slice_cmp}
 use Rattle.std.specs.Map.{lookup, remove_entry, set_value}
 use Rattle.std.specs.Ordering.{match_ordering}
-use Rattle.serde_json.specs.Data.{Data, no_members, put}
+use Rattle.serde_json.specs.Data.{Data, put}
 use Rattle.serde_json.specs.Find.{get_member}
 use Rattle.schemars_schema.specs.Json.{Text}
 use Rattle.schemars_schema.specs.Edits.{replaced, without}
@@ -35,18 +37,6 @@ module _ {X : Type 0} (data_of : X → Data) where
       → option_map data_of (lookup (has_name name) es) ≡ get_member name (members_by data_of es)
   lookup-by name [] = refl
   lookup-by name (e ∷ es) = found_or (slice_cmp nat_cmp name (string_bytes e.0)) e.1 _ _ (lookup-by name es)
-
-  none-by : (es : List (String Global × X)) → length es ≡ 0 → members_by data_of es ≡ no_members
-  none-by [] none = refl
-  none-by (e ∷ es) none = absurd (omega (arith, none))
-
-  none_of-by : (es : List (String Global × X)) → members_by data_of es ≡ no_members → length es ≡ 0
-  none_of-by [] none = refl
-  none_of-by (e ∷ es) none = cc
-
-  -- there are no members just where there are no entries
-  pub is_none-by : (es : List (String Global × X)) (b : Bool) → IsTrue b ↔ (length es ≡ 0) → IsTrue b ↔ (members_by data_of es ≡ no_members)
-  is_none-by es b h = (λ yes. none-by es (h.0 yes), λ none. h.1 (none_of-by es none))
 
   is_some-by : (o : Option X) → is_some (option_map data_of o) ≡ is_some o
   is_some-by None = refl
@@ -86,17 +76,6 @@ module _ {X : Type 0} (data_of : X → Data) where
 
 -- ---- texts that are kept
 
-pub ordered-insert : (made : Data → Data) (key : String Global) (v : Kept) (es : List (String Global × Kept))
-    → IsOrdered made v → AreOrdered made es → AreOrdered made (insert_entry string_cmp es key v)
-ordered-insert made key v [] h all = (h, tt)
-ordered-insert made key v (e ∷ es) h all = go (string_cmp key e.0) (ordered-insert made key v es h all.1)
-  where
-    go : (o : Ordering) → AreOrdered made (insert_entry string_cmp es key v)
-        → AreOrdered made (match_ordering o ((key, v) ∷ e ∷ es) ((e.0, v) ∷ es) (e ∷ insert_entry string_cmp es key v))
-    go Less later = (h, all)
-    go Equal later = (h, all.1)
-    go Greater later = (all.0, later)
-
 pub ordered-set : (made : Data → Data) (test : String Global → Bool) (v : Kept) (es : List (String Global × Kept))
     → IsOrdered made v → AreOrdered made es → AreOrdered made (set_value test es v)
 ordered-set made test v [] h all = tt
@@ -114,3 +93,21 @@ ordered-remove made test (e ∷ es) all = go (test e.0) (ordered-remove made tes
     go : (b : Bool) → AreOrdered made (remove_entry test es) → AreOrdered made (cond b es (e ∷ remove_entry test es))
     go true later = all.1
     go false later = (all.0, later)
+
+pub ordered-put : (made : Data → Data) (key : String Global) (v : Kept) (es : List (String Global × Kept))
+    → IsOrdered made v → AreOrdered made es → AreOrdered made (put_entry string_eq es key v)
+ordered-put made key v [] h all = (h, tt)
+ordered-put made key v (e ∷ es) h all = go (string_eq key e.0) (ordered-put made key v es h all.1)
+  where
+    go : (b : Bool) → AreOrdered made (put_entry string_eq es key v)
+        → AreOrdered made (cond b ((e.0, v) ∷ es) (e ∷ put_entry string_eq es key v))
+    go true later = (h, all.1)
+    go false later = (all.0, later)
+
+pub each_ordered : (made : Data → Data) (es : List (String Global × Kept)) → AreOrdered made es → All (λ e. IsOrdered made e.1) es
+each_ordered made [] all = All-nil (λ e. IsOrdered made e.1)
+each_ordered made (e ∷ es) all = All-cons (λ e. IsOrdered made e.1) e es all.0 (each_ordered made es all.1)
+
+pub all_ordered : (made : Data → Data) (es : List (String Global × Kept)) → All (λ e. IsOrdered made e.1) es → AreOrdered made es
+all_ordered made [] all = tt
+all_ordered made (e ∷ es) all = (All-head (λ e. IsOrdered made e.1) e es all, all_ordered made es (All-tail (λ e. IsOrdered made e.1) e es all))

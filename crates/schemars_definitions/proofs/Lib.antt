@@ -1,3 +1,4 @@
+pub mod ByName
 pub mod Floats
 pub mod JoinedTexts
 pub mod JsonValues

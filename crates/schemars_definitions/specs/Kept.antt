@@ -8,7 +8,7 @@ use Rattle.serde_json.specs.Read.{of_json}
 use Rattle.serde_json.specs.Written.{has_float}
 use Rattle.schemars_schema.specs.Json.{Text}
 use Rattle.schemars_text.specs.OrderedText.{ordered_text}
-use Rattle.schemars_definitions.specs.Entries.{members_by}
+use Rattle.schemars_definitions.specs.Entries.{members_by, members_put}
 use Rattle.schemars_definitions.specs.declared.kept.Kept.{Kept}
 use Rattle.schemars_definitions.specs.declared.kept.Kept.TheVariants as kept
 
@@ -25,6 +25,10 @@ definition_in (kept.Value schema) = schema
 
 abbrev pub definitions_in : List (String Global × Kept) → Members
 definitions_in es = members_by definition_in es
+
+-- the definitions in the order of their names
+abbrev pub definitions_by_name : List (String Global × Kept) → Members
+definitions_by_name es = members_put definition_in es
 
 -- a text is the ordered text of the value that is written in it
 abbrev pub IsTextOf : Text → Data → Type 0

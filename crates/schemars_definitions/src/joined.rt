@@ -5,31 +5,29 @@ ghost use Rattle.serde_json.specs.Written.{comma_if, has_float, members_have_flo
 ghost use Rattle.schemars_text.specs.OrderedText.{NamedSchemas, ordered_text, definitions_text, texts, with_commas, member_texts};
 ghost use Rattle.schemars_definitions.specs.Joined.{HasPlaceAt};
 ghost use Rattle.schemars_definitions.specs.Kept.{IsOrdered, AreOrdered, definition_in, definitions_in};
-ghost use Rattle.schemars_definitions.specs.Keys.{HasKeysOnce};
 ghost use Rattle.schemars_definitions.specs.Whole.{each_made, with_names};
 
 use crate::change::Change;
 use crate::kept::Kept;
+use indexmap::IndexMap;
 use schemars_schema::Schema;
 use schemars_transform::needs_of;
 use std::alloc::{AllocError, Global};
-use std::collections::BTreeMap;
 
 // The ordered text of an object with what is made of these definitions in its place at this key.
 pub(crate) fn joined<C: Change>(
     alloc: Global,
     own: &Schema,
     key: &str,
-    definitions: BTreeMap<String, Kept>,
+    definitions: IndexMap<String, Kept>,
     change: &mut C,
 ) -> Result<String, AllocError>
     requires place { HasPlaceAt key.now own.now }
     requires ordered { AreOrdered C.made definitions.entries }
-    ensures text { IfOk result (λ s.
+    ensures { IfOk result (λ s.
         has_float (with_names key.now (each_made C.made (definitions_in definitions.entries)) own.now) ≡ false
         → string_bytes s
         ≡ ordered_text (with_names key.now (each_made C.made (definitions_in definitions.entries)) own.now)) }
-    ensures once { HasKeysOnce (definitions_in definitions.entries) }
 {
     let room = room_for(&definitions);
     let mut out = own.to_ordered_string(alloc)?;
@@ -45,14 +43,13 @@ pub(crate) fn joined<C: Change>(
 // The text of what is made of these definitions.
 pub(crate) fn definitions_text<C: Change>(
     alloc: Global,
-    definitions: BTreeMap<String, Kept>,
+    definitions: IndexMap<String, Kept>,
     change: &mut C,
 ) -> Result<String, AllocError>
     requires { AreOrdered C.made definitions.entries }
-    ensures text { IfOk result (λ s.
+    ensures { IfOk result (λ s.
         members_have_float (each_made C.made (definitions_in definitions.entries)) ≡ false
         → string_bytes s ≡ definitions_text (each_made C.made (definitions_in definitions.entries))) }
-    ensures once { HasKeysOnce (definitions_in definitions.entries) }
 {
     let room = room_for(&definitions).saturating_add("{}".len());
     let mut out = String::with_capacity(alloc, room)?;
@@ -62,11 +59,8 @@ pub(crate) fn definitions_text<C: Change>(
     Ok(out)
 }
 
-// How many bytes these definitions take, but for those that are not kept as text. Their names are
-// different.
-fn room_for(definitions: &BTreeMap<String, Kept>) -> usize
-    ensures { HasKeysOnce (definitions_in definitions.now.entries) }
-{
+// How many bytes these definitions take, but for those that are not kept as text.
+fn room_for(definitions: &IndexMap<String, Kept>) -> usize {
     // two quotes, a colon and a comma each
     let mut room = definitions.len().saturating_mul(4);
     for (name, kept) in definitions {
@@ -90,7 +84,7 @@ fn text_len(kept: &Kept) -> usize {
 fn push_definitions<C: Change>(
     out: &mut String,
     alloc: Global,
-    definitions: BTreeMap<String, Kept>,
+    definitions: IndexMap<String, Kept>,
     change: &mut C,
 ) -> Result<(), AllocError>
     requires { AreOrdered C.made definitions.entries }

@@ -3,6 +3,7 @@
 //! transforms ask for it.
 #![tactic(auto)]
 
+mod by_name;
 mod change;
 mod entries;
 mod joined;

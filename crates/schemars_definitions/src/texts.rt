@@ -8,15 +8,15 @@ ghost use Rattle.schemars_definitions.specs.Joined.{HasNoDefinitions, HasPlaceAt
 ghost use Rattle.schemars_definitions.specs.Keys.{HasKeysOnce};
 ghost use Rattle.schemars_definitions.specs.Whole.{each_made, with_names};
 
+use crate::by_name;
 use crate::change::Change;
-use crate::entries::{insert_new, replace};
 use crate::joined::{definitions_text, joined};
 use crate::kept::Kept;
 use crate::store::Definitions;
+use indexmap::IndexMap;
 use schemars_schema::Schema;
 use schemars_transform::Needs;
 use std::alloc::{AllocError, Global};
-use std::collections::BTreeMap;
 use std::marker::Model;
 
 /// Definitions as ordered text, which takes an eighth of the memory of JSON values. The text that
@@ -24,20 +24,20 @@ use std::marker::Model;
 /// no 64-bit whole number is kept as a JSON value.
 #[derive(Drop)]
 pub struct Texts<C: Change> {
-    definitions: BTreeMap<String, Kept>,
+    definitions: IndexMap<String, Kept>,
     change: C,
 }
 
 impl<C: Change> Model for Texts<C> {
     ghost use Rattle.serde_json.specs.Data.{Members};
     ghost use Rattle.schemars_schema.specs.DataCode.{members_code};
-    ghost use Rattle.schemars_definitions.specs.Kept.{definitions_in, AreOrdered};
+    ghost use Rattle.schemars_definitions.specs.Kept.{definitions_by_name, AreOrdered};
 
     ghost Value = { Members };
 
     ghost coded = { members_code };
 
-    ghost view = { λ t. definitions_in t.definitions.entries };
+    ghost view = { λ t. definitions_by_name t.definitions.entries };
 
     ghost invariant = { λ t. AreOrdered C.made t.definitions.entries };
 }
@@ -48,7 +48,7 @@ impl<C: Change> Texts<C> {
         ensures { result ≡ no_members }
     {
         Texts {
-            definitions: BTreeMap::new(alloc),
+            definitions: IndexMap::new(alloc),
             change,
         }
     }
@@ -78,9 +78,10 @@ impl<C: Change + Drop> Texts<C> {
         ensures once { HasKeysOnce self }
     {
         let Texts {
-            definitions,
+            mut definitions,
             mut change,
         } = self;
+        by_name::sort(&mut definitions)?;
         joined(alloc, own, key, definitions, &mut change)
     }
 
@@ -98,9 +99,10 @@ impl<C: Change + Drop> Texts<C> {
         ensures once { HasKeysOnce self }
     {
         let Texts {
-            definitions,
+            mut definitions,
             mut change,
         } = self;
+        by_name::sort(&mut definitions)?;
         definitions_text(alloc, definitions, &mut change)
     }
 }
@@ -109,17 +111,16 @@ impl<C: Change> Definitions for Texts<C> {
     ghost kept = { λ ms. ms };
 
     fn contains_key(&self, name: &str) -> bool {
-        self.definitions.contains_key(name)
+        by_name::has_name(&self.definitions, name)
     }
 
     fn begin(&mut self, alloc: Global, name: &str) -> Result<bool, AllocError> {
-        let key = String::from_str(alloc, name)?;
-        insert_new(&mut self.definitions, key, Kept::Begun)
+        by_name::begin(&mut self.definitions, alloc, name)
     }
 
     fn finish(&mut self, alloc: Global, name: &str, schema: Schema) -> Result<(), AllocError> {
         let kept = Kept::new(alloc, schema, &mut self.change)?;
-        replace(&mut self.definitions, name, kept);
+        by_name::replace(&mut self.definitions, name, kept);
         Ok(())
     }
 
@@ -140,7 +141,7 @@ impl<C: Change> Definitions for Texts<C> {
         if !leaves(&self.change, needs) {
             return Err(text);
         }
-        replace(&mut self.definitions, name, Kept::Text(text));
+        by_name::replace(&mut self.definitions, name, Kept::Text(text));
         Ok(())
     }
 
@@ -153,12 +154,12 @@ impl<C: Change> Definitions for Texts<C> {
         needs: Needs,
     ) -> Result<(), AllocError> {
         let kept = Kept::changed(alloc, text, schema, needs, &mut self.change)?;
-        replace(&mut self.definitions, name, kept);
+        by_name::replace(&mut self.definitions, name, kept);
         Ok(())
     }
 
     fn remove(&mut self, name: &str) {
-        let _ = self.definitions.remove(name);
+        by_name::remove(&mut self.definitions, name);
     }
 }
 

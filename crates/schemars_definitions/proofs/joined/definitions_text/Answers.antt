@@ -3,8 +3,8 @@ use Rattle.schemars_definitions.specs.Whole.{each_made}
 use Rattle.schemars_definitions.proofs.JoinedTexts.{braced_text}
 use Rattle.schemars_definitions.proofs.joined.definitions_text.Goals as goal
 
-pub returns-clause-text : goal.returns-clause-text
+pub returns : goal.returns
 unfolding lib.Utf8.encode
-returns-clause-text g c = λ none.
+returns g c = λ none.
     braced_text (each_made g.C.Change.made (definitions_in c.args.definitions.entries)) _ _ _ _ c.in_ok-out.ensures.bytes
     c.in_ok-push.ensures.bytes (c.in_ok-push_definitions.ensures none) c.in_ok-push-2.ensures.bytes

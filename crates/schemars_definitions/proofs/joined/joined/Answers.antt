@@ -5,8 +5,8 @@ use Rattle.schemars_definitions.proofs.Floats.{place_whole}
 use Rattle.schemars_definitions.proofs.JoinedTexts.{joined_text}
 use Rattle.schemars_definitions.proofs.joined.joined.Goals as goal
 
-pub returns-clause-text : goal.returns-clause-text
-returns-clause-text g c = λ none.
+pub returns : goal.returns
+returns g c = λ none.
     let defs = each_made g.C.Change.made (definitions_in c.args.definitions.entries) in
     let floats = place_whole c.args.key.now defs c.args.own.now c.requires.place.empty none in
     let whole = joined_text c.args.key.now defs c.args.own.now (string_bytes c.in_ok-out.out)

@@ -1,18 +1,14 @@
-use Rattle.std.proofs.Common.{◌≡◌, false, subst, string_bytes}
-use Rattle.std.proofs.lemmas.Result.{IfOk-weaker}
-use Rattle.serde_json.specs.Written.{has_float}
-use Rattle.schemars_text.specs.OrderedText.{ordered_text}
+use Rattle.std.proofs.Common.{subst}
 use Rattle.schemars_definitions.specs.Keys.{HasKeysOnce}
-use Rattle.schemars_definitions.specs.Whole.{each_made, with_names}
+use Rattle.schemars_definitions.specs.Kept.{definition_in}
+use Rattle.schemars_definitions.proofs.ByName.{once-by_name}
 use Rattle.schemars_definitions.proofs.texts.Texts.into_text.Goals as goal
 
-pub returns-clause-text : goal.returns-clause-text
-returns-clause-text g c =
-    let made = each_made g.C.Change.made in
-    let own = c.args.own.now in
-    let key = c.args.key.now in
-    IfOk-weaker c.joined.result _ _ (λ s text. subst (λ ms. has_float (with_names key (made ms) own) ≡ false
-    → string_bytes s ≡ ordered_text (with_names key (made ms) own)) c.self.view_is text) c.joined.ensures.text
+pub returns-in_err-sort-clause-once : goal.returns-in_err-sort-clause-once
+returns-in_err-sort-clause-once g c = subst HasKeysOnce c.self.view_is (once-by_name definition_in c.self.inside.definitions.entries)
+
+pub joined-requires-clause-ordered : goal.joined-requires-clause-ordered
+joined-requires-clause-ordered g c = c.sort.ensures.ordered g.C.Change.made c.self.invariant
 
 pub returns-clause-once : goal.returns-clause-once
-returns-clause-once g c = subst HasKeysOnce c.self.view_is c.joined.ensures.once
+returns-clause-once g c = subst HasKeysOnce c.self.view_is (once-by_name definition_in c.self.inside.definitions.entries)

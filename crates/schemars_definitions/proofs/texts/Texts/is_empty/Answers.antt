@@ -1,9 +1,9 @@
 use Rattle.std.proofs.Common.{◌≡◌, ◌↔◌, IsTrue, subst}
 use Rattle.serde_json.specs.Data.{no_members}
 use Rattle.schemars_definitions.specs.Kept.{definition_in}
-use Rattle.schemars_definitions.proofs.EntryEdits.{is_none-by}
+use Rattle.schemars_definitions.proofs.ByName.{is_none-by_name}
 use Rattle.schemars_definitions.proofs.texts.Texts.is_empty.Goals as goal
 
 pub returns : goal.returns
 returns g c = subst (λ ms. IsTrue c.is_empty.result ↔ (ms ≡ no_members)) c.self.view_is
-    (is_none-by definition_in c.self.inside.definitions.entries c.is_empty.result c.is_empty.ensures)
+    (is_none-by_name definition_in c.self.inside.definitions.entries c.is_empty.result c.is_empty.ensures)
