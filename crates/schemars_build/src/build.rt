@@ -458,7 +458,7 @@ fn define<D: Definitions>(
     }) }
     ensures err { OnErr result (registry.new ≡ registry.old) }
 {
-    let rendered = if registry.keeps_texts() {
+    let rendered = if registry.wants_texts() {
         render(alloc, &template, &answers, !registry.changes_nothing())?
     } else {
         None

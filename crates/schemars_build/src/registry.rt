@@ -15,6 +15,7 @@ ghost use Rattle.serde_json.specs.Rows.{map_row};
 
 use crate::names::Names;
 use crate::pending::Pending;
+use crate::text_count::{NO_TEXTS, TextCount};
 use schemars_definitions::{Definitions, Objects};
 use schemars_schema::Schema;
 use schemars_transform::Needs;
@@ -32,6 +33,7 @@ pub struct Registry<D: Definitions> {
     kept: usize,
     has_root_reference: bool,
     pending: Pending,
+    texts: TextCount,
 }
 
 impl<D: Definitions> Model for Registry<D> {
@@ -69,6 +71,7 @@ impl Clone for Registry<Objects> {
             kept: self.kept,
             has_root_reference: self.has_root_reference,
             pending: self.pending.clone()?,
+            texts: self.texts,
         })
     }
 }
@@ -95,6 +98,7 @@ impl Registry<Objects> {
             kept: 0,
             has_root_reference: false,
             pending: Pending::new(alloc),
+            texts: NO_TEXTS,
         }
     }
 
@@ -214,9 +218,10 @@ impl<D: Definitions> Registry<D> {
         self.definitions.finish(alloc, name, schema)
     }
 
-    /// Whether definitions are kept as text.
-    pub fn keeps_texts(&self) -> bool {
-        self.definitions.keeps_texts()
+    /// Whether definitions are to be rendered: the store keeps texts, and those that were rendered
+    /// before were mostly kept.
+    pub fn wants_texts(&self) -> bool {
+        self.definitions.keeps_texts() && self.texts.are_mostly_kept()
     }
 
     /// Whether each definition is written as it is kept, whatever it needs.
@@ -244,7 +249,9 @@ impl<D: Definitions> Registry<D> {
         ensures err { OnErr result (self.new ≡ self.old) }
         ensures text { IfErr result (λ unkept. unkept ≡ text) }
     {
-        self.definitions.finish_text(name, text, needs)
+        let finished = self.definitions.finish_text(name, text, needs);
+        self.texts.add(finished.is_ok());
+        finished
     }
 
     /// Puts a definition that was begun in its place, where its ordered text and its needs are
@@ -372,6 +379,7 @@ impl<D: Definitions + Drop> Registry<D> {
             kept,
             has_root_reference,
             pending,
+            texts,
             ..
         } = self;
         Registry {
@@ -381,6 +389,7 @@ impl<D: Definitions + Drop> Registry<D> {
             kept,
             has_root_reference,
             pending,
+            texts,
         }
     }
 }
