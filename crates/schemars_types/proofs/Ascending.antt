@@ -62,6 +62,12 @@ leads_nowhere SameValue rows n m empty among =
     by None none c = nothing_among m c
     by (Some e) none c = among_none (numbers_of e.shape) m none (same_number e.shape m c)
 
+pub all_nowhere : (P : ℕ → Type 0) (kind : EdgeKind) (rows : List Row) (n : ℕ) → numbers_at rows n ≡ []
+    → All P (targets_along kind rows n)
+all_nowhere P kind rows n empty =
+    let none = none_among (targets_along kind rows n) (λ m c. leads_nowhere kind rows n m empty c) in
+    subst (λ (ms : List ℕ). All P ms) (sym none) (λ k d below. absurd (omega (arith, below)))
+
 module _ (kind : EdgeKind) (rows : List Row) (from : ℕ) where
   abbrev Edge : ℕ → ℕ → Type 0
   Edge = EdgeFrom from (Leads (targets_along kind rows))

@@ -95,21 +95,34 @@ pub fn first_on_cycle(
 
 // Whether each edge between rows from row `from` on leads to a later row, or to one that refers to
 // none. No walk closes then, and no graph is needed.
-fn ascends(
-    alloc: Global,
-    types: &Types,
-    kind: EdgeKind,
-    from: usize,
-) -> Result<bool, AllocError>
+fn ascends(alloc: Global, types: &Types, kind: EdgeKind, from: usize) -> Result<bool, AllocError>
     ensures { IfOk result (λ b. OnTrue b (Ascends kind types.now from)) }
 {
     for n in from..types.len() {
-        let targets = targets(alloc, types, kind, n)?;
-        if !all_lead_on(types, from, n, &targets) {
+        let leads = edges_lead_on(alloc, types, kind, from, n)?;
+        if !leads {
             return Ok(false);
         }
     }
     Ok(true)
+}
+
+// The same of the edges from row `n`.
+fn edges_lead_on(
+    alloc: Global,
+    types: &Types,
+    kind: EdgeKind,
+    from: usize,
+    n: TypeNo,
+) -> Result<bool, AllocError>
+    ensures { IfOk result (λ b. OnTrue b
+        (All (LeadsOn types.now from n) (targets_along kind types.now n))) }
+{
+    if refers_to_none(types, n) {
+        return Ok(true);
+    }
+    let targets = targets(alloc, types, kind, n)?;
+    Ok(all_lead_on(types, from, n, &targets))
 }
 
 fn all_lead_on(types: &Types, from: usize, n: TypeNo, numbers: &[TypeNo]) -> bool
