@@ -80,46 +80,22 @@ returns-clause-added g c =
 pub returns-in_err-entry-clause-present : goal.returns-in_err-entry-clause-present
 returns-in_err-entry-clause-present g c =
     let t = g.T.JsonSchema.says in
-    let id_is = c.in_ok-id.ensures.ok ∙ c.in_ok-text.ensures in
-    let name_is = c.in_ok-name.ensures.ok ∙ c.in_ok-schema_name.ensures in
-    let mid = c.reserve.new.self in
-    let mid_is : mid ≡ reserved t.id t.name c.args.types.now = c.in_ok-n.ensures.ok
-    ∙ ap (λ i. reserved i (string_bytes c.in_ok-name.name) c.args.types.now) id_is
-    ∙ ap (λ x. reserved t.id x c.args.types.now) name_is in
-    let there : place_of t.id mid ≡ Some c.in_ok-n.n = ap (λ i. place_of i mid) (sym id_is) ∙ c.in_ok-n.ensures.number in
     let undefined : entry_under t.id c.args.types.now ≡ None = nothing-under _ (c.in_default.ensures.defined
     ∙ ap (λ i. is_some (entry_under i c.args.types.now)) (c.as_str.ensures.value ∙ c.in_ok-text.ensures)) in
-    let missing = ap is_some (undefined-reserved t.id t.name c.args.types.now mid c.in_ok-n.n undefined mid_is there) in
     λ present. absurd (never-under _ undefined present)
 
 pub returns-in_err-define-clause-present : goal.returns-in_err-define-clause-present
 returns-in_err-define-clause-present g c =
     let t = g.T.JsonSchema.says in
-    let id_is = c.in_ok-id.ensures.ok ∙ c.in_ok-text.ensures in
-    let name_is = c.in_ok-name.ensures.ok ∙ c.in_ok-schema_name.ensures in
-    let mid = c.reserve.new.self in
-    let mid_is : mid ≡ reserved t.id t.name c.args.types.now = c.in_ok-n.ensures.ok
-    ∙ ap (λ i. reserved i (string_bytes c.in_ok-name.name) c.args.types.now) id_is
-    ∙ ap (λ x. reserved t.id x c.args.types.now) name_is in
-    let there : place_of t.id mid ≡ Some c.in_ok-n.n = ap (λ i. place_of i mid) (sym id_is) ∙ c.in_ok-n.ensures.number in
     let undefined : entry_under t.id c.args.types.now ≡ None = nothing-under _ (c.in_default.ensures.defined
     ∙ ap (λ i. is_some (entry_under i c.args.types.now)) (c.as_str.ensures.value ∙ c.in_ok-text.ensures)) in
-    let missing = ap is_some (undefined-reserved t.id t.name c.args.types.now mid c.in_ok-n.n undefined mid_is there) in
     λ present. absurd (never-under _ undefined present)
 
 pub returns-clause-present : goal.returns-clause-present
 returns-clause-present g c =
     let t = g.T.JsonSchema.says in
-    let id_is = c.in_ok-id.ensures.ok ∙ c.in_ok-text.ensures in
-    let name_is = c.in_ok-name.ensures.ok ∙ c.in_ok-schema_name.ensures in
-    let mid = c.reserve.new.self in
-    let mid_is : mid ≡ reserved t.id t.name c.args.types.now = c.in_ok-n.ensures.ok
-    ∙ ap (λ i. reserved i (string_bytes c.in_ok-name.name) c.args.types.now) id_is
-    ∙ ap (λ x. reserved t.id x c.args.types.now) name_is in
-    let there : place_of t.id mid ≡ Some c.in_ok-n.n = ap (λ i. place_of i mid) (sym id_is) ∙ c.in_ok-n.ensures.number in
     let undefined : entry_under t.id c.args.types.now ≡ None = nothing-under _ (c.in_default.ensures.defined
     ∙ ap (λ i. is_some (entry_under i c.args.types.now)) (c.as_str.ensures.value ∙ c.in_ok-text.ensures)) in
-    let missing = ap is_some (undefined-reserved t.id t.name c.args.types.now mid c.in_ok-n.n undefined mid_is there) in
     λ present. absurd (never-under _ undefined present)
 
 pub returns-in-Some-clause-completes : goal.returns-in-Some-clause-completes
