@@ -122,22 +122,6 @@ pub never_there : {A B : Type 0} (o : Option A) (f : A → B) → is_some o ≡ 
 never_there None f there none = cc
 never_there (Some a) f there none = cc
 
--- ---- a row that is defined already
-
-pub reserved-same : (id name : Text) (old mid : List Row) → is_some (entry_under id old) ≡ true → mid ≡ reserved id name old → mid ≡ old
-reserved-same id name old mid there is = is ∙ by (place_of id old) refl there
-  where
-    by : (o : Option ℕ) → place_of id old ≡ o → is_some (option_and_then (λ n. entry_at old n) o) ≡ true → reserved id name old ≡ old
-    by None none h = cc
-    by (Some k) found h = rw found refl
-
-pub defined-reserved : (id name : Text) (old mid : List Row) (n : ℕ) → is_some (entry_under id old) ≡ true → mid ≡ reserved id name old
-    → place_of id mid ≡ Some n → is_some (entry_at mid n) ≡ true
-defined-reserved id name old mid n there is placed =
-    let same : mid ≡ old = reserved-same id name old mid there is in
-    let at : place_of id old ≡ Some n = ap (place_of id) (sym same) ∙ placed in
-    ap (λ t. is_some (entry_at t n)) same ∙ sym (ap (λ o. is_some (option_and_then (λ m. entry_at old m) o)) at) ∙ there
-
 pub never_absent : {A B : Type 0} (o : Option A) (f : A → B) → is_some o ≡ false → is_some (option_map f o) ≡ true → ⊥
 never_absent None f none there = cc
 never_absent (Some a) f none there = cc

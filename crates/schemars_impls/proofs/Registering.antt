@@ -1,5 +1,5 @@
 -- What `register` makes of a table, in the words of its clauses.
-use Rattle.std.proofs.Common.{◌≡◌, ◌<◌, ℕ, zero, suc, List, [], ◌∷◌, ◌++◌, Bool, true, false, not, Option, Some, None, length, nat_le, find, is_some, option_map, option_and_then, refl, ap, sym, ◌∙◌, subst, arith, if◌then◌else◌}
+use Rattle.std.proofs.Common.{◌≡◌, ◌<◌, ℕ, zero, suc, List, [], ◌∷◌, ◌++◌, Bool, true, false, not, Option, Some, None, length, nat_le, is_some, option_and_then, refl, ap, sym, ◌∙◌, subst, arith, if◌then◌else◌}
 use Rattle.std.specs.Option.{option_map_or}
 use Rattle.schemars_schema.specs.Json.{Text}
 use Rattle.schemars_shapes.specs.Equality.{entry_eq}
@@ -7,18 +7,14 @@ use Rattle.schemars_shapes.specs.Shape.{Entry}
 use Rattle.schemars_types.specs.declared.error.TypesError.{TypesError}
 use Rattle.schemars_types.specs.declared.error.TypesError.TheVariants.{AlreadyDefined, UnknownType}
 use Rattle.schemars_types.specs.Refusals.{refusal_of, first_unknown}
-use Rattle.schemars_types.specs.Rows.{Row, place_of, entry_at, id_at, name_at, reserved, defined, unknown_in, holds_another}
+use Rattle.schemars_types.specs.Rows.{Row, place_of, entry_at, name_at, reserved, defined, unknown_in}
 use Rattle.schemars_types.proofs.Registered.{place_of-below, nat_le-above}
-use Rattle.schemars_types.proofs.TableLemmas.{place_of-reserved, reserved-absent, place_of-defined, defined-same}
+use Rattle.schemars_types.proofs.TableLemmas.{place_of-reserved, reserved-absent}
 use Rattle.schemars_impls.specs.Describes.{IsMade, IsDescribed, entry_under}
-use Rattle.schemars_impls.specs.Dictionary.{Told, Stage, Defined, Pending, Open, Dictionary, staged, IsNamed, IsEntryOf, IsAtStage, Follows, TypeRow, IsTold, IsFree, IsLeft, IsTypeIn, IsIn, IsInPart, MayRefuse, KeepsTo, RefusesAs, Describes, RefusesPart, Completes}
+use Rattle.schemars_impls.specs.Dictionary.{Told, Defined, Pending, Open, Dictionary, staged, IsNamed, IsEntryOf, IsAtStage, Follows, TypeRow, IsTold, IsLeft, IsTypeIn, IsIn, IsInPart, KeepsTo, RefusesAs, Describes, RefusesPart, Completes}
 use Rattle.schemars_impls.specs.Keeps.{Keeps, AllContinue}
-use Rattle.schemars_impls.proofs.Keeping.{place_of-kept, defined-there, undefined-reserved, defined-reserved}
+use Rattle.schemars_impls.proofs.Keeping.{place_of-kept, defined-there}
 use Rattle.schemars_impls.proofs.Following.{made-kept, name_at-last, staged-same, restaged, restaged-twice, follows-open, follows-reserved, follows-defined, follows-settled}
-
-pub is_some-map : {A B : Type 0} (f : A → B) (o : Option A) → is_some (option_map f o) ≡ is_some o
-is_some-map f None = refl
-is_some-map f (Some a) = refl
 
 pub named : (o : Option Told) (t : TypeRow) → IsTold o t → IsNamed o t.name
 named None t h = tt
@@ -111,37 +107,23 @@ module _ (t : TypeRow) (old mid last : List Row) (n : ℕ) (mid_is : mid ≡ res
       by-none above all_known None none = rw (above, all_known) refl
       by-none above all_known (Some f) none = cc
 
--- ---- a row that is there
+-- ---- an id with a row that is defined, or without one
 
-present-same : (id name : Text) (old mid : List Row) (n : ℕ) → mid ≡ reserved id name old → place_of id mid ≡ Some n
-    → is_some (entry_at mid n) ≡ true → mid ≡ old
-present-same id name old mid n is there full = by (place_of id old) refl
-  where
-    by : (o : Option ℕ) → place_of id old ≡ o → mid ≡ old
-    by None none =
-        let undefined : entry_under id old ≡ None = ap (option_and_then (λ m. entry_at old m)) none in
-        let empty = undefined-reserved id name old mid n undefined is there in
-        let never : true ≡ false = sym full ∙ ap is_some empty in cc
-    by (Some k) found = is ∙ rw found refl
+pub nothing-under : (o : Option Entry) → false ≡ is_some o → o ≡ None
+nothing-under None h = refl
+nothing-under (Some e) h = cc
 
-module _ (t : TypeRow) (old mid : List Row) (n : ℕ) (is : mid ≡ reserved t.id t.name old) (there : place_of t.id mid ≡ Some n)
-    (full : is_some (entry_at mid n) ≡ true) where
-  pub present-follows : KeepsTo (IsIn t) old mid
-  present-follows = record { each = λ d h f. subst (Follows d) (sym (present-same t.id t.name old mid n is there full)) f }
+pub never-under : (o : Option Entry) → o ≡ None → is_some o ≡ true → ⊥
+never-under o none present = let never : true ≡ false = sym present ∙ ap is_some none in cc
 
-  pub present-completes : Completes t old mid
-  present-completes = record {
-    each = λ d h f.
-        let g : Follows d mid = subst (Follows d) (sym (present-same t.id t.name old mid n is there full)) f in
-        restaged d t.id Defined mid g
-        (λ m placed. let ms : Some m ≡ Some n = sym placed ∙ there in let m_is : n ≡ m = cc in
-        ap (λ k. is_some (entry_at mid k)) (sym m_is) ∙ full) (λ is. cc);
-  }
-
-pub never-present : (id name : Text) (old mid : List Row) (n : ℕ) → mid ≡ reserved id name old → place_of id mid ≡ Some n
-    → is_some (entry_at mid n) ≡ false → is_some (entry_under id old) ≡ true → ⊥
-never-present id name old mid n is there missing present =
-    let never : true ≡ false = sym (defined-reserved id name old mid n present is there) ∙ missing in cc
+-- a row that is there is complete
+pub present-completes : (t : TypeRow) (rows : List Row) (n : ℕ) → place_of t.id rows ≡ Some n
+    → is_some (entry_under t.id rows) ≡ true → Completes t rows rows
+present-completes t rows n there present = record {
+  each = λ d h f.
+      restaged d t.id Defined rows f
+      (λ m placed. ap (λ o. is_some (option_and_then (λ k. entry_at rows k) o)) (sym placed) ∙ present) (λ is. cc);
+}
 
 -- ---- names
 

@@ -1,8 +1,8 @@
 //! What an implementation of `JsonSchema` promises, and how a type is added to a table.
-ghost use Rattle.std.specs.Prelude.{◌≡◌, None, IfErr, IfOk, IsSome, OnOk};
+ghost use Rattle.std.specs.Prelude.{◌≡◌, None, Some, is_some, IfErr, IfOk, IfSome, IsSome, OnOk};
 ghost use Rattle.std.specs.Cow.{cow_str_bytes};
 ghost use Rattle.schemars_shapes.specs.Shape.{entry_of, shape_of, without_notes};
-ghost use Rattle.schemars_types.specs.Rows.{unknown_in};
+ghost use Rattle.schemars_types.specs.Rows.{place_of, unknown_in};
 ghost use Rattle.schemars_impls.specs.Keeps.{Keeps, KeepsRows};
 ghost use Rattle.schemars_impls.specs.Describes.{entry_under, IsMade};
 ghost use Rattle.schemars_impls.specs.Dictionary.{TypeRow, Describes, RefusesPart, IsAdded, IsIn, KeepsTo, Completes, RefusesType};
@@ -62,16 +62,27 @@ pub fn register<T: JsonSchema>(alloc: Global, types: &mut Types) -> Result<TypeN
     ensures completes { OnOk result (Completes T.says types.old types.new) }
     ensures refused { IfErr result (RefusesType T.says types.old) }
 {
-    let id = T::schema_id(alloc)?.into_owned(alloc)?;
-    let name = T::schema_name(alloc)?.into_owned(alloc)?;
-    let n = types.reserve(id, name)?;
-    if types.entry(n).is_some() {
+    let text = T::schema_id(alloc)?;
+    if let Some(n) = defined_row(types, text.as_str()) {
         return Ok(n);
     }
+    let id = text.into_owned(alloc)?;
+    let name = T::schema_name(alloc)?.into_owned(alloc)?;
+    let n = types.reserve(id, name)?;
     let mut entry = T::json_schema(alloc, types)?;
     entry.inline = T::inline_schema();
     types.define(n, entry)?;
     Ok(n)
+}
+
+// The number of the row with this id, if it is defined.
+fn defined_row(types: &Types, id: &str) -> Option<TypeNo>
+    ensures number { IfSome result (λ n. place_of id.now types.now ≡ Some n) }
+    ensures defined { is_some result ≡ is_some (entry_under id.now types.now) }
+{
+    let n = types.find(id)?;
+    types.entry(n)?;
+    Some(n)
 }
 
 /// Returns an entry of this shape without notes.

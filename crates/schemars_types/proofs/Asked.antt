@@ -43,7 +43,7 @@ beside_by by_name = flattened_of_payload
 beside_by by_nothing = flattened_of_payload
 beside_by (by_tag_and_content tag content closed) = flattened_of_payload
 
-same_number : (s : Shape) (m : ℕ) → Contains (same_value_numbers s) m → Contains (numbers_of s) m
+pub same_number : (s : Shape) (m : ℕ) → Contains (same_value_numbers s) m → Contains (numbers_of s) m
 same_number (shape.option i) m c = c
 same_number (shape.newtype i) m c = c
 same_number (shape.struct x) m c = Contains-append_right (map (λ f. f.ty) x.list) (flattened_rows x) m c

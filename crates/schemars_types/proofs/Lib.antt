@@ -16,6 +16,7 @@ mod DecimalExamples
 pub mod Texts
 pub mod Adding
 pub mod Asked
+mod Ascending
 pub mod Settling
 pub mod Further
 pub mod Options

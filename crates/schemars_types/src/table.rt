@@ -11,7 +11,7 @@ pub(crate) mod slots;
 pub(crate) mod texts;
 
 use crate::error::TypesError;
-use crate::table::slots::{Slot, entry, slots_begin_with};
+use crate::table::slots::{Slot, add_slot, entry, slots_begin_with};
 use indexmap::IndexMap;
 use schemars_shapes::{Shape, TypeEntry, TypeNo, first_unknown};
 use std::alloc::{AllocError, Global};
@@ -140,8 +140,20 @@ impl Types {
         if let Some(n) = self.find(id.as_str()) {
             return Ok(n);
         }
+        self.add_row(id, name)
+    }
+
+    // Adds a row with this id, which no row has.
+    pub(crate) fn add_row(&mut self, id: String, name: String) -> Result<TypeNo, TypesError>
+        requires { place_of (string_bytes id) self.old ≡ None }
+        ensures ok { OnOk result (self.new
+            ≡ reserved (string_bytes id) (string_bytes name) self.old) }
+        ensures number { IfOk result (λ n. place_of (string_bytes id) self.new ≡ Some n) }
+        ensures err { OnErr result (self.new ≡ self.old) }
+        ensures memory { IfErr result (λ e. e ≡ TypesError.OutOfMemory) }
+    {
         let n = self.len();
-        self.slots.insert(id, Slot { name, entry: None })?;
+        add_slot(&mut self.slots, id, name)?;
         Ok(n)
     }
 

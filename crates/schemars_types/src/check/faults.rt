@@ -1,17 +1,18 @@
 //! The faults of a table.
-ghost use Rattle.std.specs.Prelude.{◌≡◌, ◌<◌, ◌≤◌, ◌-◌, ◌++◌, ℕ, length, map, filter, None, IfOk, OnOk, MatchOption, string_bytes};
+ghost use Rattle.std.specs.Prelude.{◌≡◌, ◌<◌, ◌≤◌, ◌-◌, ◌++◌, ℕ, [], All, length, map, filter, None, IfOk, OnOk, MatchOption, string_bytes};
+ghost use Rattle.std.specs.Bool.{OnTrue};
 ghost use Rattle.schemars_shapes.specs.Shape.{shape_of, numbers_of};
 ghost use Rattle.schemars_types.specs.Walks.{Leads, OnCycle, IsFree, IsLeast, FaultFrom, EdgeFrom};
 ghost use Rattle.schemars_types.specs.Search.{HasTargets, counted_from};
 ghost use Rattle.schemars_shapes.specs.Repeated.{AreDistinctLists, IsFirstRepeated};
-ghost use Rattle.schemars_types.specs.Edges.{is_inline_at, is_row, asked_in, below, names_at, RefersWithin};
-ghost use Rattle.schemars_types.specs.EdgeKind.{targets_along, targets_from};
+ghost use Rattle.schemars_types.specs.Edges.{numbers_at, is_inline_at, is_row, asked_in, below, names_at, RefersWithin};
+ghost use Rattle.schemars_types.specs.EdgeKind.{targets_along, targets_from, LeadsOn, Ascends};
 ghost use Rattle.schemars_types.specs.Undefined.{IsUndefined};
 
 use crate::check::cycles::least_on_cycle;
 use crate::optional::row_inside;
 use crate::table::Types;
-use schemars_shapes::{Rows, Shape, TypeNo, rows};
+use schemars_shapes::{Rows, Shape, TypeNo, first_unknown, rows};
 use std::alloc::{AllocError, Global};
 
 /// Which edges are followed from row to row.
@@ -79,12 +80,80 @@ pub fn first_on_cycle(
         MatchOption r (IsFree (OnCycle (EdgeFrom from (Leads (targets_along kind types.now)))))
         (IsLeast (OnCycle (EdgeFrom from (Leads (targets_along kind types.now)))))) }
 {
+    let is_free = ascends(alloc, types, kind, from)?;
+    if is_free {
+        return Ok(None);
+    }
     // The sum below is the number of a row.
     let _len = types.len();
     let graph = graph(alloc, types, kind, from)?;
     match least_on_cycle(alloc, &graph)? {
         Some(n) => Ok(Some(from + n)),
         None => Ok(None),
+    }
+}
+
+// Whether each edge between rows from row `from` on leads to a later row, or to one that refers to
+// none. No walk closes then, and no graph is needed.
+fn ascends(alloc: Global, types: &Types, kind: EdgeKind, from: usize) -> Result<bool, AllocError>
+    ensures { IfOk result (λ b. OnTrue b (Ascends kind types.now from)) }
+{
+    for n in from..types.len() {
+        let leads = edges_lead_on(alloc, types, kind, from, n)?;
+        if !leads {
+            return Ok(false);
+        }
+    }
+    Ok(true)
+}
+
+// The same of the edges from row `n`.
+fn edges_lead_on(
+    alloc: Global,
+    types: &Types,
+    kind: EdgeKind,
+    from: usize,
+    n: TypeNo,
+) -> Result<bool, AllocError>
+    ensures { IfOk result (λ b. OnTrue b
+        (All (LeadsOn types.now from n) (targets_along kind types.now n))) }
+{
+    if refers_to_none(types, n) {
+        return Ok(true);
+    }
+    let targets = targets(alloc, types, kind, n)?;
+    Ok(all_lead_on(types, from, n, &targets))
+}
+
+fn all_lead_on(types: &Types, from: usize, n: TypeNo, numbers: &[TypeNo]) -> bool
+    ensures { OnTrue result (All (LeadsOn types.now from n) numbers.now) }
+{
+    for m in numbers {
+        if !leads_on(types, from, n, *m) {
+            return false;
+        }
+    }
+    true
+}
+
+fn leads_on(types: &Types, from: usize, n: TypeNo, m: TypeNo) -> bool
+    ensures { OnTrue result (LeadsOn types.now from n m) }
+{
+    if m < from {
+        return true;
+    }
+    if n < m {
+        return true;
+    }
+    refers_to_none(types, m)
+}
+
+fn refers_to_none(types: &Types, n: TypeNo) -> bool
+    ensures { OnTrue result (numbers_at types.now n ≡ []) }
+{
+    match types.entry(n) {
+        Some(entry) => first_unknown(&entry.shape, 0).is_none(),
+        None => true,
     }
 }
 

@@ -1,8 +1,8 @@
 //! How rows of common types are added to a table.
-ghost use Rattle.std.specs.Prelude.{◌≡◌, ◌++◌, [], ◌∷◌, codes, IfOk, OnErr, IfErr, string_bytes, find, nat_le, length};
+ghost use Rattle.std.specs.Prelude.{◌≡◌, ◌++◌, [], ◌∷◌, Some, codes, IfOk, OnOk, OnErr, IfErr, string_bytes, find, nat_le, length};
 ghost use Rattle.schemars_shapes.specs.Shape.{shape_of, without_notes, numbers_of};
 ghost use Rattle.schemars_types.specs.Refusals.{Registers, Refuses};
-ghost use Rattle.schemars_types.specs.Rows.{id_at, name_at, unknown_in};
+ghost use Rattle.schemars_types.specs.Rows.{place_of, id_at, name_at, reserved, unknown_in};
 ghost use Rattle.schemars_types.specs.Times.{RegistersTime, RefusesTime};
 
 use crate::check::fields::two_needed;
@@ -124,7 +124,7 @@ impl Types {
         self.register_row(alloc, id, name, inline, shape)
     }
 
-    // The same as `register_row` with copies of the id and the name.
+    // The same with copies of the id and the name, where they are new.
     pub(crate) fn register_named(
         &mut self,
         alloc: Global,
@@ -140,8 +140,24 @@ impl Types {
         ensures refused { IfErr result
             (Refuses id.now (without_notes inline (shape_of shape)) self.old) }
     {
+        let n = self.reserve_named(alloc, id, name)?;
+        let entry = TypeEntry::without_notes(alloc, inline, shape);
+        self.define(n, entry)?;
+        Ok(n)
+    }
+
+    // The same as `reserve` with copies of the id and the name, where they are new.
+    fn reserve_named(&mut self, alloc: Global, id: &str, name: &str) -> Result<TypeNo, TypesError>
+        ensures ok { OnOk result (self.new ≡ reserved id.now name.now self.old) }
+        ensures number { IfOk result (λ n. place_of id.now self.new ≡ Some n) }
+        ensures err { OnErr result (self.new ≡ self.old) }
+        ensures memory { IfErr result (λ e. e ≡ TypesError.OutOfMemory) }
+    {
+        if let Some(n) = self.find(id) {
+            return Ok(n);
+        }
         let id = String::from_str(alloc, id)?;
         let name = String::from_str(alloc, name)?;
-        self.register_row(alloc, id, name, inline, shape)
+        self.add_row(id, name)
     }
 }

@@ -1,12 +1,15 @@
 //! What a table holds under each id.
-ghost use Rattle.std.specs.Prelude.{◌≡◌, ◌&&◌, map, bytes_eq, string_bytes, Some, option_map};
+ghost use Rattle.std.specs.Prelude.{◌≡◌, ◌&&◌, map, bytes_eq, string_bytes, None, Some, option_map, OnOk, OnErr, IfErr};
+ghost use Rattle.std.specs.String.{string_eq};
 ghost use Rattle.std.specs.Option.{option_eq};
+ghost use Rattle.indexmap.specs.IndexMap.{insert_entry};
 ghost use Rattle.schemars_shapes.specs.Shape.{entry_of};
 ghost use Rattle.schemars_shapes.specs.Equality.{entry_eq};
 ghost use Rattle.schemars_types.specs.Rows.{entry_at};
 ghost use Rattle.schemars_types.specs.Extends.{begins_with};
 ghost use Rattle.schemars_types.specs.Slots.{row_of};
 
+use crate::error::TypesError;
 use indexmap::IndexMap;
 use schemars_shapes::{TypeEntry, TypeNo};
 use std::alloc::AllocError;
@@ -53,6 +56,27 @@ impl Clone for Slot {
             entry: self.entry.clone()?,
         })
     }
+}
+
+// For how many rows the first makes room.
+const FIRST_ROOM: usize = 8;
+
+/// Adds a row that is not defined, at the end if its id is new.
+pub fn add_slot(
+    slots: &mut IndexMap<String, Slot>,
+    id: String,
+    name: String,
+) -> Result<(), TypesError>
+    ensures ok { OnOk result (slots.new.entries
+        ≡ insert_entry string_eq slots.old.entries id (record { name = name; entry = None })) }
+    ensures err { OnErr result (slots.new.entries ≡ slots.old.entries) }
+    ensures memory { IfErr result (λ e. e ≡ TypesError.OutOfMemory) }
+{
+    if slots.is_empty() {
+        slots.reserve(FIRST_ROOM)?;
+    }
+    slots.insert(id, Slot { name, entry: None })?;
+    Ok(())
 }
 
 /// The entry of row `n`, once it is defined.

@@ -1,15 +1,15 @@
-use Rattle.std.proofs.Common.{Some, Option, is_some, refl, string_bytes, sym, ◌∙◌, ap, subst, ◌≡◌, Bool, true, false, rules}
+use Rattle.std.proofs.Common.{◌≡◌, None, Some, is_some, refl, string_bytes, sym, ◌∙◌, ap, rules}
 use Rattle.schemars_shapes.specs.Shape.{Entry, entry_of}
-use Rattle.schemars_types.specs.Rows.{place_of, entry_at, reserved}
+use Rattle.schemars_types.specs.Rows.{place_of, reserved}
 use Rattle.schemars_impls.specs.Describes.{entry_under}
-use Rattle.schemars_impls.specs.Dictionary.{IsIn, RefusesType, RefusesAs}
-use Rattle.schemars_impls.proofs.Keeping.{keeps-refl, keeps-same, keeps-trans, reserved-then, place_of-kept, define-keeps, reserved-same, defined-reserved, undefined-reserved, defined-there}
+use Rattle.schemars_impls.specs.Dictionary.{RefusesType}
+use Rattle.schemars_impls.proofs.Keeping.{keeps-refl, keeps-same, keeps-trans, reserved-then, place_of-kept, define-keeps, undefined-reserved, defined-there}
 use Rattle.schemars_impls.proofs.Following.{made-kept}
-use Rattle.schemars_impls.proofs.Registering.{is_some-map, part-refused, never-refused, registered-follows, registered-completes, present-follows, present-completes, reserved-name, never-present}
+use Rattle.schemars_impls.proofs.Registering.{part-refused, never-refused, registered-follows, registered-completes, nothing-under, never-under, present-completes, reserved-name}
 use Rattle.schemars_impls.proofs.law.register.Goals as goal
 
-pub returns-in_err-schema_id-clause-keeps : goal.returns-in_err-schema_id-clause-keeps
-returns-in_err-schema_id-clause-keeps g c = keeps-refl c.args.types.now
+pub returns-in_err-text-clause-keeps : goal.returns-in_err-text-clause-keeps
+returns-in_err-text-clause-keeps g c = keeps-refl c.args.types.now
 
 pub returns-in_err-id-clause-keeps : goal.returns-in_err-id-clause-keeps
 returns-in_err-id-clause-keeps g c = keeps-refl c.args.types.now
@@ -30,38 +30,31 @@ pub returns-in_err-define-clause-keeps : goal.returns-in_err-define-clause-keeps
 returns-in_err-define-clause-keeps g c =
     keeps-trans (reserved-then _ _ c.in_ok-n.ensures.ok (c.in_ok-entry.ensures.keeps.keeps tt)) (keeps-same _ _ c.in_err-define.ensures.err)
 
-pub returns-then-is_some-clause-keeps : goal.returns-then-is_some-clause-keeps
-returns-then-is_some-clause-keeps g c = reserved-then _ _ c.in_ok-n.ensures.ok (keeps-refl _)
+pub returns-in-Some-clause-keeps : goal.returns-in-Some-clause-keeps
+returns-in-Some-clause-keeps g c = keeps-refl c.args.types.now
 
 pub returns-clause-keeps : goal.returns-clause-keeps
 returns-clause-keeps g c =
     keeps-trans (reserved-then _ _ c.in_ok-n.ensures.ok (c.in_ok-entry.ensures.keeps.keeps tt))
     (define-keeps _ _ _ _ c.in_ok-define.ensures.refused c.in_ok-define.ensures.ok)
 
-pub returns-then-is_some-clause-added : goal.returns-then-is_some-clause-added
-returns-then-is_some-clause-added g c =
+pub returns-in-Some-clause-added : goal.returns-in-Some-clause-added
+returns-in-Some-clause-added g c =
     let t = g.T.JsonSchema.says in
-    let id_is = c.in_ok-id.ensures.ok ∙ c.in_ok-schema_id.ensures in
-    let name_is = c.in_ok-name.ensures.ok ∙ c.in_ok-schema_name.ensures in
-    let mid = c.reserve.new.self in
-    let mid_is : mid ≡ reserved t.id t.name c.args.types.now = c.in_ok-n.ensures.ok
-    ∙ ap (λ i. reserved i (string_bytes c.in_ok-name.name) c.args.types.now) id_is
-    ∙ ap (λ x. reserved t.id x c.args.types.now) name_is in
-    let there : place_of t.id mid ≡ Some c.in_ok-n.n = ap (λ i. place_of i mid) (sym id_is) ∙ c.in_ok-n.ensures.number in
-    let full = ap is_some (sym c.entry.ensures) ∙ is_some-map (λ e. entry_of e.now) c.entry.result ∙ sym c.is_some.ensures in
+    let id_is : c.as_str.result.now ≡ t.id = c.as_str.ensures.value ∙ c.in_ok-text.ensures in
+    let there : place_of t.id c.args.types.now ≡ Some c.in-Some.n = ap (λ i. place_of i c.args.types.now) (sym id_is)
+    ∙ c.in-Some.ensures.number in
+    let present = ap (λ i. is_some (entry_under i c.args.types.now)) (sym id_is) ∙ sym c.in-Some.ensures.defined in
     record {
       number = there;
-      name = λ none. reserved-name t.id t.name c.args.types.now mid mid c.in_ok-n.n mid_is there (keeps-refl mid) none;
-      described = λ undefined.
-          let none = undefined-reserved t.id t.name c.args.types.now mid c.in_ok-n.n undefined mid_is there in
-          let never : true ≡ false = sym (full ∙ c.if-is_some.true) ∙ ap is_some none in
-          cc;
+      name = λ none. let never : None ≡ Some c.in-Some.n = sym none ∙ there in cc;
+      described = λ undefined. absurd (never-under _ undefined present);
     }
 
 pub returns-clause-added : goal.returns-clause-added
 returns-clause-added g c =
     let t = g.T.JsonSchema.says in
-    let id_is = c.in_ok-id.ensures.ok ∙ c.in_ok-schema_id.ensures in
+    let id_is = c.in_ok-id.ensures.ok ∙ c.in_ok-text.ensures in
     let name_is = c.in_ok-name.ensures.ok ∙ c.in_ok-schema_name.ensures in
     let mid = c.reserve.new.self in
     let mid_is : mid ≡ reserved t.id t.name c.args.types.now = c.in_ok-n.ensures.ok
@@ -84,95 +77,50 @@ returns-clause-added g c =
       };
     }
 
-pub returns-then-is_some-clause-present : goal.returns-then-is_some-clause-present
-returns-then-is_some-clause-present g c =
-    let t = g.T.JsonSchema.says in
-    let id_is = c.in_ok-id.ensures.ok ∙ c.in_ok-schema_id.ensures in
-    let name_is = c.in_ok-name.ensures.ok ∙ c.in_ok-schema_name.ensures in
-    let mid = c.reserve.new.self in
-    let mid_is : mid ≡ reserved t.id t.name c.args.types.now = c.in_ok-n.ensures.ok
-    ∙ ap (λ i. reserved i (string_bytes c.in_ok-name.name) c.args.types.now) id_is
-    ∙ ap (λ x. reserved t.id x c.args.types.now) name_is in
-    let there : place_of t.id mid ≡ Some c.in_ok-n.n = ap (λ i. place_of i mid) (sym id_is) ∙ c.in_ok-n.ensures.number in
-    λ present. reserved-same t.id t.name c.args.types.now mid present mid_is
-
 pub returns-in_err-entry-clause-present : goal.returns-in_err-entry-clause-present
 returns-in_err-entry-clause-present g c =
     let t = g.T.JsonSchema.says in
-    let id_is = c.in_ok-id.ensures.ok ∙ c.in_ok-schema_id.ensures in
-    let name_is = c.in_ok-name.ensures.ok ∙ c.in_ok-schema_name.ensures in
-    let mid = c.reserve.new.self in
-    let mid_is : mid ≡ reserved t.id t.name c.args.types.now = c.in_ok-n.ensures.ok
-    ∙ ap (λ i. reserved i (string_bytes c.in_ok-name.name) c.args.types.now) id_is
-    ∙ ap (λ x. reserved t.id x c.args.types.now) name_is in
-    let there : place_of t.id mid ≡ Some c.in_ok-n.n = ap (λ i. place_of i mid) (sym id_is) ∙ c.in_ok-n.ensures.number in
-    let full = ap is_some (sym c.entry.ensures) ∙ is_some-map (λ e. entry_of e.now) c.entry.result ∙ sym c.is_some.ensures in
-    λ present. absurd (never-present t.id t.name c.args.types.now mid c.in_ok-n.n mid_is there (full ∙ c.if-is_some.false) present)
+    let undefined : entry_under t.id c.args.types.now ≡ None = nothing-under _ (c.in_default.ensures.defined
+    ∙ ap (λ i. is_some (entry_under i c.args.types.now)) (c.as_str.ensures.value ∙ c.in_ok-text.ensures)) in
+    λ present. absurd (never-under _ undefined present)
 
 pub returns-in_err-define-clause-present : goal.returns-in_err-define-clause-present
 returns-in_err-define-clause-present g c =
     let t = g.T.JsonSchema.says in
-    let id_is = c.in_ok-id.ensures.ok ∙ c.in_ok-schema_id.ensures in
-    let name_is = c.in_ok-name.ensures.ok ∙ c.in_ok-schema_name.ensures in
-    let mid = c.reserve.new.self in
-    let mid_is : mid ≡ reserved t.id t.name c.args.types.now = c.in_ok-n.ensures.ok
-    ∙ ap (λ i. reserved i (string_bytes c.in_ok-name.name) c.args.types.now) id_is
-    ∙ ap (λ x. reserved t.id x c.args.types.now) name_is in
-    let there : place_of t.id mid ≡ Some c.in_ok-n.n = ap (λ i. place_of i mid) (sym id_is) ∙ c.in_ok-n.ensures.number in
-    let full = ap is_some (sym c.entry.ensures) ∙ is_some-map (λ e. entry_of e.now) c.entry.result ∙ sym c.is_some.ensures in
-    λ present. absurd (never-present t.id t.name c.args.types.now mid c.in_ok-n.n mid_is there (full ∙ c.if-is_some.false) present)
+    let undefined : entry_under t.id c.args.types.now ≡ None = nothing-under _ (c.in_default.ensures.defined
+    ∙ ap (λ i. is_some (entry_under i c.args.types.now)) (c.as_str.ensures.value ∙ c.in_ok-text.ensures)) in
+    λ present. absurd (never-under _ undefined present)
 
 pub returns-clause-present : goal.returns-clause-present
 returns-clause-present g c =
     let t = g.T.JsonSchema.says in
-    let id_is = c.in_ok-id.ensures.ok ∙ c.in_ok-schema_id.ensures in
-    let name_is = c.in_ok-name.ensures.ok ∙ c.in_ok-schema_name.ensures in
-    let mid = c.reserve.new.self in
-    let mid_is : mid ≡ reserved t.id t.name c.args.types.now = c.in_ok-n.ensures.ok
-    ∙ ap (λ i. reserved i (string_bytes c.in_ok-name.name) c.args.types.now) id_is
-    ∙ ap (λ x. reserved t.id x c.args.types.now) name_is in
-    let there : place_of t.id mid ≡ Some c.in_ok-n.n = ap (λ i. place_of i mid) (sym id_is) ∙ c.in_ok-n.ensures.number in
-    let full = ap is_some (sym c.entry.ensures) ∙ is_some-map (λ e. entry_of e.now) c.entry.result ∙ sym c.is_some.ensures in
-    λ present. absurd (never-present t.id t.name c.args.types.now mid c.in_ok-n.n mid_is there (full ∙ c.if-is_some.false) present)
+    let undefined : entry_under t.id c.args.types.now ≡ None = nothing-under _ (c.in_default.ensures.defined
+    ∙ ap (λ i. is_some (entry_under i c.args.types.now)) (c.as_str.ensures.value ∙ c.in_ok-text.ensures)) in
+    λ present. absurd (never-under _ undefined present)
 
-pub returns-then-is_some-clause-follows : goal.returns-then-is_some-clause-follows
-returns-then-is_some-clause-follows g c =
+pub returns-in-Some-clause-completes : goal.returns-in-Some-clause-completes
+returns-in-Some-clause-completes g c =
     let t = g.T.JsonSchema.says in
-    let id_is = c.in_ok-id.ensures.ok ∙ c.in_ok-schema_id.ensures in
-    let name_is = c.in_ok-name.ensures.ok ∙ c.in_ok-schema_name.ensures in
-    let mid = c.reserve.new.self in
-    let mid_is : mid ≡ reserved t.id t.name c.args.types.now = c.in_ok-n.ensures.ok
-    ∙ ap (λ i. reserved i (string_bytes c.in_ok-name.name) c.args.types.now) id_is
-    ∙ ap (λ x. reserved t.id x c.args.types.now) name_is in
-    let there : place_of t.id mid ≡ Some c.in_ok-n.n = ap (λ i. place_of i mid) (sym id_is) ∙ c.in_ok-n.ensures.number in
-    let full = ap is_some (sym c.entry.ensures) ∙ is_some-map (λ e. entry_of e.now) c.entry.result ∙ sym c.is_some.ensures in
-    present-follows t c.args.types.now mid c.in_ok-n.n mid_is there (full ∙ c.if-is_some.true)
-
-pub returns-then-is_some-clause-completes : goal.returns-then-is_some-clause-completes
-returns-then-is_some-clause-completes g c =
-    let t = g.T.JsonSchema.says in
-    let id_is = c.in_ok-id.ensures.ok ∙ c.in_ok-schema_id.ensures in
-    let name_is = c.in_ok-name.ensures.ok ∙ c.in_ok-schema_name.ensures in
-    let mid = c.reserve.new.self in
-    let mid_is : mid ≡ reserved t.id t.name c.args.types.now = c.in_ok-n.ensures.ok
-    ∙ ap (λ i. reserved i (string_bytes c.in_ok-name.name) c.args.types.now) id_is
-    ∙ ap (λ x. reserved t.id x c.args.types.now) name_is in
-    let there : place_of t.id mid ≡ Some c.in_ok-n.n = ap (λ i. place_of i mid) (sym id_is) ∙ c.in_ok-n.ensures.number in
-    let full = ap is_some (sym c.entry.ensures) ∙ is_some-map (λ e. entry_of e.now) c.entry.result ∙ sym c.is_some.ensures in
-    present-completes t c.args.types.now mid c.in_ok-n.n mid_is there (full ∙ c.if-is_some.true)
+    let id_is : c.as_str.result.now ≡ t.id = c.as_str.ensures.value ∙ c.in_ok-text.ensures in
+    let there : place_of t.id c.args.types.now ≡ Some c.in-Some.n = ap (λ i. place_of i c.args.types.now) (sym id_is)
+    ∙ c.in-Some.ensures.number in
+    let present = ap (λ i. is_some (entry_under i c.args.types.now)) (sym id_is) ∙ sym c.in-Some.ensures.defined in
+    present-completes t c.args.types.now c.in-Some.n there present
 
 pub returns-clause-follows : goal.returns-clause-follows
 returns-clause-follows g c =
     let t = g.T.JsonSchema.says in
-    let id_is = c.in_ok-id.ensures.ok ∙ c.in_ok-schema_id.ensures in
+    let id_is = c.in_ok-id.ensures.ok ∙ c.in_ok-text.ensures in
     let name_is = c.in_ok-name.ensures.ok ∙ c.in_ok-schema_name.ensures in
     let mid = c.reserve.new.self in
     let mid_is : mid ≡ reserved t.id t.name c.args.types.now = c.in_ok-n.ensures.ok
     ∙ ap (λ i. reserved i (string_bytes c.in_ok-name.name) c.args.types.now) id_is
     ∙ ap (λ x. reserved t.id x c.args.types.now) name_is in
     let there : place_of t.id mid ≡ Some c.in_ok-n.n = ap (λ i. place_of i mid) (sym id_is) ∙ c.in_ok-n.ensures.number in
-    let full = ap is_some (sym c.entry.ensures) ∙ is_some-map (λ e. entry_of e.now) c.entry.result ∙ sym c.is_some.ensures in
-    registered-follows t c.args.types.now mid c.json_schema.new.types c.in_ok-n.n mid_is there (full ∙ c.if-is_some.false)
+    let undefined : entry_under t.id c.args.types.now ≡ None = nothing-under _ (c.in_default.ensures.defined
+    ∙ ap (λ i. is_some (entry_under i c.args.types.now)) (c.as_str.ensures.value ∙ c.in_ok-text.ensures)) in
+    let missing = ap is_some (undefined-reserved t.id t.name c.args.types.now mid c.in_ok-n.n undefined mid_is there) in
+    registered-follows t c.args.types.now mid c.json_schema.new.types c.in_ok-n.n mid_is there missing
     c.inline_schema.result (entry_of c.in_ok-entry.entry) _ c.inline_schema.ensures (c.in_ok-entry.ensures.keeps.keeps tt)
     c.in_ok-entry.ensures.follows c.in_ok-entry.ensures.made c.in_ok-define.ensures.ok
     (define-keeps _ _ _ _ c.in_ok-define.ensures.refused c.in_ok-define.ensures.ok)
@@ -180,15 +128,17 @@ returns-clause-follows g c =
 pub returns-clause-completes : goal.returns-clause-completes
 returns-clause-completes g c =
     let t = g.T.JsonSchema.says in
-    let id_is = c.in_ok-id.ensures.ok ∙ c.in_ok-schema_id.ensures in
+    let id_is = c.in_ok-id.ensures.ok ∙ c.in_ok-text.ensures in
     let name_is = c.in_ok-name.ensures.ok ∙ c.in_ok-schema_name.ensures in
     let mid = c.reserve.new.self in
     let mid_is : mid ≡ reserved t.id t.name c.args.types.now = c.in_ok-n.ensures.ok
     ∙ ap (λ i. reserved i (string_bytes c.in_ok-name.name) c.args.types.now) id_is
     ∙ ap (λ x. reserved t.id x c.args.types.now) name_is in
     let there : place_of t.id mid ≡ Some c.in_ok-n.n = ap (λ i. place_of i mid) (sym id_is) ∙ c.in_ok-n.ensures.number in
-    let full = ap is_some (sym c.entry.ensures) ∙ is_some-map (λ e. entry_of e.now) c.entry.result ∙ sym c.is_some.ensures in
-    registered-completes t c.args.types.now mid c.json_schema.new.types c.in_ok-n.n mid_is there (full ∙ c.if-is_some.false)
+    let undefined : entry_under t.id c.args.types.now ≡ None = nothing-under _ (c.in_default.ensures.defined
+    ∙ ap (λ i. is_some (entry_under i c.args.types.now)) (c.as_str.ensures.value ∙ c.in_ok-text.ensures)) in
+    let missing = ap is_some (undefined-reserved t.id t.name c.args.types.now mid c.in_ok-n.n undefined mid_is there) in
+    registered-completes t c.args.types.now mid c.json_schema.new.types c.in_ok-n.n mid_is there missing
     c.inline_schema.result (entry_of c.in_ok-entry.entry) _ c.inline_schema.ensures (c.in_ok-entry.ensures.keeps.keeps tt)
     c.in_ok-entry.ensures.follows c.in_ok-entry.ensures.made c.in_ok-define.ensures.ok
     (define-keeps _ _ _ _ c.in_ok-define.ensures.refused c.in_ok-define.ensures.ok)
@@ -196,36 +146,40 @@ returns-clause-completes g c =
 pub returns-in_err-entry-clause-refused : goal.returns-in_err-entry-clause-refused
 returns-in_err-entry-clause-refused g c =
     let t = g.T.JsonSchema.says in
-    let id_is = c.in_ok-id.ensures.ok ∙ c.in_ok-schema_id.ensures in
+    let id_is = c.in_ok-id.ensures.ok ∙ c.in_ok-text.ensures in
     let name_is = c.in_ok-name.ensures.ok ∙ c.in_ok-schema_name.ensures in
     let mid = c.reserve.new.self in
     let mid_is : mid ≡ reserved t.id t.name c.args.types.now = c.in_ok-n.ensures.ok
     ∙ ap (λ i. reserved i (string_bytes c.in_ok-name.name) c.args.types.now) id_is
     ∙ ap (λ x. reserved t.id x c.args.types.now) name_is in
     let there : place_of t.id mid ≡ Some c.in_ok-n.n = ap (λ i. place_of i mid) (sym id_is) ∙ c.in_ok-n.ensures.number in
-    let full = ap is_some (sym c.entry.ensures) ∙ is_some-map (λ e. entry_of e.now) c.entry.result ∙ sym c.is_some.ensures in
+    let undefined : entry_under t.id c.args.types.now ≡ None = nothing-under _ (c.in_default.ensures.defined
+    ∙ ap (λ i. is_some (entry_under i c.args.types.now)) (c.as_str.ensures.value ∙ c.in_ok-text.ensures)) in
+    let missing = ap is_some (undefined-reserved t.id t.name c.args.types.now mid c.in_ok-n.n undefined mid_is there) in
     let why : RefusesType t c.args.types.now c.in_err-entry.field-0.0 = record {
       present = λ present.
-          absurd (never-present t.id t.name c.args.types.now mid c.in_ok-n.n mid_is there (full ∙ c.if-is_some.false) present);
-      as_told = part-refused t c.args.types.now mid mid c.in_ok-n.n mid_is there (full ∙ c.if-is_some.false) _ c.in_err-entry.ensures.refused;
+          absurd (never-under _ undefined present);
+      as_told = part-refused t c.args.types.now mid mid c.in_ok-n.n mid_is there missing _ c.in_err-entry.ensures.refused;
     } in
     search rules
 
 pub returns-in_err-define-clause-refused : goal.returns-in_err-define-clause-refused
 returns-in_err-define-clause-refused g c =
     let t = g.T.JsonSchema.says in
-    let id_is = c.in_ok-id.ensures.ok ∙ c.in_ok-schema_id.ensures in
+    let id_is = c.in_ok-id.ensures.ok ∙ c.in_ok-text.ensures in
     let name_is = c.in_ok-name.ensures.ok ∙ c.in_ok-schema_name.ensures in
     let mid = c.reserve.new.self in
     let mid_is : mid ≡ reserved t.id t.name c.args.types.now = c.in_ok-n.ensures.ok
     ∙ ap (λ i. reserved i (string_bytes c.in_ok-name.name) c.args.types.now) id_is
     ∙ ap (λ x. reserved t.id x c.args.types.now) name_is in
     let there : place_of t.id mid ≡ Some c.in_ok-n.n = ap (λ i. place_of i mid) (sym id_is) ∙ c.in_ok-n.ensures.number in
-    let full = ap is_some (sym c.entry.ensures) ∙ is_some-map (λ e. entry_of e.now) c.entry.result ∙ sym c.is_some.ensures in
+    let undefined : entry_under t.id c.args.types.now ≡ None = nothing-under _ (c.in_default.ensures.defined
+    ∙ ap (λ i. is_some (entry_under i c.args.types.now)) (c.as_str.ensures.value ∙ c.in_ok-text.ensures)) in
+    let missing = ap is_some (undefined-reserved t.id t.name c.args.types.now mid c.in_ok-n.n undefined mid_is there) in
     let why : RefusesType t c.args.types.now c.in_err-define.field-0.0 = record {
       present = λ present.
-          absurd (never-present t.id t.name c.args.types.now mid c.in_ok-n.n mid_is there (full ∙ c.if-is_some.false) present);
-      as_told = never-refused t c.args.types.now mid c.json_schema.new.types c.in_ok-n.n mid_is there (full ∙ c.if-is_some.false)
+          absurd (never-under _ undefined present);
+      as_told = never-refused t c.args.types.now mid c.json_schema.new.types c.in_ok-n.n mid_is there missing
           (record (entry_of c.in_ok-entry.entry) { inline = c.inline_schema.result }) _ (c.in_ok-entry.ensures.keeps.keeps tt)
           c.in_ok-entry.ensures.follows c.in_ok-entry.ensures.known c.in_err-define.ensures.refused;
     } in

@@ -1,9 +1,15 @@
 use Rattle.std.proofs.Common.{sym, subst, arith}
+use Rattle.std.proofs.lemmas.Bool.{OnTrue_at}
 use Rattle.std.proofs.lemmas.Option.{MatchOption-at_some, MatchOption-at_none}
 use Rattle.schemars_types.specs.Search.{Graph, IsClosed, targets_in}
 use Rattle.schemars_types.specs.Walks.{Leads, OnCycle, IsFree, IsLeast}
+use Rattle.schemars_types.proofs.Ascending.{free_from_ascending}
 use Rattle.schemars_types.proofs.EdgeLemmas.{graph_closed, found_within, none_on_cycle, least_on_cycle}
 use Rattle.schemars_types.proofs.check.faults.first_on_cycle.Goals as goal
+
+pub returns-then-is_free : goal.returns-then-is_free
+returns-then-is_free c =
+    free_from_ascending c.args.kind c.args.types.now c.args.from (OnTrue_at c.if-is_free.true c.in_ok-is_free.ensures)
 
 pub least_on_cycle-requires : goal.least_on_cycle-requires
 least_on_cycle-requires c = subst (λ (g : Graph). IsClosed g) (sym c.deref.ensures.value)
