@@ -59,7 +59,7 @@ seen_part (Some x) = refl
 
 -- ---- their keys ascend
 
-pub above : (key : Bor Text) (es : List Entry) → AllByRecursion (λ l. slice_cmp nat_cmp key.now l.now ≡ Less) (keys_of es)
+above : (key : Bor Text) (es : List Entry) → AllByRecursion (λ l. slice_cmp nat_cmp key.now l.now ≡ Less) (keys_of es)
     → IsAbove key.now (members_assembled es)
 above key [] h = tt
 above key (e ∷ es) h = (h.0, above key es h.1)

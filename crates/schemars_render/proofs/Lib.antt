@@ -1,9 +1,11 @@
--- Lemmas of parts: what they stand for, how a template is filled with them, and how they are changed and written.
+-- Lemmas of parts: what they stand for, how a template is filled with them, and how they are put in order, changed and written.
 pub mod Changed
 pub mod Entries
 pub mod FilledMembers
 pub mod Items
+pub mod Lists
 pub mod Parts
+pub mod PutInOrder
 pub mod United
 pub mod Wholes
 pub mod Written

@@ -1,5 +1,5 @@
 -- What each part stands for.
-use Rattle.std.proofs.Common.{◌≡◌, Bool, rules, Bor, BTreeMap, Global, Vec}
+use Rattle.std.proofs.Common.{◌≡◌, Bool, rules, Bor, Global, Vec}
 use Rattle.serde_json.specs.Data.{null, boolean, string, array, object}
 use Rattle.serde_json.specs.View.{view}
 use Rattle.serde_json.specs.declared.value.Value.{Value}
@@ -26,5 +26,5 @@ seen_reference t = search (rules, the_lemmas)
 pub seen_list : (ps : Vec Assembled Global) → assembled_view (part.List ps) ≡ array (items_assembled ps.items)
 seen_list ps = search (rules, the_lemmas)
 
-pub seen_object : (m : BTreeMap (Bor Text) Assembled) → assembled_view (part.Object m) ≡ object (members_assembled m.entries)
+pub seen_object : (m : Vec (Bor Text × Assembled) Global) → assembled_view (part.Object m) ≡ object (members_assembled m.items)
 seen_object m = search (rules, the_lemmas)

@@ -1,14 +1,12 @@
 -- Parts that are JSON of 64-bit whole numbers.
-use Rattle.std.proofs.Common.{List, [], ◌∷◌, nat_cmp, zero, suc, arith}
+use Rattle.std.proofs.Common.{List, [], ◌∷◌, zero, suc, arith}
 use Rattle.std.proofs.lemmas.Str.{IsUtf8-from_ascii}
 use Rattle.std.specs.Prelude.{IsUtf8, ⊤, codes}
-use Rattle.std.specs.Cmp.Lexicographic.{slice_cmp}
-use Rattle.std.specs.List.Sorted.{IsStrictlySortedBy}
 use Rattle.std.specs.Str.{IsAscii}
-use Rattle.std.specs.Map.{keys_of}
 use Rattle.schemars_schema.specs.Json.{Text, IsWholeJson, AreWholeJsonMembers}
+use Rattle.schemars_schema.proofs.SortedMembers.{IsSorted}
 use Rattle.schemars_render.specs.Assembled.{assembled_view, reference_to, members_assembled}
-use Rattle.schemars_render.proofs.Entries.{Entry, above}
+use Rattle.schemars_render.proofs.Entries.{Entry}
 
 key_is_ascii : IsAscii (codes "$ref")
 key_is_ascii zero = omega arith
@@ -26,8 +24,6 @@ AreWholeEntries [] = ⊤
 AreWholeEntries (e ∷ es) = IsUtf8 e.0.now × IsWholeJson (assembled_view e.1) × AreWholeEntries es
 
 -- where the keys ascend, the entries decide
-pub whole_members : (es : List Entry) → AreWholeEntries es → IsStrictlySortedBy (λ k l. slice_cmp nat_cmp k.now l.now) (keys_of es)
-    → AreWholeJsonMembers (members_assembled es)
-unfolding IsStrictlySortedBy
+pub whole_members : (es : List Entry) → AreWholeEntries es → IsSorted (members_assembled es) → AreWholeJsonMembers (members_assembled es)
 whole_members [] h sorted = tt
-whole_members (e ∷ es) h sorted = (h.0, h.1, above e.0 es sorted.0, whole_members es h.2 sorted.1)
+whole_members (e ∷ es) h sorted = (h.0, h.1, sorted.0, whole_members es h.2 sorted.1)

@@ -1,5 +1,5 @@
 -- How a reference is written, and what was found under the last keywords.
-use Rattle.std.proofs.Common.{◌≡◌, List, ◌∷◌, ◌++◌, [], true, take, drop, map, refl, sym, ap, ◌∙◌, append_assoc}
+use Rattle.std.proofs.Common.{◌≡◌, List, ◌∷◌, ◌++◌, [], true, false, take, drop, map, refl, sym, ap, ◌∙◌, append_assoc}
 use Rattle.std.proofs.lemmas.List.{take-map, drop-map}
 use Rattle.std.specs.Prelude.{codes}
 use Rattle.json.specs.Print.{quoted}
@@ -9,7 +9,7 @@ use Rattle.serde_json.specs.Data.{string, Members, no_members, member}
 use Rattle.serde_json.specs.Find.{get_member}
 use Rattle.schemars_text.specs.Text.{Text}
 use Rattle.schemars_text.specs.Output.{Output, with_token, with_value, with_values}
-use Rattle.schemars_text.specs.OrderedText.{Layout, PlainJson, SchemaLayout, NamedSchemas, texts, arranged, text_in, member_texts, first_keywords, last_keywords}
+use Rattle.schemars_text.specs.OrderedText.{Layout, PlainJson, SchemaLayout, NamedSchemas, texts, arranged, with_commas, braces, text_in, member_texts, first_keywords, last_keywords}
 use Rattle.schemars_text.proofs.FixedMembers.{Slot, held}
 use Rattle.schemars_text.proofs.OrderedTexts.{object_written}
 use Rattle.schemars_render.specs.Assembled.{assembled_view, reference_to}
@@ -24,6 +24,10 @@ unfolding text_in member_texts
 only_member PlainJson target = refl
 only_member SchemaLayout target = refl
 only_member NamedSchemas target = refl
+
+pub same_reference : (l m : Layout) (target : Text) → text_in l (reference_to target) ≡ text_in m (reference_to target)
+unfolding text_in
+same_reference l m target = ap (λ ts. braces (with_commas false ts)) (only_member l target ∙ sym (only_member m target))
 
 regroup : (a b c d : Text) → (a ++ (b ++ c)) ++ d ≡ a ++ (b ++ (c ++ d))
 regroup a b c d = simp append_assoc

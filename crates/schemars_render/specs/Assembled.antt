@@ -23,7 +23,7 @@ assembled_step (part.Integer n) = number (of_integer n)
 assembled_step (part.Text t) = string t.now
 assembled_step (part.Reference t) = reference_to t.now
 assembled_step (part.List ds) = array (items_of ds.items)
-assembled_step (part.Object m) = object (members_of m.entries)
+assembled_step (part.Object m) = object (members_of m.items)
 
 abbrev pub assembled_view : Assembled → Data
 assembled_view = fold-Assembled Data assembled_step
@@ -33,6 +33,10 @@ items_assembled ps = items_of (map assembled_view ps)
 
 abbrev pub members_assembled : List (Bor Text × Assembled) → Members
 members_assembled es = members_of (map (λ e. (e.0, assembled_view e.1)) es)
+
+-- a member's name, and what its part stands for
+abbrev pub named_view : Bor Text × Assembled → Text × Data
+named_view e = (e.0.now, assembled_view e.1)
 
 -- what is there, or d
 abbrev pub there_or : Data → Option Data → Data

@@ -1,7 +1,6 @@
 //! A schema in parts, which are borrowed from a template and its answers.
 
 use serde_json::Value;
-use std::collections::BTreeMap;
 
 // JSON, part by part.
 #[derive(Drop)]
@@ -14,5 +13,6 @@ pub(crate) enum Assembled<'t> {
     // a schema that is a reference to this target
     Reference(&'t str),
     List(Vec<Assembled<'t>>),
-    Object(BTreeMap<&'t str, Assembled<'t>>),
+    // members in the order of their names; where one is out of order no text is made
+    Object(Vec<(&'t str, Assembled<'t>)>),
 }

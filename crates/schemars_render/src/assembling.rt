@@ -11,13 +11,13 @@ ghost use Rattle.schemars_render.specs.Assembled.{assembled_view};
 use crate::assembled::Assembled;
 use crate::error::Stop;
 use crate::keywords::{annotate, titled};
-use crate::members::put_part;
+use crate::members::object_of;
 use crate::nulls::with_null;
 use crate::tagging::with_tag;
 use crate::uniting::with_keywords_of;
 use schemars_documents::template::{Ask, Scalar, SchemaTemplate, ValueTemplate};
 use std::alloc::Global;
-use std::collections::{BTreeMap, VecDeque};
+use std::collections::VecDeque;
 
 // The schema with these answers in the places of the rows. The answers for what follows are left.
 #[cycle(assemble)]
@@ -75,12 +75,12 @@ fn assemble_object<'a>(
     ensures left { OnOk result (map assembled_view answers.new.items
         ≡ left (object_with (map keyword_view keywords.now.items)) (map assembled_view answers.old.items)) }
 {
-    let mut members = BTreeMap::new(alloc);
+    let mut members = Vec::with_capacity(alloc, keywords.len())?;
     for keyword in keywords {
         let part = assemble_value(alloc, &keyword.1, answers)?;
-        put_part(&mut members, &*keyword.0, part)?;
+        members.push((&*keyword.0, part))?;
     }
-    Ok(Assembled::Object(members))
+    object_of(members)
 }
 
 #[cycle(assemble)]
@@ -135,12 +135,12 @@ fn assemble_named<'a>(
     ensures left { OnOk result (map assembled_view answers.new.items
         ≡ left (object_with (map property_view schemas.now.items)) (map assembled_view answers.old.items)) }
 {
-    let mut members = BTreeMap::new(alloc);
+    let mut members = Vec::with_capacity(alloc, schemas.len())?;
     for named in schemas {
         let part = assemble_schema(alloc, &named.1, answers)?;
-        put_part(&mut members, &*named.0, part)?;
+        members.push((&*named.0, part))?;
     }
-    Ok(Assembled::Object(members))
+    object_of(members)
 }
 
 #[cycle(assemble)]
@@ -197,11 +197,11 @@ fn assemble_keywords<'a>(
     ensures { IfOk result (λ p. assembled_view p
         ≡ object_of (map scalar_keyword keywords.now.items)) }
 {
-    let mut members = BTreeMap::new(alloc);
+    let mut members = Vec::with_capacity(alloc, keywords.len())?;
     for keyword in keywords {
-        put_part(&mut members, &*keyword.0, scalar_part(&keyword.1))?;
+        members.push((&*keyword.0, scalar_part(&keyword.1)))?;
     }
-    Ok(Assembled::Object(members))
+    object_of(members)
 }
 
 fn scalar_part<'a>(scalar: &'a Scalar<'_>) -> Assembled<'a>

@@ -7,7 +7,7 @@ ghost use Rattle.schemars_render.specs.Assembled.{assembled_view};
 
 use crate::assembled::Assembled;
 use crate::error::Stop;
-use crate::members::{members_in, put_part, put_values};
+use crate::members::{members_in, object, put_part, put_values};
 use serde_json::{Map, Value};
 use std::alloc::Global;
 
@@ -25,7 +25,7 @@ pub(crate) fn annotate<'t>(
     }
     let mut members = members_in(alloc, schema)?;
     put_values(&mut members, notes)?;
-    Ok(Assembled::Object(members))
+    object(alloc, members)
 }
 
 // The schema with this title.
@@ -39,5 +39,5 @@ pub(crate) fn titled<'t>(
 {
     let mut members = members_in(alloc, schema)?;
     put_part(&mut members, "title", Assembled::Text(title))?;
-    Ok(Assembled::Object(members))
+    object(alloc, members)
 }

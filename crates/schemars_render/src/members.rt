@@ -1,18 +1,102 @@
-//! Members and items of parts.
-ghost use Rattle.std.specs.Prelude.{◌≡◌, is_some, option_map, IfOk, OnOk};
+//! Members and items of parts. Members are put into a map and taken out of it.
+ghost use Rattle.std.specs.Prelude.{◌≡◌, is_some, map, option_map, IfOk, IsTrue, OnOk};
+ghost use Rattle.std.specs.List.Sorted.{IsPermutation};
 ghost use Rattle.serde_json.specs.Data.{array, no_items, object, member, no_members, put};
 ghost use Rattle.serde_json.specs.Find.{get_member};
 ghost use Rattle.serde_json.specs.View.{view, items_view, members_view};
 ghost use Rattle.schemars_schema.specs.Edits.{without};
-ghost use Rattle.schemars_schema.specs.SchemaData.{members_in, put_members};
+ghost use Rattle.schemars_schema.specs.SchemaData.{members_in, object_of, put_members};
 ghost use Rattle.schemars_schema.proofs.SortedMembers.{IsSorted};
-ghost use Rattle.schemars_render.specs.Assembled.{assembled_view, items_assembled, members_assembled, there_or};
+ghost use Rattle.schemars_render.specs.Assembled.{assembled_view, items_assembled, members_assembled, named_view, there_or};
 
 use crate::assembled::Assembled;
 use crate::error::Stop;
 use serde_json::{Map, Value};
 use std::alloc::Global;
 use std::collections::BTreeMap;
+
+// The object of these members, put in one after another. A name that is there twice is not covered.
+pub(crate) fn object_of<'t>(members: Vec<(&'t str, Assembled<'t>)>) -> Result<Assembled<'t>, Stop>
+    ensures { IfOk result (λ p. assembled_view p
+        ≡ object_of (map named_view members.entry.items)) }
+{
+    let mut members = members;
+    if sort_by_name(&mut members) {
+        Ok(Assembled::Object(members))
+    } else {
+        Err(Stop::NotCovered)
+    }
+}
+
+// Sorts the members by name, and says whether each name is there once.
+fn sort_by_name<'t>(members: &mut Vec<(&'t str, Assembled<'t>)>) -> bool
+    ensures same { IsPermutation members.old.items members.new.items }
+    ensures ascending { IsTrue result → IsSorted (members_assembled members.new.items) }
+{
+    if is_ascending(members) {
+        return true;
+    }
+    members.sort_unstable_by(|first, second| first.0.cmp(second.0));
+    is_ascending(members)
+}
+
+// Whether each name is before the next.
+pub(crate) fn is_ascending<'t>(members: &Vec<(&'t str, Assembled<'t>)>) -> bool
+    ensures { IsTrue result → IsSorted (members_assembled members.now.items) }
+{
+    for next in 1..members.len() {
+        if members[next - 1].0 >= members[next].0 {
+            return false;
+        }
+    }
+    true
+}
+
+// The object of the members of a map.
+pub(crate) fn object<'t>(
+    alloc: Global,
+    members: BTreeMap<&'t str, Assembled<'t>>,
+) -> Result<Assembled<'t>, Stop>
+    ensures { IfOk result (λ p. assembled_view p
+        ≡ object (members_assembled members.entry.entries)) }
+{
+    let mut list = Vec::with_capacity(alloc, members.len())?;
+    for (name, part) in members {
+        list.push((name, part))?;
+    }
+    Ok(Assembled::Object(list))
+}
+
+// The object of this member alone.
+pub(crate) fn lone_object<'t>(
+    alloc: Global,
+    name: &'t str,
+    part: Assembled<'t>,
+) -> Result<Assembled<'t>, Stop>
+    ensures { IfOk result (λ p. assembled_view p
+        ≡ object (member name.now (assembled_view part.entry) no_members)) }
+{
+    let members = vec![in alloc; (name, part)]?;
+    Ok(Assembled::Object(members))
+}
+
+// The members of a list as a map, where their names ascend.
+pub(crate) fn by_name<'t>(
+    alloc: Global,
+    members: Vec<(&'t str, Assembled<'t>)>,
+) -> Result<BTreeMap<&'t str, Assembled<'t>>, Stop>
+    ensures { IfOk result (λ m. members_assembled m.entries
+        ≡ members_assembled members.entry.items) }
+{
+    if !is_ascending(&members) {
+        return Err(Stop::NotCovered);
+    }
+    let mut map = BTreeMap::new(alloc);
+    for (name, part) in members {
+        put_part(&mut map, name, part)?;
+    }
+    Ok(map)
+}
 
 // Puts the part in, in the place of a member of its name.
 pub(crate) fn put_part<'t>(
@@ -71,7 +155,7 @@ pub(crate) fn into_members<'t>(
     ensures { IfOk result (λ m. assembled_view part.entry ≡ object (members_assembled m.entries)) }
 {
     match part {
-        Assembled::Object(members) => Ok(members),
+        Assembled::Object(members) => by_name(alloc, members),
         Assembled::Value(Value::Object(members)) => members_of(alloc, members),
         _ => Err(Stop::NotCovered),
     }
@@ -135,7 +219,7 @@ pub(crate) fn members_in<'t>(
         ≡ members_in (assembled_view schema.entry)) }
 {
     match schema {
-        Assembled::Object(members) => Ok(members),
+        Assembled::Object(members) => by_name(alloc, members),
         Assembled::Reference(target) => lone_member(alloc, "$ref", Assembled::Text(target)),
         Assembled::Value(value) => members_in_value(alloc, value),
         _ => Err(Stop::NotCovered),
@@ -151,13 +235,13 @@ fn members_in_value<'t>(
     match value {
         Value::Object(members) => members_of(alloc, members),
         Value::Bool(true) => Ok(BTreeMap::new(alloc)),
-        Value::Bool(false) => { lone_member(alloc, "not", Assembled::Object(BTreeMap::new(alloc))) }
+        Value::Bool(false) => lone_member(alloc, "not", Assembled::Object(Vec::new(alloc))),
         _ => Err(Stop::NotCovered),
     }
 }
 
-// An object of this member alone.
-pub(crate) fn lone_member<'t>(
+// This member alone.
+fn lone_member<'t>(
     alloc: Global,
     name: &'t str,
     part: Assembled<'t>,

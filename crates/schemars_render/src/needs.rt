@@ -12,7 +12,6 @@ use crate::nulls::holds_text;
 use schemars_transform::{Keyword, Needs};
 use schemars_walk::rewrite::place::{Place, place_under};
 use serde_json::Value;
-use std::collections::BTreeMap;
 
 // What the schema has, or a schema inside it, that built-in transforms change.
 pub(crate) fn needs_of(schema: &Assembled<'_>) -> Needs
@@ -43,11 +42,11 @@ fn add_schema(part: &Assembled<'_>, needs: &mut Needs)
 
 #[cycle(needs)]
 #[tactic(auto, using(schemars_transform::proofs::Asking::keyword_done, schemars_transform::proofs::Asking::nothing_left))]
-fn add_keywords<'t>(alone: bool, members: &BTreeMap<&'t str, Assembled<'t>>, needs: &mut Needs)
+fn add_keywords<'t>(alone: bool, members: &Vec<(&'t str, Assembled<'t>)>, needs: &mut Needs)
     ensures { needs.new
-        ≡ needed_by_keywords alone (members_assembled members.now.entries) needs.old }
+        ≡ needed_by_keywords alone (members_assembled members.now.items) needs.old }
 {
-    for (key, part) in members.iter() {
+    for (key, part) in members {
         add_keyword(alone, key, part, needs);
     }
 }
@@ -176,10 +175,10 @@ fn add_items(parts: &Vec<Assembled<'_>>, needs: &mut Needs)
 
 #[cycle(needs)]
 #[tactic(auto, using(schemars_transform::proofs::Asking::name_done, schemars_transform::proofs::Asking::no_names_left))]
-fn add_names<'t>(members: &BTreeMap<&'t str, Assembled<'t>>, needs: &mut Needs)
-    ensures { needs.new ≡ needed_by_names (members_assembled members.now.entries) needs.old }
+fn add_names<'t>(members: &Vec<(&'t str, Assembled<'t>)>, needs: &mut Needs)
+    ensures { needs.new ≡ needed_by_names (members_assembled members.now.items) needs.old }
 {
-    for (_, part) in members.iter() {
+    for (_, part) in members {
         add_schema(part, needs);
     }
 }

@@ -11,7 +11,7 @@ ghost use Rattle.schemars_render.specs.Assembled.{assembled_view, items_assemble
 use crate::assembled::Assembled;
 use crate::error::Stop;
 use crate::members::{
-    find_part, has_part, into_items, lone_member, members_of, put_part, take_part,
+    by_name, find_part, has_part, into_items, lone_object, members_of, object, put_part, take_part,
 };
 use crate::tagging::is_text_part;
 use serde_json::Value;
@@ -24,7 +24,10 @@ pub(crate) fn with_null<'t>(alloc: Global, schema: Assembled<'t>) -> Result<Asse
 {
     match schema {
         Assembled::Reference(target) => or_null(alloc, Assembled::Reference(target)),
-        Assembled::Object(members) => null_in_object(alloc, members),
+        Assembled::Object(members) => {
+            let members = by_name(alloc, members)?;
+            null_in_object(alloc, members)
+        }
         Assembled::Value(value) => null_in_value(alloc, value),
         _ => Err(Stop::NotCovered),
     }
@@ -47,10 +50,9 @@ fn null_in_value<'t>(alloc: Global, value: &'t Value) -> Result<Assembled<'t>, S
 fn or_null<'t>(alloc: Global, schema: Assembled<'t>) -> Result<Assembled<'t>, Stop>
     ensures { IfOk result (λ p. assembled_view p ≡ or_null (assembled_view schema.entry)) }
 {
-    let null = lone_member(alloc, "type", Assembled::Text("null"))?;
-    let choices = vec![in alloc; schema, Assembled::Object(null)]?;
-    let members = lone_member(alloc, "anyOf", Assembled::List(choices))?;
-    Ok(Assembled::Object(members))
+    let null = lone_object(alloc, "type", Assembled::Text("null"))?;
+    let choices = vec![in alloc; schema, null]?;
+    lone_object(alloc, "anyOf", Assembled::List(choices))
 }
 
 // A choice of others is not covered, since it may accept null already.
@@ -65,12 +67,13 @@ fn null_in_object<'t>(
         return Err(Stop::NotCovered);
     }
     if is_combined(&members)? {
-        return or_null(alloc, Assembled::Object(members));
+        let schema = object(alloc, members)?;
+        return or_null(alloc, schema);
     }
     let mut members = members;
     null_in_type(alloc, &mut members)?;
     null_in_values(alloc, &mut members)?;
-    Ok(Assembled::Object(members))
+    object(alloc, members)
 }
 
 // Whether a schema may refuse null by more than its own type.

@@ -6,20 +6,19 @@ ghost use Rattle.schemars_render.specs.Assembled.{assembled_view, members_assemb
 
 use crate::assembled::Assembled;
 use schemars_text::places::place_of;
-use std::collections::BTreeMap;
 
 // Finds the members of `FIRST_KEYWORDS` and then of `LAST_KEYWORDS`, in one pass.
 #[inline(never)]
 pub(crate) fn find_fixed<'v, 't>(
-    members: &'v BTreeMap<&'t str, Assembled<'t>>,
+    members: &'v Vec<(&'t str, Assembled<'t>)>,
     found: &mut [Option<&'v Assembled<'t>>; 9],
 )
     ensures { map (λ s. option_map (λ v. assembled_view v.now) s) found.new
-        ≡ map (λ k. get_member k (members_assembled members.now.entries))
+        ≡ map (λ k. get_member k (members_assembled members.now.items))
         (first_keywords ++ last_keywords) }
 {
     *found = [None; 9];
-    for (key, part) in members.iter() {
+    for (key, part) in members {
         if let Some(place) = place_of(key) {
             found[place] = found[place].or(Some(part));
         }

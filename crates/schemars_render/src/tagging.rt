@@ -10,7 +10,7 @@ ghost use Rattle.schemars_render.specs.Assembled.{assembled_view, members_assemb
 use crate::assembled::Assembled;
 use crate::error::Stop;
 use crate::members::{
-    find_part, has_part, lone_member, members_in, put_part, take_items, take_members,
+    find_part, has_part, members_in, object, object_of, put_part, take_items, take_members,
 };
 use schemars_schema::edits::is_text;
 use std::alloc::Global;
@@ -31,7 +31,7 @@ pub(crate) fn with_tag<'t>(
     let is_closed = closed && has_null_type(&members);
     put_tag(alloc, &mut members, tag, name)?;
     close_where(&mut members, is_closed)?;
-    Ok(Assembled::Object(members))
+    object(alloc, members)
 }
 
 fn has_null_type<'t>(members: &BTreeMap<&'t str, Assembled<'t>>) -> bool
@@ -71,9 +71,10 @@ fn put_tag<'t>(
 fn unit_variant<'t>(alloc: Global, name: &'t str) -> Result<Assembled<'t>, Stop>
     ensures { IfOk result (λ p. assembled_view p ≡ unit_variant name.now) }
 {
-    let mut members = lone_member(alloc, "type", Assembled::Text("string"))?;
-    put_part(&mut members, "const", Assembled::Text(name))?;
-    Ok(Assembled::Object(members))
+    let type_name = ("type", Assembled::Text("string"));
+    let constant = ("const", Assembled::Text(name));
+    let members = vec![in alloc; type_name, constant]?;
+    object_of(members)
 }
 
 // Puts the schema of a property in.
@@ -89,7 +90,8 @@ fn put_property<'t>(
 {
     let mut properties = take_members(alloc, members, "properties")?;
     put_part(&mut properties, name, property)?;
-    put_part(members, "properties", Assembled::Object(properties))
+    let with_property = object(alloc, properties)?;
+    put_part(members, "properties", with_property)
 }
 
 // Puts the name before those that are required.

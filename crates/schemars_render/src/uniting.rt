@@ -7,7 +7,7 @@ ghost use Rattle.schemars_render.specs.Assembled.{assembled_view, items_assemble
 
 use crate::assembled::Assembled;
 use crate::error::Stop;
-use crate::members::{has_part, into_items, into_members, members_in, put_part, take_part};
+use crate::members::{has_part, into_items, into_members, members_in, object, put_part, take_part};
 use serde_json::Value;
 use std::alloc::Global;
 use std::collections::BTreeMap;
@@ -37,7 +37,7 @@ fn open<'t>(alloc: Global, schema: Assembled<'t>) -> Result<Assembled<'t>, Stop>
 {
     let mut members = into_members(alloc, schema)?;
     open_keywords(&mut members)?;
-    Ok(Assembled::Object(members))
+    object(alloc, members)
 }
 
 fn open_keywords<'t>(members: &mut BTreeMap<&'t str, Assembled<'t>>) -> Result<(), Stop>
@@ -65,7 +65,7 @@ fn unite<'t>(
     move_beside(&mut members, &others)?;
     move_beside(&mut others, &members)?;
     put_keywords(alloc, &mut members, others)?;
-    Ok(Assembled::Object(members))
+    object(alloc, members)
 }
 
 // Makes `additionalProperties` `unevaluatedProperties` where the other side asks for it.
@@ -206,7 +206,7 @@ fn merge<'t>(
     let mut members = into_members(alloc, first)?;
     let more = into_members(alloc, second)?;
     put_parts(&mut members, more)?;
-    Ok(Assembled::Object(members))
+    object(alloc, members)
 }
 
 fn put_parts<'t>(

@@ -4,9 +4,9 @@ ghost use Rattle.schemars_schema.specs.Json.{IsWholeJson, AreWholeJson, AreWhole
 ghost use Rattle.schemars_render.specs.Assembled.{assembled_view, items_assembled, members_assembled};
 
 use crate::assembled::Assembled;
+use crate::members::is_ascending;
 use schemars_definitions::is_json;
 use serde_json::Value;
-use std::collections::BTreeMap;
 
 // Whether the part is JSON of 64-bit whole numbers.
 #[cycle(is_whole)]
@@ -45,11 +45,13 @@ fn are_whole(parts: &Vec<Assembled<'_>>) -> bool
 }
 
 #[cycle(is_whole)]
-fn members_are_whole<'t>(members: &BTreeMap<&'t str, Assembled<'t>>) -> bool
-    ensures { IsTrue result → AreWholeJsonMembers (members_assembled members.now.entries) }
+fn members_are_whole<'t>(members: &Vec<(&'t str, Assembled<'t>)>) -> bool
+    ensures { IsTrue result → AreWholeJsonMembers (members_assembled members.now.items) }
 {
-    // the keys of a map ascend
-    for (name, part) in members.iter() {
+    if !is_ascending(members) {
+        return false;
+    }
+    for (name, part) in members {
         if !(is_text(name) && is_whole(part)) {
             return false;
         }

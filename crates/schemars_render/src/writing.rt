@@ -4,7 +4,7 @@ ghost use Rattle.serde_json.specs.Data.{Members};
 ghost use Rattle.serde_json.specs.Find.{get_member};
 ghost use Rattle.serde_json.specs.Written.{has_float, items_have_float};
 ghost use Rattle.schemars_text.specs.OrderedText as ordered;
-ghost use Rattle.schemars_text.specs.OrderedText.{SchemaLayout, each_written_at, others, arranged, item_texts, member_texts, ordered_text};
+ghost use Rattle.schemars_text.specs.OrderedText.{SchemaLayout, each_written_at, others, arranged, item_texts, layout_under, member_texts, ordered_text, text_in};
 ghost use Rattle.schemars_text.specs.Output.{with_values, layout_meant};
 ghost use Rattle.schemars_render.specs.Assembled.{assembled_view, items_assembled, members_assembled, reference_to};
 ghost use Rattle.schemars_render.specs.Writing.{IsWritten, IsMember, AreWritten};
@@ -16,7 +16,6 @@ use schemars_text::places::{FIRST_KEYWORDS, LAST_KEYWORDS, has_fixed_place};
 use schemars_text::{Layout, Output};
 use serde_json::Value;
 use std::alloc::{AllocError, Global};
-use std::collections::BTreeMap;
 
 // Returns the text of a schema.
 pub(crate) fn text_of(alloc: Global, schema: &Assembled<'_>) -> Result<String, AllocError>
@@ -82,13 +81,13 @@ fn write_items(
 
 #[cycle(write)]
 fn write_members<'t>(
-    members: &BTreeMap<&'t str, Assembled<'t>>,
+    members: &Vec<(&'t str, Assembled<'t>)>,
     layout: Layout,
     out: &mut Output,
 ) -> Result<(), AllocError>
-    ensures { OnOk result (AreWritten out.old out.new (members_assembled members.now.entries)
+    ensures { OnOk result (AreWritten out.old out.new (members_assembled members.now.items)
         (arranged (layout_meant layout)
-        (member_texts (layout_meant layout) (members_assembled members.now.entries)))) }
+        (member_texts (layout_meant layout) (members_assembled members.now.items)))) }
 {
     match layout {
         Layout::Schema => write_keywords(members, out),
@@ -100,14 +99,14 @@ fn write_members<'t>(
 #[inline(never)]
 #[tactic(auto, unfolding(schemars_text::specs::OrderedText::member_texts))]
 fn write_in_map_order<'t>(
-    members: &BTreeMap<&'t str, Assembled<'t>>,
+    members: &Vec<(&'t str, Assembled<'t>)>,
     layout: Layout,
     out: &mut Output,
 ) -> Result<(), AllocError>
-    ensures { OnOk result (AreWritten out.old out.new (members_assembled members.now.entries)
-        (member_texts (layout_meant layout) (members_assembled members.now.entries))) }
+    ensures { OnOk result (AreWritten out.old out.new (members_assembled members.now.items)
+        (member_texts (layout_meant layout) (members_assembled members.now.items))) }
 {
-    for (key, part) in members.iter() {
+    for (key, part) in members {
         write_member(key, part, layout, out)?;
     }
     Ok(())
@@ -117,11 +116,11 @@ fn write_in_map_order<'t>(
 #[cycle(write)]
 #[inline(never)]
 fn write_keywords<'t>(
-    members: &BTreeMap<&'t str, Assembled<'t>>,
+    members: &Vec<(&'t str, Assembled<'t>)>,
     out: &mut Output,
 ) -> Result<(), AllocError>
-    ensures { OnOk result (AreWritten out.old out.new (members_assembled members.now.entries)
-        (arranged SchemaLayout (member_texts SchemaLayout (members_assembled members.now.entries)))) }
+    ensures { OnOk result (AreWritten out.old out.new (members_assembled members.now.items)
+        (arranged SchemaLayout (member_texts SchemaLayout (members_assembled members.now.items)))) }
 {
     let mut found = [None; 9];
     find_fixed(members, &mut found);
@@ -157,13 +156,13 @@ fn write_found(
 #[inline(never)]
 #[tactic(auto, unfolding(schemars_text::specs::OrderedText::member_texts))]
 fn write_others<'t>(
-    members: &BTreeMap<&'t str, Assembled<'t>>,
+    members: &Vec<(&'t str, Assembled<'t>)>,
     out: &mut Output,
 ) -> Result<(), AllocError>
-    ensures { OnOk result (AreWritten out.old out.new (members_assembled members.now.entries)
-        (others (member_texts SchemaLayout (members_assembled members.now.entries)))) }
+    ensures { OnOk result (AreWritten out.old out.new (members_assembled members.now.items)
+        (others (member_texts SchemaLayout (members_assembled members.now.items)))) }
 {
-    for (key, part) in members.iter() {
+    for (key, part) in members {
         if !has_fixed_place(key) {
             write_member(key, part, Layout::Schema, out)?;
         }
@@ -182,5 +181,22 @@ fn write_member(
         (assembled_view part.now)) }
 {
     out.token(Token::Key(key))?;
-    write_part(part, layout.under(key), out)
+    write_part(part, layout_under(layout, key, part), out)
+}
+
+// How the part is written under this key. A scalar and a reference are the same in every layout, so
+// their keys need no look.
+#[tactic(auto, using(crate::proofs::Written::same_reference), unfolding(schemars_text::specs::OrderedText::text_in))]
+fn layout_under(layout: Layout, key: &str, part: &Assembled<'_>) -> Layout
+    ensures { text_in (layout_meant result) (assembled_view part.now)
+        ≡ text_in (layout_under (layout_meant layout) key.now) (assembled_view part.now) }
+{
+    match part {
+        Assembled::Null
+        | Assembled::Bool(_)
+        | Assembled::Integer(_)
+        | Assembled::Text(_)
+        | Assembled::Reference(_) => layout,
+        Assembled::Value(_) | Assembled::List(_) | Assembled::Object(_) => layout.under(key),
+    }
 }

@@ -1,10 +1,13 @@
 -- The inner template is filled first, and then the members join.
 use Rattle.std.proofs.Common.{map, refl, ap, ◌∙◌}
+use Rattle.schemars_schema.specs.SchemaData.{object_of}
+use Rattle.schemars_documents.proofs.Items.{no_more}
+use Rattle.schemars_render.proofs.FilledMembers.{filled_keywords}
 use Rattle.std.proofs.lemmas.Result.{IfOk-weaker, on_ok_weaker}
 use Rattle.schemars_documents.specs.Template.{filled, left}
-use Rattle.schemars_documents.specs.View.{ask_of, template_view, with_answers}
+use Rattle.schemars_documents.specs.View.{ask_of, template_view, keyword_view, property_view, with_answers}
 use Rattle.schemars_documents.proofs.Answering.{answers_later}
-use Rattle.schemars_render.specs.Assembled.{assembled_view}
+use Rattle.schemars_render.specs.Assembled.{assembled_view, named_view}
 use Rattle.schemars_render.proofs.assembling.+assemble.Goals as goal
 
 pub assemble_with_members-returns-clause-value : goal.assemble_with_members-returns-clause-value
@@ -26,3 +29,25 @@ assemble_with_members-returns-clause-left t c =
     ∙ ap (λ ms. with_answers (template_view c.args.inner.now.value) (map ask_of ms)) c.deref-2.ensures.value)
     (map assembled_view c.args.answers.now.items) (map assembled_view c.assemble_schema.new.answers.items) _ c.in_ok-schema.ensures.value c.in_ok-schema.ensures.left)
     c.add_members.ensures.left
+
+pub assemble_object-returns-clause-value : goal.assemble_object-returns-clause-value
+assemble_object-returns-clause-value t c =
+    let loop = c.loop-keyword in
+    let ts = map assembled_view loop.answers.items in
+    let us = map assembled_view c.args.answers.now.items in
+    IfOk-weaker c.object_of.result _ _
+    (λ p h. h ∙ (ap object_of (no_more (λ es. filled_keywords (map keyword_view es) ts) c.deref-keyword-items.result.now loop.keyword-index
+    (map named_view loop.members.items) _ c.loop-keyword-test.false refl loop.invariant.value)
+    ∙ ap (λ es. object_of (filled_keywords (map keyword_view es) us)) c.deref-keyword-items.ensures.value))
+    c.object_of.ensures
+
+pub assemble_named-returns-clause-value : goal.assemble_named-returns-clause-value
+assemble_named-returns-clause-value t c =
+    let loop = c.loop-named in
+    let ts = map assembled_view loop.answers.items in
+    let us = map assembled_view c.args.answers.now.items in
+    IfOk-weaker c.object_of.result _ _
+    (λ p h. h ∙ (ap object_of (no_more (λ es. filled_keywords (map property_view es) ts) c.deref-named-items.result.now loop.named-index
+    (map named_view loop.members.items) _ c.loop-named-test.false refl loop.invariant.value)
+    ∙ ap (λ es. object_of (filled_keywords (map property_view es) us)) c.deref-named-items.ensures.value))
+    c.object_of.ensures

@@ -3,13 +3,13 @@ use Rattle.std.proofs.Common.{◌≡◌, ◌++◌, map, drop}
 use Rattle.schemars_documents.specs.Template.{filled_in, left_in}
 use Rattle.schemars_documents.specs.OfShape.{templates_of}
 use Rattle.schemars_documents.specs.View.{template_view, keyword_view, property_view}
-use Rattle.schemars_render.specs.Assembled.{assembled_view, members_assembled}
+use Rattle.schemars_render.specs.Assembled.{assembled_view, named_view}
 use Rattle.schemars_render.proofs.FilledMembers.{GoesOn}
 use Rattle.schemars_render.proofs.assembling.+assemble.Given as goal
 
 abbrev pub invariant-assemble_object-loop-keyword : goal.invariant-assemble_object-loop-keyword
 invariant-assemble_object-loop-keyword l =
-    GoesOn keyword_view (drop l.keyword-index l.keyword-items) (map assembled_view l.answers.items) (members_assembled l.members.entries) l.keyword-items
+    GoesOn keyword_view (drop l.keyword-index l.keyword-items) (map assembled_view l.answers.items) (map named_view l.members.items) l.keyword-items
     (map assembled_view l.fn.answers.items)
 
 abbrev pub invariant-assemble_schemas-loop-schema : goal.invariant-assemble_schemas-loop-schema
@@ -22,5 +22,5 @@ invariant-assemble_schemas-loop-schema l = record {
 
 abbrev pub invariant-assemble_named-loop-named : goal.invariant-assemble_named-loop-named
 invariant-assemble_named-loop-named l =
-    GoesOn property_view (drop l.named-index l.named-items) (map assembled_view l.answers.items) (members_assembled l.members.entries) l.named-items
+    GoesOn property_view (drop l.named-index l.named-items) (map assembled_view l.answers.items) (map named_view l.members.items) l.named-items
     (map assembled_view l.fn.answers.items)

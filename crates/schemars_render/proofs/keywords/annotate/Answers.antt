@@ -1,15 +1,16 @@
 use Rattle.std.proofs.Common.{◌∙◌, ap}
+use Rattle.std.proofs.lemmas.Result.{IfOk-weaker}
 use Rattle.serde_json.specs.Data.{object}
 use Rattle.serde_json.specs.View.{members_view}
 use Rattle.schemars_schema.specs.SchemaData.{put_members}
 use Rattle.schemars_documents.proofs.Annotating.{annotated-some}
 use Rattle.schemars_render.specs.Assembled.{assembled_view}
-use Rattle.schemars_render.proofs.Parts.{seen_object}
 use Rattle.schemars_render.proofs.keywords.annotate.Goals as goal
 
 pub returns : goal.returns
 returns c =
     let notes = c.args.notes.now.entries in
-    seen_object c.put_values.new.members
-    ∙ (ap object (c.in_ok-put_values.ensures.values ∙ ap (put_members (members_view notes)) c.in_ok-members.ensures)
-    ∙ annotated-some notes c.is_empty.result c.if-is_empty.false c.is_empty.ensures.1 (assembled_view c.args.schema))
+    IfOk-weaker c.object.result _ _
+    (λ p h. h ∙ (ap object (c.in_ok-put_values.ensures.values ∙ ap (put_members (members_view notes)) c.in_ok-members.ensures)
+    ∙ annotated-some notes c.is_empty.result c.if-is_empty.false c.is_empty.ensures.1 (assembled_view c.args.schema)))
+    c.object.ensures

@@ -9,7 +9,7 @@ abbrev pub decreases-add_schema : goal.decreases-add_schema
 decreases-add_schema l = 6 * depth (assembled_view l.part.now)
 
 abbrev pub decreases-add_keywords : goal.decreases-add_keywords
-decreases-add_keywords l = 6 * members_depth (members_assembled l.members.now.entries) + 5
+decreases-add_keywords l = 6 * members_depth (members_assembled l.members.now.items) + 5
 
 abbrev pub decreases-add_keyword : goal.decreases-add_keyword
 decreases-add_keyword l = 6 * depth (assembled_view l.part.now) + 3
@@ -30,19 +30,19 @@ abbrev pub decreases-add_items : goal.decreases-add_items
 decreases-add_items l = 6 * items_depth (items_assembled l.parts.now.items) + 5
 
 abbrev pub decreases-add_names : goal.decreases-add_names
-decreases-add_names l = 6 * members_depth (members_assembled l.members.now.entries) + 5
+decreases-add_names l = 6 * members_depth (members_assembled l.members.now.items) + 5
 
 abbrev pub invariant-add_keywords-loop-key : goal.invariant-add_keywords-loop-key
 invariant-add_keywords-loop-key l = record {
-  deep : members_depth (members_assembled l.key-iterator) ≤ members_depth (members_assembled l.members.entries);
-  rest : needed_by_keywords l.alone (members_assembled l.key-iterator) l.needs
-      ≡ needed_by_keywords l.alone (members_assembled l.members.entries) l.fn.needs;
+  deep : members_depth (members_assembled (drop l.key-index l.key-items)) ≤ members_depth (members_assembled l.members.items);
+  rest : needed_by_keywords l.alone (members_assembled (drop l.key-index l.key-items)) l.needs
+      ≡ needed_by_keywords l.alone (members_assembled l.members.items) l.fn.needs;
 }
 
 abbrev pub invariant-add_names-loop-part : goal.invariant-add_names-loop-part
 invariant-add_names-loop-part l = record {
-  deep : members_depth (members_assembled l.part-iterator) ≤ members_depth (members_assembled l.members.entries);
-  rest : needed_by_names (members_assembled l.part-iterator) l.needs ≡ needed_by_names (members_assembled l.members.entries) l.fn.needs;
+  deep : members_depth (members_assembled (drop l.part-index l.part-items)) ≤ members_depth (members_assembled l.members.items);
+  rest : needed_by_names (members_assembled (drop l.part-index l.part-items)) l.needs ≡ needed_by_names (members_assembled l.members.items) l.fn.needs;
 }
 
 abbrev pub invariant-add_items-loop-part : goal.invariant-add_items-loop-part

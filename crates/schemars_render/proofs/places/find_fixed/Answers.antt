@@ -1,34 +1,41 @@
 -- One member more.
-use Rattle.std.proofs.Common.{◌++◌, [], rules, ap, sym, ◌∙◌, is_some, Some, ◌≡◌, false}
+use Rattle.std.proofs.Common.{◌++◌, ◌+◌, ◌∷◌, drop, ap, sym, subst, ◌∙◌, is_some, Some, ◌≡◌, false, arith}
+use Rattle.std.proofs.lemmas.List.{drop_all}
 use Rattle.serde_json.specs.Data.{member}
 use Rattle.schemars_text.specs.OrderedText.{first_keywords, last_keywords, is_listed}
 use Rattle.schemars_text.specs.Places.{place_in}
 use Rattle.schemars_text.proofs.FixedMembers.{Fills, filled, passed_over, all_found, keywords_apart, is_some-place_in}
 use Rattle.schemars_render.specs.Assembled.{assembled_view, members_assembled}
+use Rattle.schemars_render.proofs.Lists.{next_member}
 use Rattle.schemars_render.proofs.places.find_fixed.Goals as goal
-
-pub loop-key-preserved-in-Some-place_of : goal.loop-key-preserved-in-Some-place_of
-loop-key-preserved-in-Some-place_of c =
-    let left = members_assembled c.next.new.self in
-    let all = members_assembled c.args.members.now.entries in
-    let ks = first_keywords ++ last_keywords in
-    let k = c.in-Some.key.now.now in
-    let p = c.in-Some-place_of.place in
-    let at : place_in k ks ≡ Some p = search rules in
-    let before : Fills assembled_view c.loop-key.found ks (member k (assembled_view c.in-Some.part.now) left) all = search rules in
-    rw c.or.ensures (filled assembled_view c.loop-key.found ks p _ k c.in-Some.part left all keywords_apart at before)
+use Rattle.schemars_render.proofs.places.find_fixed.Goals.{in-Some, in_default}
 
 pub loop-key-preserved : goal.loop-key-preserved
 loop-key-preserved c =
-    let left = members_assembled c.next.new.self in
-    let all = members_assembled c.args.members.now.entries in
+    let es = c.deref-key-items.result.now in
+    let i = c.loop-key.key-index in
+    let e = c.loop-key-item.result in
+    let left = members_assembled (drop (i + 1) es) in
+    let all = members_assembled c.args.members.now.items in
     let ks = first_keywords ++ last_keywords in
-    let k = c.in-Some.key.now.now in
-    let unlisted : is_listed k ks ≡ false = sym (is_some-place_in k ks) ∙ ap is_some (sym c.place_of.ensures ∙ c.in_default.is) in
-    let before : Fills assembled_view c.loop-key.found ks (member k (assembled_view c.in-Some.part.now) left) all = search rules in
-    passed_over assembled_view _ _ _ _ left all unlisted before
+    let here : drop i es ≡ e ∷ drop (i + 1) es = next_member es i e (omega arith) c.loop-key-item.is in
+    let before : Fills assembled_view c.loop-key.found ks (member e.0.now (assembled_view e.1) left) all =
+    subst (λ xs. Fills assembled_view c.loop-key.found ks (members_assembled xs) all) here c.loop-key.invariant in
+    elim c.match-place_of.branch [
+      | in-Some w ↦
+          let at : place_in e.0.now ks ≡ Some w.in-Some.place = sym c.place_of.ensures ∙ w.in-Some.is in
+          rw (w.found-is, w.or.ensures)
+          (filled assembled_view c.loop-key.found ks w.in-Some.place _ e.0.now _ left all keywords_apart at before)
+      | in_default w ↦
+          let unlisted : is_listed e.0.now ks ≡ false = sym (is_some-place_in e.0.now ks) ∙ ap is_some (sym c.place_of.ensures ∙ w.in_default.is) in
+          rw w.found-is (passed_over assembled_view _ _ _ _ left all unlisted before)
+    ]
 
 pub returns : goal.returns
 returns c =
-    let ended : c.loop-key.key-iterator ≡ [] = search rules in
-    all_found assembled_view c.loop-key.found (first_keywords ++ last_keywords) _ (rw ended at c.loop-key.invariant)
+    let es = c.deref-key-items.result.now in
+    let all = members_assembled c.args.members.now.items in
+    let ks = first_keywords ++ last_keywords in
+    all_found assembled_view c.loop-key.found ks all
+    (subst (λ xs. Fills assembled_view c.loop-key.found ks (members_assembled xs) all) (drop_all c.loop-key.key-index es (omega arith))
+    c.loop-key.invariant)

@@ -1,5 +1,5 @@
 -- What all members have under each keyword was found, or is in the members that are left.
-use Rattle.std.proofs.Common.{◌++◌}
+use Rattle.std.proofs.Common.{◌++◌, drop}
 use Rattle.schemars_text.specs.OrderedText.{first_keywords, last_keywords}
 use Rattle.schemars_text.proofs.FixedMembers.{Fills}
 use Rattle.schemars_render.specs.Assembled.{assembled_view, members_assembled}
@@ -7,4 +7,4 @@ use Rattle.schemars_render.proofs.places.find_fixed.Given as goal
 
 abbrev pub invariant-loop-key : goal.invariant-loop-key
 invariant-loop-key l =
-    Fills assembled_view l.found (first_keywords ++ last_keywords) (members_assembled l.key-iterator) (members_assembled l.members.entries)
+    Fills assembled_view l.found (first_keywords ++ last_keywords) (members_assembled (drop l.key-index l.key-items)) (members_assembled l.members.items)

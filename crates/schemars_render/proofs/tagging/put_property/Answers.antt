@@ -4,9 +4,7 @@ use Rattle.std.proofs.lemmas.Result.{on_ok_weaker}
 use Rattle.serde_json.specs.Data.{object, no_members, put}
 use Rattle.schemars_schema.specs.Edits.{with_member}
 use Rattle.schemars_render.specs.Assembled.{assembled_view, members_assembled}
-use Rattle.schemars_render.specs.declared.assembled.Assembled as part
 use Rattle.schemars_render.proofs.Changed.{changed_again}
-use Rattle.schemars_render.proofs.Parts.{seen_object}
 use Rattle.schemars_render.proofs.tagging.put_property.Goals as goal
 
 pub returns : goal.returns
@@ -16,8 +14,8 @@ returns c =
     let mid = members_assembled c.take_members.new.members.entries in
     let inner = object (members_assembled c.in_ok-properties.properties.entries) in
     let change = with_member c.args.name.now (assembled_view c.args.property) in
-    let made = c.put_part.new.members in
-    let inside : assembled_view (part.Object made) ≡ change inner = seen_object made ∙ ap object c.in_ok-put_part.ensures in
+    let inside : assembled_view c.in_ok-with_property.with_property ≡ change inner =
+    c.in_ok-with_property.ensures ∙ ap object c.in_ok-put_part.ensures in
     on_ok_weaker c.put_part-2.result
     (λ put_in.
     put_in ∙ (ap (λ e. put key e mid) inside

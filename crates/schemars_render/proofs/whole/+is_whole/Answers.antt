@@ -1,9 +1,11 @@
--- The keys of a map ascend.
-use Rattle.std.proofs.Common.{rules, subst, sym, ap, ◌∙◌}
+-- Where the keys ascend, the members decide.
+use Rattle.std.proofs.Common.{rules, subst, sym, ap, ◌∙◌, arith}
+use Rattle.std.proofs.lemmas.List.{drop_all}
 use Rattle.schemars_schema.specs.Json.{IsWholeJson}
 use Rattle.schemars_render.proofs.Parts.{seen_reference}
 use Rattle.schemars_render.proofs.Wholes.{AreWholeEntries, whole_reference, whole_members}
-use Rattle.schemars_render.specs.Assembled.{assembled_view}
+use Rattle.schemars_schema.proofs.SortedMembers.{IsSorted}
+use Rattle.schemars_render.specs.Assembled.{assembled_view, members_assembled}
 use Rattle.schemars_render.proofs.whole.+is_whole.Goals as goal
 
 pub is_whole-returns-in-Reference : goal.is_whole-returns-in-Reference
@@ -13,6 +15,8 @@ is_whole-returns-in-Reference t c = λ yes.
 
 pub members_are_whole-returns : goal.members_are_whole-returns
 members_are_whole-returns t c = λ _.
-    let es = c.args.members.now.entries in
-    let all : AreWholeEntries es = search rules in
-    whole_members es all c.iter-name-items.ensures.ordered
+    let es = c.args.members.now.items in
+    let ended = drop_all c.loop-name.name-index c.deref-name-items.result.now (omega arith) in
+    let all : AreWholeEntries es = c.loop-name.invariant (subst AreWholeEntries (sym ended) tt) in
+    let sorted : IsSorted (members_assembled es) = search rules in
+    whole_members es all sorted

@@ -27,7 +27,7 @@ write_members-returns-in-Schema t c = rw c.in-Schema.is c.write_keywords.ensures
 
 pub write_keywords-returns : goal.write_keywords-returns
 write_keywords-returns t c =
-    let ms = members_assembled c.args.members.now.entries in
+    let ms = members_assembled c.args.members.now.items in
     let found = c.find_fixed.new.found in
     on_ok_weaker c.write_found-2.result (λ last none.
     let ws = member_texts SchemaLayout ms in
@@ -41,7 +41,7 @@ write_keywords-returns t c =
 
 pub write_keywords-write_found-requires : goal.write_keywords-write_found-requires
 write_keywords-write_found-requires t c =
-    let ms = members_assembled c.args.members.now.entries in
+    let ms = members_assembled c.args.members.now.items in
     let first = take 7 c.find_fixed.new.found in
     let is = first_found assembled_view c.find_fixed.new.found ms c.find_fixed.ensures in
     let shallow : found_depth (map (held assembled_view) first) ≤ members_depth ms = rw is (all_shallow first_keywords ms) in
@@ -50,7 +50,7 @@ write_keywords-write_found-requires t c =
 
 pub write_keywords-write_found-requires-2 : goal.write_keywords-write_found-requires-2
 write_keywords-write_found-requires-2 t c =
-    let ms = members_assembled c.args.members.now.entries in
+    let ms = members_assembled c.args.members.now.items in
     let last = take 2 (drop 7 c.find_fixed.new.found) in
     let is = last_found c.find_fixed.new.found ms c.find_fixed.ensures in
     let shallow : found_depth (map (held assembled_view) last) ≤ members_depth ms = rw is (all_shallow last_keywords ms) in

@@ -16,19 +16,19 @@ abbrev pub decreases-write_items : goal.decreases-write_items
 decreases-write_items l = 6 * items_depth (items_assembled l.parts.now.items) + 5
 
 abbrev pub decreases-write_members : goal.decreases-write_members
-decreases-write_members l = 6 * members_depth (members_assembled l.members.now.entries) + 4
+decreases-write_members l = 6 * members_depth (members_assembled l.members.now.items) + 4
 
 abbrev pub decreases-write_keywords : goal.decreases-write_keywords
-decreases-write_keywords l = 6 * members_depth (members_assembled l.members.now.entries) + 3
+decreases-write_keywords l = 6 * members_depth (members_assembled l.members.now.items) + 3
 
 abbrev pub decreases-write_in_map_order : goal.decreases-write_in_map_order
-decreases-write_in_map_order l = 6 * members_depth (members_assembled l.members.now.entries) + 2
+decreases-write_in_map_order l = 6 * members_depth (members_assembled l.members.now.items) + 2
 
 abbrev pub decreases-write_found : goal.decreases-write_found
 decreases-write_found l = 6 * found_depth (map (held assembled_view) l.found.now) + 2
 
 abbrev pub decreases-write_others : goal.decreases-write_others
-decreases-write_others l = 6 * members_depth (members_assembled l.members.now.entries) + 2
+decreases-write_others l = 6 * members_depth (members_assembled l.members.now.items) + 2
 
 abbrev pub decreases-write_member : goal.decreases-write_member
 decreases-write_member l = 6 * depth (assembled_view l.part.now) + 1
@@ -45,11 +45,11 @@ invariant-write_items-loop-part l = record {
 
 abbrev pub invariant-write_in_map_order-loop-key : goal.invariant-write_in_map_order-loop-key
 invariant-write_in_map_order-loop-key l = record {
-  deep : members_depth (members_assembled l.key-iterator) ≤ members_depth (members_assembled l.members.entries);
-  text : members_have_float (members_assembled l.members.entries) ≡ false → record {
-    floats : members_have_float (members_assembled l.key-iterator) ≡ false;
-    text : with_values l.out (texts (member_texts (layout_meant l.layout) (members_assembled l.key-iterator)))
-        ≡ with_values l.fn.out (texts (member_texts (layout_meant l.layout) (members_assembled l.members.entries)));
+  deep : members_depth (members_assembled (drop l.key-index l.key-items)) ≤ members_depth (members_assembled l.members.items);
+  text : members_have_float (members_assembled l.members.items) ≡ false → record {
+    floats : members_have_float (members_assembled (drop l.key-index l.key-items)) ≡ false;
+    text : with_values l.out (texts (member_texts (layout_meant l.layout) (members_assembled (drop l.key-index l.key-items))))
+        ≡ with_values l.fn.out (texts (member_texts (layout_meant l.layout) (members_assembled l.members.items)));
   };
 }
 
@@ -61,10 +61,10 @@ invariant-write_found-loop-place l = (ms : Members) → map (held assembled_view
 
 abbrev pub invariant-write_others-loop-key : goal.invariant-write_others-loop-key
 invariant-write_others-loop-key l = record {
-  deep : members_depth (members_assembled l.key-iterator) ≤ members_depth (members_assembled l.members.entries);
-  text : members_have_float (members_assembled l.members.entries) ≡ false → record {
-    floats : members_have_float (members_assembled l.key-iterator) ≡ false;
-    text : with_values l.out (texts (others (member_texts SchemaLayout (members_assembled l.key-iterator))))
-        ≡ with_values l.fn.out (texts (others (member_texts SchemaLayout (members_assembled l.members.entries))));
+  deep : members_depth (members_assembled (drop l.key-index l.key-items)) ≤ members_depth (members_assembled l.members.items);
+  text : members_have_float (members_assembled l.members.items) ≡ false → record {
+    floats : members_have_float (members_assembled (drop l.key-index l.key-items)) ≡ false;
+    text : with_values l.out (texts (others (member_texts SchemaLayout (members_assembled (drop l.key-index l.key-items)))))
+        ≡ with_values l.fn.out (texts (others (member_texts SchemaLayout (members_assembled l.members.items))));
   };
 }

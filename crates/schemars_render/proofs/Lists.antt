@@ -1,0 +1,50 @@
+-- Lists of members: what they stand for, in the order of their names.
+use Rattle.std.proofs.Common.{◌≡◌, ℕ, ◌+◌, ◌<◌, List, [], ◌∷◌, map, length, get_or, drop, zero, suc, ◌≤◌, false, Ordering, Less, Equal, Greater, is_ge, nat_cmp, IsPermutation, arith, refl, sym, ap, subst, ◌∙◌}
+use Rattle.std.proofs.lemmas.List.{drop_more}
+use Rattle.std.proofs.lemmas.List.Sorted.{IsPermutation-map}
+use Rattle.std.specs.Cmp.Lexicographic.{slice_cmp}
+use Rattle.serde_json.specs.Data.{no_members, member}
+use Rattle.schemars_schema.specs.SchemaData.{put_all}
+use Rattle.schemars_schema.proofs.SortedMembers.{IsSorted, above-trans}
+use Rattle.schemars_render.specs.Assembled.{assembled_view, members_assembled, named_view}
+use Rattle.schemars_render.proofs.Entries.{Entry}
+use Rattle.schemars_render.proofs.PutInOrder.{listed, put_in_order}
+
+below_from_not_ge : (o : Ordering) → is_ge o ≡ false → o ≡ Less
+below_from_not_ge Less h = refl
+below_from_not_ge Equal h = cc
+below_from_not_ge Greater h = cc
+
+-- the next member, and then those that are left
+pub next_member : (es : List Entry) (i : ℕ) (e : Entry) → i < length es → e ≡ get_or es i e → drop i es ≡ e ∷ drop (i + 1) es
+next_member es i e within is = drop_more es i e within ∙ ap (λ (x : Entry). x ∷ drop (i + 1) es) (sym is)
+
+-- a member before others that are sorted
+pub sorted_from : (es : List Entry) (i n : ℕ) (e f : Entry) → n ≡ i + 1 → n < length es → e ≡ get_or es i e → f ≡ get_or es n f
+    → is_ge (slice_cmp nat_cmp e.0.now f.0.now) ≡ false → IsSorted (members_assembled (drop n es)) → IsSorted (members_assembled (drop i es))
+sorted_from es i n e f more within is_first is_next test later =
+    let before = below_from_not_ge (slice_cmp nat_cmp e.0.now f.0.now) test in
+    let next : drop n es ≡ f ∷ drop (n + 1) es = next_member es n f within is_next in
+    let first : drop i es ≡ e ∷ f ∷ drop (n + 1) es =
+    next_member es i e (omega arith) is_first ∙ ap (λ k. e ∷ drop k es) (sym more) ∙ ap (λ xs. e ∷ xs) next in
+    let rest : IsSorted (members_assembled (f ∷ drop (n + 1) es)) = subst (λ xs. IsSorted (members_assembled xs)) next later in
+    subst (λ xs. IsSorted (members_assembled xs)) (sym first)
+    ((before, above-trans e.0.now f.0.now (members_assembled (drop (n + 1) es)) before rest.0), rest)
+
+pub sorted_last : (es : List Entry) (i : ℕ) → length es ≤ i + 1 → IsSorted (members_assembled (drop i es))
+sorted_last [] zero last = tt
+sorted_last [] (suc i) last = tt
+sorted_last (e ∷ []) zero last = (tt, tt)
+sorted_last (e ∷ f ∷ es) zero last = absurd (omega arith)
+sorted_last (e ∷ es) (suc i) last = sorted_last es i (omega arith)
+
+as_listed : (es : List Entry) → members_assembled es ≡ listed (map named_view es)
+as_listed [] = refl
+as_listed (e ∷ es) = ap (member e.0.now (assembled_view e.1)) (as_listed es)
+
+-- the same members in another order
+pub sorted_members : (es xs : List Entry) → IsPermutation es xs → IsSorted (members_assembled xs)
+    → members_assembled xs ≡ put_all (map named_view es) no_members
+sorted_members es xs moved sorted =
+    as_listed xs ∙ put_in_order (map named_view es) (map named_view xs) (IsPermutation-map named_view es xs moved)
+    (subst IsSorted (as_listed xs) sorted)

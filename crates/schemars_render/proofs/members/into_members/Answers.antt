@@ -1,0 +1,13 @@
+use Rattle.std.proofs.Common.{sym, ap, ◌∙◌}
+use Rattle.std.proofs.lemmas.Result.{IfOk-weaker}
+use Rattle.serde_json.specs.Data.{object}
+use Rattle.schemars_render.specs.Assembled.{assembled_view, members_assembled}
+use Rattle.schemars_render.proofs.Parts.{seen_object}
+use Rattle.schemars_render.proofs.members.into_members.Goals as goal
+
+pub returns-in-Object : goal.returns-in-Object
+returns-in-Object c =
+    IfOk-weaker c.by_name.result _ _
+    (λ m h. ap assembled_view c.in-Object.is
+    ∙ (seen_object c.in-Object.members ∙ ap object (sym (h ∙ ap (λ v. members_assembled v.items) c.in-Object.members-is))))
+    c.by_name.ensures
