@@ -6,6 +6,5 @@ pub mod Items
 pub mod Lists
 pub mod Parts
 pub mod PutInOrder
-pub mod United
 pub mod Wholes
 pub mod Written

@@ -1,9 +1,9 @@
 -- Lists of members: what they stand for, in the order of their names.
-use Rattle.std.proofs.Common.{◌≡◌, ℕ, ◌+◌, ◌<◌, List, [], ◌∷◌, map, length, get_or, drop, zero, suc, ◌≤◌, false, Ordering, Less, Equal, Greater, is_ge, nat_cmp, IsPermutation, arith, refl, sym, ap, subst, ◌∙◌}
+use Rattle.std.proofs.Common.{◌≡◌, ℕ, ◌+◌, ◌<◌, List, [], ◌∷◌, ◌++◌, map, length, get_or, drop, zero, suc, ◌≤◌, false, Ordering, Less, Equal, Greater, is_ge, nat_cmp, IsPermutation, arith, refl, sym, ap, subst, ◌∙◌}
 use Rattle.std.proofs.lemmas.List.{drop_more}
-use Rattle.std.proofs.lemmas.List.Sorted.{IsPermutation-map}
+use Rattle.std.proofs.lemmas.List.Sorted.{IsPermutation-map, IsPermutation-refl}
 use Rattle.std.specs.Cmp.Lexicographic.{slice_cmp}
-use Rattle.serde_json.specs.Data.{no_members, member}
+use Rattle.serde_json.specs.Data.{Members, no_members, member, put}
 use Rattle.schemars_schema.specs.SchemaData.{put_all}
 use Rattle.schemars_schema.proofs.SortedMembers.{IsSorted, above-trans}
 use Rattle.schemars_render.specs.Assembled.{assembled_view, members_assembled, named_view}
@@ -48,3 +48,13 @@ pub sorted_members : (es xs : List Entry) → IsPermutation es xs → IsSorted (
 sorted_members es xs moved sorted =
     as_listed xs ∙ put_in_order (map named_view es) (map named_view xs) (IsPermutation-map named_view es xs moved)
     (subst IsSorted (as_listed xs) sorted)
+
+-- one more, put in last
+pub put_last : (es : List Entry) (e : Entry) (ms : Members) → put_all (map named_view (es ++ e ∷ [])) ms
+    ≡ put e.0.now (assembled_view e.1) (put_all (map named_view es) ms)
+put_last [] e ms = refl
+put_last (f ∷ es) e ms = put_last es e (put f.0.now (assembled_view f.1) ms)
+
+-- members in the order of their names are those that are put in one after another
+pub put_as_listed : (es : List Entry) → IsSorted (members_assembled es) → put_all (map named_view es) no_members ≡ members_assembled es
+put_as_listed es sorted = sym (sorted_members es es (IsPermutation-refl es) sorted)

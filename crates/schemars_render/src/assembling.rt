@@ -3,9 +3,9 @@ ghost use Rattle.std.specs.Prelude.{◌≡◌, map, IfOk, OnOk};
 ghost use Rattle.serde_json.specs.Data.{array};
 ghost use Rattle.schemars_schema.specs.SchemaData.{object_of};
 ghost use Rattle.schemars_builders.specs.NullLaw.{text_items};
-ghost use Rattle.schemars_documents.specs.Template.{finished, list, filled, left, first, behind};
+ghost use Rattle.schemars_documents.specs.Template.{list, filled, left, first, behind};
 ghost use Rattle.schemars_documents.specs.OfShape.{object_with, templates_of};
-ghost use Rattle.schemars_documents.specs.View.{ask_of, template_view, value_view, keyword_view, property_view, with_answers, scalar_view, scalar_keyword};
+ghost use Rattle.schemars_documents.specs.View.{template_view, value_view, keyword_view, property_view, scalar_view, scalar_keyword};
 ghost use Rattle.schemars_render.specs.Assembled.{assembled_view};
 
 use crate::assembled::Assembled;
@@ -14,8 +14,7 @@ use crate::keywords::{annotate, titled};
 use crate::members::object_of;
 use crate::nulls::with_null;
 use crate::tagging::with_tag;
-use crate::uniting::with_keywords_of;
-use schemars_documents::template::{Ask, Scalar, SchemaTemplate, ValueTemplate};
+use schemars_documents::template::{Scalar, SchemaTemplate, ValueTemplate};
 use std::alloc::Global;
 use std::collections::VecDeque;
 
@@ -49,9 +48,8 @@ pub(crate) fn assemble_schema<'a>(
             let schema = assemble_schema(alloc, inner, answers)?;
             titled(alloc, schema, &**title)
         }
-        SchemaTemplate::WithMembers(inner, asks) => {
-            assemble_with_members(alloc, inner, asks, answers)
-        }
+        // as a JSON value it takes less, since its answers are schemas
+        SchemaTemplate::WithMembers(..) => Err(Stop::NotCovered),
         SchemaTemplate::Tagged {
             tag,
             name,
@@ -141,42 +139,6 @@ fn assemble_named<'a>(
         members.push((&*named.0, part))?;
     }
     object_of(members)
-}
-
-#[cycle(assemble)]
-fn assemble_with_members<'a>(
-    alloc: Global,
-    inner: &'a Box<SchemaTemplate<'_>>,
-    asks: &'a Vec<Ask>,
-    answers: &mut VecDeque<Assembled<'a>>,
-) -> Result<Assembled<'a>, Stop>
-    ensures value { IfOk result (λ p. assembled_view p ≡ filled (with_answers
-        (template_view inner.now.value) (map ask_of asks.now.items)) (map assembled_view answers.old.items)) }
-    ensures left { OnOk result (map assembled_view answers.new.items ≡ left (with_answers
-        (template_view inner.now.value) (map ask_of asks.now.items)) (map assembled_view answers.old.items)) }
-{
-    let schema = assemble_schema(alloc, inner, answers)?;
-    add_members(alloc, schema, asks, answers)
-}
-
-// Puts the keywords of as many answers into the schema as members are asked for.
-fn add_members<'a>(
-    alloc: Global,
-    schema: Assembled<'a>,
-    asks: &[Ask],
-    answers: &mut VecDeque<Assembled<'a>>,
-) -> Result<Assembled<'a>, Stop>
-    ensures value { IfOk result (λ p. assembled_view p ≡ filled (with_answers
-        (finished (assembled_view schema.entry)) (map ask_of asks.now)) (map assembled_view answers.old.items)) }
-    ensures left { OnOk result (map assembled_view answers.new.items ≡ left (with_answers
-        (finished (assembled_view schema.entry)) (map ask_of asks.now)) (map assembled_view answers.old.items)) }
-{
-    let mut schema = schema;
-    for _ask in asks {
-        let part = next_answer(answers)?;
-        schema = with_keywords_of(alloc, schema, part)?;
-    }
-    Ok(schema)
 }
 
 fn next_answer<'a>(answers: &mut VecDeque<Assembled<'a>>) -> Result<Assembled<'a>, Stop>

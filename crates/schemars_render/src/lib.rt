@@ -13,7 +13,6 @@ mod nulls;
 mod places;
 mod rendering;
 mod tagging;
-mod uniting;
 mod whole;
 mod writing;
 

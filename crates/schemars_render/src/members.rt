@@ -5,7 +5,7 @@ ghost use Rattle.serde_json.specs.Data.{array, no_items, object, member, no_memb
 ghost use Rattle.serde_json.specs.Find.{get_member};
 ghost use Rattle.serde_json.specs.View.{view, items_view, members_view};
 ghost use Rattle.schemars_schema.specs.Edits.{without};
-ghost use Rattle.schemars_schema.specs.SchemaData.{members_in, object_of, put_members};
+ghost use Rattle.schemars_schema.specs.SchemaData.{members_in, object_of, put_all, put_members};
 ghost use Rattle.schemars_schema.proofs.SortedMembers.{IsSorted};
 ghost use Rattle.schemars_render.specs.Assembled.{assembled_view, items_assembled, members_assembled, named_view, there_or};
 
@@ -78,6 +78,73 @@ pub(crate) fn lone_object<'t>(
 {
     let members = vec![in alloc; (name, part)]?;
     Ok(Assembled::Object(members))
+}
+
+// The members of a schema once it is an object, in the order of their names. Those of `false` are not
+// covered.
+pub(crate) fn list_in<'t>(
+    alloc: Global,
+    schema: Assembled<'t>,
+) -> Result<Vec<(&'t str, Assembled<'t>)>, Stop>
+    ensures { IfOk result (λ v. put_all (map named_view v.items) no_members
+        ≡ members_in (assembled_view schema.entry)) }
+{
+    match schema {
+        Assembled::Object(members) => ascending(members),
+        Assembled::Reference(target) => {
+            let members = vec![in alloc; ("$ref", Assembled::Text(target))]?;
+            Ok(members)
+        }
+        Assembled::Value(value) => list_in_value(alloc, value),
+        _ => Err(Stop::NotCovered),
+    }
+}
+
+fn list_in_value<'t>(
+    alloc: Global,
+    value: &'t Value,
+) -> Result<Vec<(&'t str, Assembled<'t>)>, Stop>
+    ensures { IfOk result (λ v. put_all (map named_view v.items) no_members
+        ≡ members_in (view value.now)) }
+{
+    match value {
+        Value::Object(values) => {
+            let mut members = Vec::with_capacity(alloc, values.len())?;
+            push_values(&mut members, values)?;
+            Ok(members)
+        }
+        Value::Bool(true) => Ok(Vec::new(alloc)),
+        _ => Err(Stop::NotCovered),
+    }
+}
+
+// The members, where each name is before the next.
+fn ascending<'t>(
+    members: Vec<(&'t str, Assembled<'t>)>,
+) -> Result<Vec<(&'t str, Assembled<'t>)>, Stop>
+    ensures { IfOk result (λ v. put_all (map named_view v.items) no_members
+        ≡ members_assembled members.entry.items) }
+{
+    if is_ascending(&members) {
+        Ok(members)
+    } else {
+        Err(Stop::NotCovered)
+    }
+}
+
+// Adds the values behind the members.
+pub(crate) fn push_values<'t>(
+    members: &mut Vec<(&'t str, Assembled<'t>)>,
+    values: &'t Map<String, Value>,
+) -> Result<(), Stop>
+    ensures { OnOk result (put_all (map named_view members.new.items) no_members
+        ≡ put_members (members_view values.now.entries)
+        (put_all (map named_view members.old.items) no_members)) }
+{
+    for (name, value) in values.iter() {
+        members.push((name.as_str(), Assembled::Value(value)))?;
+    }
+    Ok(())
 }
 
 // The members of a list as a map, where their names ascend.

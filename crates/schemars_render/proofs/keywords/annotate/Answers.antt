@@ -10,7 +10,7 @@ use Rattle.schemars_render.proofs.keywords.annotate.Goals as goal
 pub returns : goal.returns
 returns c =
     let notes = c.args.notes.now.entries in
-    IfOk-weaker c.object.result _ _
-    (λ p h. h ∙ (ap object (c.in_ok-put_values.ensures.values ∙ ap (put_members (members_view notes)) c.in_ok-members.ensures)
+    IfOk-weaker c.object_of.result _ _
+    (λ p h. h ∙ (ap object (c.in_ok-push_values.ensures ∙ ap (put_members (members_view notes)) c.in_ok-members.ensures)
     ∙ annotated-some notes c.is_empty.result c.if-is_empty.false c.is_empty.ensures.1 (assembled_view c.args.schema)))
-    c.object.ensures
+    c.object_of.ensures
