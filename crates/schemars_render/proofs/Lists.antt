@@ -21,7 +21,8 @@ next_member es i e within is = drop_more es i e within ∙ ap (λ (x : Entry). x
 
 -- a member before others that are sorted
 pub sorted_from : (es : List Entry) (i n : ℕ) (e f : Entry) → n ≡ i + 1 → n < length es → e ≡ get_or es i e → f ≡ get_or es n f
-    → is_ge (slice_cmp nat_cmp e.0.now f.0.now) ≡ false → IsSorted (members_assembled (drop n es)) → IsSorted (members_assembled (drop i es))
+    → is_ge (slice_cmp nat_cmp e.0.now f.0.now) ≡ false → IsSorted (members_assembled (drop n es))
+    → IsSorted (members_assembled (drop i es))
 sorted_from es i n e f more within is_first is_next test later =
     let before = below_from_not_ge (slice_cmp nat_cmp e.0.now f.0.now) test in
     let next : drop n es ≡ f ∷ drop (n + 1) es = next_member es n f within is_next in
@@ -56,5 +57,6 @@ put_last [] e ms = refl
 put_last (f ∷ es) e ms = put_last es e (put f.0.now (assembled_view f.1) ms)
 
 -- members in the order of their names are those that are put in one after another
-pub put_as_listed : (es : List Entry) → IsSorted (members_assembled es) → put_all (map named_view es) no_members ≡ members_assembled es
+pub put_as_listed : (es : List Entry) → IsSorted (members_assembled es)
+    → put_all (map named_view es) no_members ≡ members_assembled es
 put_as_listed es sorted = sym (sorted_members es es (IsPermutation-refl es) sorted)

@@ -100,10 +100,7 @@ pub(crate) fn list_in<'t>(
     }
 }
 
-fn list_in_value<'t>(
-    alloc: Global,
-    value: &'t Value,
-) -> Result<Vec<(&'t str, Assembled<'t>)>, Stop>
+fn list_in_value<'t>(alloc: Global, value: &'t Value) -> Result<Vec<(&'t str, Assembled<'t>)>, Stop>
     ensures { IfOk result (λ v. put_all (map named_view v.items) no_members
         ≡ members_in (view value.now)) }
 {
