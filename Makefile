@@ -119,8 +119,9 @@ openapi-example: $(built)
 
 # The merge gate: every proof from nothing, the must-fail edits, the tests and the programs. What pages
 # and examples show has to be what the case files have, and the files, lines and words that pages name
-# have to be there. The generated implementations have to be what the program writes now. Then the C library is built and called, the memory and the instructions that a row
-# costs are measured, and each growth of the memory of the programs that were built is refused in turn.
+# have to be there. The generated implementations have to be what the program writes now. Then the C library
+# is built and called, the memory and the instructions that a row costs are measured, and each growth of the memory of the
+# programs that were built is refused in turn.
 test:
 	tools/cases --check
 	tools/places --check
