@@ -1,5 +1,5 @@
 -- The rows of a table against the entries of its map: where an id stands, and a row that joins or is written.
-use Rattle.std.proofs.Common.{◌≡◌, ◌+◌, ℕ, zero, suc, List, [], ◌∷◌, ◌++◌, length, map, slice_get, Bool, true, false, Some, None, cond, String, string_bytes, refl, ap, ◌∙◌, sym, arith, position}
+use Rattle.std.proofs.Common.{◌≡◌, ◌+◌, ℕ, zero, suc, List, [], ◌∷◌, ◌++◌, length, map, slice_get, Bool, true, false, Some, None, cond, option_map, String, string_bytes, refl, ap, ◌∙◌, sym, arith, position}
 use Rattle.std.specs.declared.alloc.Global.{Global}
 use Rattle.std.specs.List.{position_from, AllByRecursion, IsDistinct}
 use Rattle.std.specs.Map.{keys_of, values_of}
@@ -10,6 +10,7 @@ use Rattle.std.proofs.lemmas.Slice.Eq.{bytes_eq-Decides}
 use Rattle.indexmap.specs.IndexMap.{insert_entry, set_value_at}
 use Rattle.schemars_schema.specs.Json.{Text}
 use Rattle.schemars_text.proofs.Members.{bytes_eq_comm}
+use Rattle.schemars_types.specs.declared.table.slots.NamedEntry.{NamedEntry}
 use Rattle.schemars_types.specs.declared.table.slots.Slot.{Slot}
 use Rattle.schemars_shapes.specs.declared.shape.TypeEntry.{TypeEntry}
 use Rattle.schemars_shapes.specs.Shape.{Entry, entry_of}
@@ -47,14 +48,16 @@ insert_from id slot (s ∷ slots) i none =
     by false e h rest = rw e (ap (λ rows. row_of s ∷ rows) (rest h))
 
 -- a new id joins at the end, not yet defined
-pub insert_entry-reserved : (id name : String Global) (slots : List (String Global × Slot)) (rows : List Row) → map row_of slots ≡ rows
-    → place_of (string_bytes id) rows ≡ None
-    → map row_of (insert_entry string_eq slots id (record { name = name; entry = None }))
-    ≡ reserved (string_bytes id) (string_bytes name) rows
-insert_entry-reserved id name slots rows view_is none =
+pub insert_entry-reserved : (id name : String Global) (slot : Slot) (slots : List (String Global × Slot)) (rows : List Row)
+    → slot.row.value ≡ record { name = name; entry = None } → map row_of slots ≡ rows → place_of (string_bytes id) rows ≡ None
+    → map row_of (insert_entry string_eq slots id slot) ≡ reserved (string_bytes id) (string_bytes name) rows
+insert_entry-reserved id name slot slots rows is view_is none =
     let new : Row = record { id = string_bytes id; name = string_bytes name; entry = None } in
-    insert_from id (record { name = name; entry = None }) slots 0 (ap (place_of (string_bytes id)) view_is ∙ none)
-    ∙ ap (λ (rs : List Row). rs ++ new ∷ []) view_is ∙ sym (reserved-absent (string_bytes id) (string_bytes name) rows none)
+    let says : row_of (id, slot) ≡ new =
+    ap (λ (v : NamedEntry). record { id = string_bytes id; name = string_bytes v.name; entry = option_map entry_of v.entry }) is in
+    insert_from id slot slots 0 (ap (place_of (string_bytes id)) view_is ∙ none)
+    ∙ ap (λ (r : Row). map row_of slots ++ r ∷ []) says ∙ ap (λ (rs : List Row). rs ++ new ∷ []) view_is
+    ∙ sym (reserved-absent (string_bytes id) (string_bytes name) rows none)
 
 joined_from : (test : Row → Bool) (r : Row) (rows : List Row) (i : ℕ) → position_from test i rows ≡ None → test r ≡ true
     → position_from test i (rows ++ r ∷ []) ≡ Some (i + length rows)
@@ -92,12 +95,16 @@ defined-same zero e (r ∷ rows) there = λ i. (record r { entry = sym there i }
 defined-same (suc n) e (r ∷ rows) there = ap (λ rs. r ∷ rs) (defined-same n e rows there)
 
 -- a slot's entry written is its row defined
-pub map-set_value_at : (slots : List (String Global × Slot)) (n : ℕ) (slot : Slot) (entry : TypeEntry)
-    → slice_get (values_of slots) n ≡ Some slot
-    → map row_of (set_value_at slots n (record slot { entry = Some entry })) ≡ defined n (entry_of entry) (map row_of slots)
-map-set_value_at [] n slot entry there = refl
-map-set_value_at (s ∷ slots) zero slot entry there = cc
-map-set_value_at (s ∷ slots) (suc n) slot entry there = ap (λ rs. row_of s ∷ rs) (map-set_value_at slots n slot entry there)
+pub map-set_value_at : (slots : List (String Global × Slot)) (n : ℕ) (slot new : Slot) (entry : TypeEntry)
+    → new.row.value ≡ record slot.row.value { entry = Some entry } → slice_get (values_of slots) n ≡ Some slot
+    → map row_of (set_value_at slots n new) ≡ defined n (entry_of entry) (map row_of slots)
+map-set_value_at [] n slot new entry is there = refl
+map-set_value_at (s ∷ slots) zero slot new entry is there =
+    let says : row_of (s.0, new) ≡ record (row_of (s.0, slot)) { entry = Some (entry_of entry) } =
+    ap (λ (v : NamedEntry). record { id = string_bytes s.0; name = string_bytes v.name; entry = option_map entry_of v.entry }) is in
+    cc
+map-set_value_at (s ∷ slots) (suc n) slot new entry is there =
+    ap (λ rs. row_of s ∷ rs) (map-set_value_at slots n slot new entry is there)
 
 -- the ids of rows are the keys of the map, which are distinct
 ids_after : (k : String Global) (es : List (String Global × Slot)) → AllByRecursion (λ y. string_eq k y ≡ false) (keys_of es)

@@ -111,7 +111,7 @@ impl Types {
         ensures { option_map (λ s. s.now) result ≡ option_map (λ r. r.name) (slice_get self.now n) }
     {
         let (_id, slot) = self.slots.get_index(n)?;
-        Some(slot.name.as_str())
+        Some(slot.name())
     }
 
     /// Returns the entry of row `n`, if there is such a row and it is defined.
