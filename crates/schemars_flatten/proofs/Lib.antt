@@ -2,6 +2,7 @@
 mod FlattenExamples
 pub mod Parts
 pub mod Lookups
+pub mod PutIn
 pub mod Verdicts
 pub mod Law
 pub mod Levels

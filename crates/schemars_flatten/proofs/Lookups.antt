@@ -100,7 +100,7 @@ not_there k ms h = go (get_member k ms) h
     go None h = refl
     go (Some e) h = absurd (true≢false (sym h))
 
-here_first : (q k : Text) (d : Data) (ms : Members) → bytes_eq q k ≡ true → get_member q (member k d ms) ≡ Some d
+pub here_first : (q k : Text) (d : Data) (ms : Members) → bytes_eq q k ≡ true → get_member q (member k d ms) ≡ Some d
 here_first q k d ms is = get_member-at q (member k d ms) ∙ rw is refl
 
 keyword_put : (k : Text) (d : Data) (ms : Members) → is_object_keyword k d ≡ true

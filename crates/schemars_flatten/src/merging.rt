@@ -70,6 +70,9 @@ fn move_beside(
     ensures { OnOk result (members_view members.new.entries
         ≡ moved_beside (members_view others.now.entries) (members_view members.old.entries)) }
 {
+    if !contains_key(members, "additionalProperties") {
+        return Ok(());
+    }
     if contains_key(others, "unevaluatedProperties") || has_subschema(others) {
         move_additional(alloc, members)
     } else {

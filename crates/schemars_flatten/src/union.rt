@@ -1,5 +1,6 @@
 //! Keywords of one schema put into another.
-ghost use Rattle.std.specs.Prelude.{◌≡◌, ◌||◌, codes, string_bytes, option_map, IfOk, OnOk};
+ghost use Rattle.std.specs.Prelude.{◌≡◌, ◌||◌, codes, string_bytes, string_cmp, option_map, unwrap_or, IfOk, OnOk};
+ghost use Rattle.std.specs.BTreeMap.{IsOrdered};
 ghost use Rattle.serde_json.specs.Data.{array, object, put};
 ghost use Rattle.serde_json.specs.Find.{get_member};
 ghost use Rattle.serde_json.specs.View.{view, items_view, members_view};
@@ -9,6 +10,7 @@ ghost use Rattle.schemars_flatten.specs.Flatten.{is_joined, is_merged, is_choice
 
 use serde_json::{Map, Value};
 use std::alloc::{AllocError, Global};
+use std::mem;
 
 // Puts keywords in, one after another.
 pub(crate) fn put_keywords(
@@ -127,23 +129,60 @@ fn merge(first: &mut Value, second: Value) -> Result<(), AllocError>
 }
 
 /// Pushes all of `more`, in order. The only error is that memory runs out.
-pub fn push_all(items: &mut Vec<Value>, more: Vec<Value>) -> Result<(), AllocError>
+pub fn push_all(items: &mut Vec<Value>, mut more: Vec<Value>) -> Result<(), AllocError>
     ensures { OnOk result (items_view items.new.items
         ≡ appended (items_view items.old.items) (items_view more.items)) }
 {
-    for item in more {
-        serde_json::push(items, item)?;
-    }
-    Ok(())
+    items.append(&mut more)
 }
 
+// Merges another object in, whose value stays where both have a name. The smaller of the two
+// moves into the larger one.
 fn put_members(members: &mut Map<String, Value>, more: Map<String, Value>) -> Result<(), AllocError>
+    ensures { OnOk result (members_view members.new.entries
+        ≡ put_members (members_view more.entries) (members_view members.old.entries)) }
+{
+    if members.len() < more.len() {
+        let fewer = mem::replace(members, more);
+        put_missing(members, fewer)
+    } else {
+        put_each(members, more)
+    }
+}
+
+// Puts each member in, in place of one with its name.
+fn put_each(members: &mut Map<String, Value>, more: Map<String, Value>) -> Result<(), AllocError>
     ensures { OnOk result (members_view members.new.entries
         ≡ put_members (members_view more.entries) (members_view members.old.entries)) }
 {
     for (name, value) in more {
         insert(members, name, value)?;
     }
+    Ok(())
+}
+
+// Puts in the members whose names are missing.
+fn put_missing(members: &mut Map<String, Value>, more: Map<String, Value>) -> Result<(), AllocError>
+    requires { IsOrdered string_cmp members.old }
+    ensures { OnOk result (members_view members.new.entries
+        ≡ put_members (members_view members.old.entries) (members_view more.entries)) }
+{
+    for (name, value) in more {
+        put_if_missing(members, name, value)?;
+    }
+    Ok(())
+}
+
+fn put_if_missing(
+    members: &mut Map<String, Value>,
+    name: String,
+    value: Value,
+) -> Result<(), AllocError>
+    ensures { OnOk result (members_view members.new.entries ≡ put (string_bytes name)
+        (unwrap_or (get_member (string_bytes name) (members_view members.old.entries)) (view value))
+        (members_view members.old.entries)) }
+{
+    members.entry(name)?.or_insert(value);
     Ok(())
 }
 

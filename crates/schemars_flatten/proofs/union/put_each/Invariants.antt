@@ -2,7 +2,7 @@
 use Rattle.std.proofs.Common.{◌≡◌}
 use Rattle.serde_json.specs.View.{members_view}
 use Rattle.schemars_schema.specs.SchemaData.{put_members}
-use Rattle.schemars_flatten.proofs.union.put_members.Given as goal
+use Rattle.schemars_flatten.proofs.union.put_each.Given as goal
 
 abbrev pub invariant-loop-name : goal.invariant-loop-name
 invariant-loop-name l = put_members (members_view l.name-iterator) (members_view l.members.entries)
