@@ -4,14 +4,15 @@ use Rattle.serde_json.specs.Data.{Data}
 use Rattle.schemars_shapes.specs.Shape.{Flattened}
 use Rattle.schemars_types.specs.declared.contract.Contract.{Contract}
 use Rattle.schemars_documents.specs.declared.template.Ask as src-ask
-use Rattle.schemars_documents.specs.declared.template.SchemaTemplate as src
-use Rattle.schemars_documents.specs.declared.template.SchemaTemplate.{the_lemmas}
+use Rattle.schemars_documents.specs.declared.template.SchemaTemplate.{SchemaTemplate}
+use Rattle.schemars_documents.specs.declared.template.SchemaNode as src
+use Rattle.schemars_documents.specs.declared.template.SchemaNode.{the_lemmas}
 use Rattle.schemars_documents.specs.Template.{Ask, Template, finished, asked, with_keywords, asks_of, filled, left}
-use Rattle.schemars_documents.specs.View.{ask_of, template_view, with_answers}
+use Rattle.schemars_documents.specs.View.{ask_of, template_view, node_view, with_answers}
 use Rattle.schemars_documents.specs.OfShape.{members_asked, with_flattened}
 
-pub seen_members : (t : Box src.SchemaTemplate Global) (asks : Vec src-ask.Ask Global)
-    → template_view (src.WithMembers t asks) ≡ with_answers (template_view t.value) (map ask_of asks.items)
+pub seen_members : (t : Box SchemaTemplate Global) (asks : Vec src-ask.Ask Global)
+    → node_view (src.WithMembers t asks) ≡ with_answers (template_view t.value) (map ask_of asks.items)
 seen_members t asks = search (rules, the_lemmas)
 
 pub answers_asked : (t : Template) (rest : List Ask) → asks_of (with_answers t rest) ≡ asks_of t ++ rest

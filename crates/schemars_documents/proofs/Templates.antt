@@ -12,25 +12,26 @@ use Rattle.schemars_schema.specs.SchemaData.{object_of}
 use Rattle.schemars_builders.specs.NullLaw.{text_items}
 use Rattle.schemars_documents.specs.Template.{finished}
 use Rattle.schemars_documents.specs.OfShape.{KeywordTemplate, object_with, said, required_at, closed_keyword}
-use Rattle.schemars_documents.specs.View.{under_name, template_view, value_view, keyword_view, property_view, scalar_keyword}
+use Rattle.schemars_documents.specs.View.{under_name, template_view, node_view, value_view, keyword_view, property_view, scalar_keyword}
 use Rattle.schemars_documents.specs.declared.template.Scalar.{Scalar}
-use Rattle.schemars_documents.specs.declared.template.SchemaTemplate.{SchemaTemplate, Finished, Keywords, Object, the_lemmas}
+use Rattle.schemars_documents.specs.declared.template.SchemaTemplate.{SchemaTemplate}
+use Rattle.schemars_documents.specs.declared.template.SchemaNode.{Finished, Keywords, Object, the_lemmas}
 use Rattle.schemars_documents.specs.declared.template.ValueTemplate.{ValueTemplate, Texts, Named}
 
-pub seen_finished : (s : Data) → template_view (Finished s) ≡ finished s
+pub seen_finished : (s : Data) → node_view (Finished s) ≡ finished s
 seen_finished s = search (rules, the_lemmas)
 
 pub seen_keywords : (es : Vec (Bor Text × Scalar) Global)
-    → template_view (Keywords es) ≡ finished (object_of (map scalar_keyword es.items))
+    → node_view (Keywords es) ≡ finished (object_of (map scalar_keyword es.items))
 seen_keywords es = search (rules, the_lemmas)
 
 pub seen_texts : (ts : Vec (Bor Text) Global) → value_view (Texts ts) ≡ finished (array (text_items (map (λ t. t.now) ts.items)))
 seen_texts ts = search (rules, the_lemmas)
 
-pub seen_object : (es : Vec (Bor Text × ValueTemplate) Global) → template_view (Object es) ≡ object_with (map keyword_view es.items)
+pub seen_object : (es : Vec (Bor Text × ValueTemplate) Global) → node_view (Object es) ≡ object_with (map keyword_view es.items)
 seen_object es = seen ∙ ap object_with (map-map under_name (λ e. (e.0, value_view e.1)) es.items)
   where
-    seen : template_view (Object es) ≡ object_with (map under_name (map (λ e. (e.0, value_view e.1)) es.items))
+    seen : node_view (Object es) ≡ object_with (map under_name (map (λ e. (e.0, value_view e.1)) es.items))
     seen = search (rules, the_lemmas)
 
 pub seen_named : (es : Vec (Bor Text × SchemaTemplate) Global) → value_view (Named es) ≡ object_with (map property_view es.items)

@@ -1,22 +1,26 @@
 -- What a template says, apart from where it lies in memory.
-use Rattle.std.specs.Prelude.{List, [], ◌∷◌, map}
+use Rattle.std.specs.Prelude.{List, [], ◌∷◌, map, Option, Some, None, String}
 use Rattle.std.specs.Borrow.{Bor}
+use Rattle.std.specs.BTreeMap.{BTreeMap}
+use Rattle.std.specs.declared.alloc.Global.{Global}
 use Rattle.serde_json.specs.Data.{Data, number, string, array}
 use Rattle.serde_json.specs.Find.{of_integer}
 use Rattle.serde_json.specs.View.{view, members_view}
+use Rattle.serde_json.specs.declared.value.Value.{Value}
 use Rattle.schemars_schema.specs.Json.{Text}
 use Rattle.schemars_schema.specs.SchemaData.{object_of}
 use Rattle.schemars_builders.specs.NullLaw.{text_items}
 use Rattle.schemars_documents.specs.Template as spec
 use Rattle.schemars_documents.specs.Template.{Template}
-use Rattle.schemars_documents.specs.Documents.{Keyword}
+use Rattle.schemars_documents.specs.Documents.{Keyword, type_alone}
 use Rattle.schemars_documents.specs.OfShape.{KeywordTemplate, templates_of, object_with, title_alone}
 use Rattle.schemars_documents.specs.declared.template.Ask as src-ask
 use Rattle.schemars_documents.specs.declared.template.Ask.TheVariants as ask
 use Rattle.schemars_documents.specs.declared.template.Scalar.{Scalar}
 use Rattle.schemars_documents.specs.declared.template.Scalar.TheVariants as scalar
 use Rattle.schemars_documents.specs.declared.template.SchemaTemplate.{SchemaTemplate, SchemaTemplate-F, fold-SchemaTemplate}
-use Rattle.schemars_documents.specs.declared.template.SchemaTemplate.TheOpen as node
+use Rattle.schemars_documents.specs.declared.template.SchemaNode.{SchemaNode, SchemaNode-F, fold-SchemaNode}
+use Rattle.schemars_documents.specs.declared.template.SchemaNode.TheOpen as node
 use Rattle.schemars_documents.specs.declared.template.ValueTemplate.{ValueTemplate, ValueTemplate-F, fold-ValueTemplate}
 
 abbrev pub ask_of : src-ask.Ask → spec.Ask
@@ -41,18 +45,18 @@ abbrev pub scalar_keyword : Bor Text × Scalar → Keyword
 scalar_keyword e = (e.0.now, scalar_view e.1)
 
 -- one node, whose inner templates are seen already
-abbrev pub schema_node : SchemaTemplate-F Template Template → Template
+abbrev pub schema_node : SchemaNode-F Template Template Template → Template
 schema_node (node.Finished s) = spec.finished s
 schema_node (node.Keywords es) = spec.finished (object_of (map scalar_keyword es.items))
+schema_node (node.OfType name) = spec.finished (type_alone name.now)
 schema_node (node.Asked a) = spec.asked (ask_of a)
 schema_node (node.Object es) = object_with (map under_name es.items)
 schema_node (node.Nullable t) = spec.nullable t.value
-schema_node (node.Noted notes t) = spec.noted (members_view notes.now.entries) t.value
 schema_node (node.Titled name t) = spec.noted (title_alone name.now) t.value
 schema_node (node.WithMembers t asks) = with_answers t.value (map ask_of asks.items)
 schema_node (node.Tagged tag name closed t) = spec.tagged tag.now name.now closed t.value
 
-abbrev pub value_node : ValueTemplate-F Template Template → Template
+abbrev pub value_node : ValueTemplate-F Template Template Template → Template
 value_node (node.Value v) = spec.finished (view v)
 value_node (node.Text t) = spec.finished (string t.now)
 value_node (node.Texts ts) = spec.finished (array (text_items (map (λ t. t.now) ts.items)))
@@ -60,11 +64,23 @@ value_node (node.Schema t) = t
 value_node (node.Schemas ts) = spec.list (templates_of ts.items)
 value_node (node.Named es) = object_with (map under_name es.items)
 
+-- with these notes, where there are some
+abbrev pub with_notes : Option (Bor (BTreeMap (String Global) Value)) → Template → Template
+with_notes None t = t
+with_notes (Some notes) t = spec.noted (members_view notes.now.entries) t
+
+-- a node that is seen already, and its notes
+abbrev pub noted_node : SchemaTemplate-F Template Template Template → Template
+noted_node t = with_notes t.notes t.node
+
 abbrev pub template_view : SchemaTemplate → Template
-template_view = fold-SchemaTemplate Template Template schema_node value_node
+template_view = fold-SchemaTemplate Template Template Template schema_node value_node noted_node
+
+abbrev pub node_view : SchemaNode → Template
+node_view = fold-SchemaNode Template Template Template schema_node value_node noted_node
 
 abbrev pub value_view : ValueTemplate → Template
-value_view = fold-ValueTemplate Template Template schema_node value_node
+value_view = fold-ValueTemplate Template Template Template schema_node value_node noted_node
 
 abbrev pub keyword_view : Bor Text × ValueTemplate → KeywordTemplate
 keyword_view e = (e.0.now, value_view e.1)

@@ -7,7 +7,7 @@ ghost use Rattle.schemars_types.specs.Faults.{IsChecked};
 ghost use Rattle.schemars_documents.specs.Documents.{bytes_document};
 ghost use Rattle.schemars_documents.specs.Basis.{basis_of};
 ghost use Rattle.schemars_documents.specs.Template.{row, finished, nullable};
-ghost use Rattle.schemars_documents.specs.View.{template_view};
+ghost use Rattle.schemars_documents.specs.View.{template_view, node_view};
 ghost use Rattle.schemars_documents.specs.OfShape.{template_of, entry_template, literal_document};
 
 use crate::documents::{bytes_document, schema_document};
@@ -22,9 +22,9 @@ use crate::shape::lists::{
 use crate::shape::maps::{range_template, struct_template};
 use crate::shape::scalars::{char_template, formatted_template, int_template};
 use crate::shape::tagged::internal_template;
-use crate::template::SchemaTemplate;
 use crate::template::basis::Basis;
-use crate::template::nodes::{row, type_alone};
+use crate::template::nodes::{bare, noted, row, type_alone};
+use crate::template::{SchemaNode, SchemaTemplate};
 use schemars_schema::Schema;
 use schemars_types::{Contract, IntKind, Shape, TypeEntry, TypeNo};
 use std::alloc::{AllocError, Global};
@@ -39,8 +39,8 @@ pub fn entry_template<'t>(
     ensures { IfOk result (λ t. template_view t
         ≡ entry_template (basis_of basis.now) (entry_of entry.now)) }
 {
-    let bare = template_of(alloc, basis, &entry.shape)?;
-    Ok(SchemaTemplate::Noted(&entry.notes, Box::new(alloc, bare)?))
+    let node = template_of(alloc, basis, &entry.shape)?;
+    Ok(noted(&entry.notes, node))
 }
 
 // The template of a shape's document.
@@ -48,23 +48,23 @@ fn template_of<'t>(
     alloc: Global,
     basis: &Basis<'t>,
     shape: &'t Shape,
-) -> Result<SchemaTemplate<'t>, AllocError>
+) -> Result<SchemaNode<'t>, AllocError>
     requires { IsChecked (basis_of basis.now).rows }
-    ensures { IfOk result (λ t. template_view t
+    ensures { IfOk result (λ t. node_view t
         ≡ template_of (basis_of basis.now) (shape_of shape.now)) }
 {
     match shape {
-        Shape::Null => type_alone(alloc, "null"),
-        Shape::Bool => type_alone(alloc, "boolean"),
+        Shape::Null => Ok(type_alone("null")),
+        Shape::Bool => Ok(type_alone("boolean")),
         Shape::Int(kind) => int_template(alloc, *kind),
-        Shape::NonZero(kind) => Ok(SchemaTemplate::Finished(non_zero_document(alloc, *kind)?)),
-        Shape::Number => type_alone(alloc, "number"),
-        Shape::Text => type_alone(alloc, "string"),
+        Shape::NonZero(kind) => Ok(SchemaNode::Finished(non_zero_document(alloc, *kind)?)),
+        Shape::Number => Ok(type_alone("number")),
+        Shape::Text => Ok(type_alone("string")),
         Shape::Char => char_template(alloc),
         Shape::Formatted(format) => formatted_template(alloc, format.as_str()),
-        Shape::Any => Ok(SchemaTemplate::Finished(Schema::from(true))),
+        Shape::Any => Ok(SchemaNode::Finished(Schema::from(true))),
         Shape::Bytes => bytes_template(alloc, basis.contract),
-        Shape::SchemaItself => Ok(SchemaTemplate::Finished(schema_document(alloc)?)),
+        Shape::SchemaItself => Ok(SchemaNode::Finished(schema_document(alloc)?)),
         Shape::Option(some) => option_template(alloc, *some),
         Shape::Seq(item) => seq_template(alloc, *item),
         Shape::Set(item) => set_template(alloc, *item),
@@ -91,22 +91,22 @@ fn template_of<'t>(
     }
 }
 
-fn bytes_template<'t>(alloc: Global, contract: Contract) -> Result<SchemaTemplate<'t>, AllocError>
-    ensures { IfOk result (λ t. template_view t ≡ finished (bytes_document contract)) }
+fn bytes_template<'t>(alloc: Global, contract: Contract) -> Result<SchemaNode<'t>, AllocError>
+    ensures { IfOk result (λ t. node_view t ≡ finished (bytes_document contract)) }
 {
     let byte = int_document(alloc, IntKind::U8)?;
-    Ok(SchemaTemplate::Finished(bytes_document(alloc, contract, byte)?))
+    Ok(SchemaNode::Finished(bytes_document(alloc, contract, byte)?))
 }
 
-fn literal_template<'t>(schema: &Schema) -> Result<SchemaTemplate<'t>, AllocError>
-    ensures { IfOk result (λ t. template_view t ≡ finished (literal_document schema.now)) }
+fn literal_template<'t>(schema: &Schema) -> Result<SchemaNode<'t>, AllocError>
+    ensures { IfOk result (λ t. node_view t ≡ finished (literal_document schema.now)) }
 {
     let _ = schema.as_value();
-    Ok(SchemaTemplate::Finished(schema.clone()?))
+    Ok(SchemaNode::Finished(schema.clone()?))
 }
 
-fn option_template<'t>(alloc: Global, some: TypeNo) -> Result<SchemaTemplate<'t>, AllocError>
-    ensures { IfOk result (λ t. template_view t ≡ nullable (row some)) }
+fn option_template<'t>(alloc: Global, some: TypeNo) -> Result<SchemaNode<'t>, AllocError>
+    ensures { IfOk result (λ t. node_view t ≡ nullable (row some)) }
 {
-    Ok(SchemaTemplate::Nullable(Box::new(alloc, row(some))?))
+    Ok(SchemaNode::Nullable(Box::new(alloc, bare(row(some)))?))
 }

@@ -1,16 +1,16 @@
 //! Documents whose parts are not known yet.
 ghost use Rattle.std.specs.Prelude.{◌≡◌, ◌++◌, map, IfOk, OnOk};
 ghost use Rattle.serde_json.specs.Data.{string};
-ghost use Rattle.serde_json.specs.View.{view, members_view};
+ghost use Rattle.serde_json.specs.View.{view};
 ghost use Rattle.schemars_documents.specs.Template.{finished, nullable, noted, tagged, list, asks_of, filled, left, first, behind};
 ghost use Rattle.schemars_documents.specs.OfShape.{object_with, templates_of, title_alone};
-ghost use Rattle.schemars_documents.specs.View.{ask_of, template_view, value_view, keyword_view, property_view, with_answers};
+ghost use Rattle.schemars_documents.specs.View.{ask_of, template_view, node_view, value_view, keyword_view, property_view, with_answers};
 
 pub mod basis;
 pub mod nodes;
 pub(crate) mod scalars;
 
-use crate::documents::{annotate, set};
+use crate::documents::{annotate, set, type_alone};
 use crate::template::scalars::{schema_of, texts_value};
 use schemars_builders::{allow_null, apply_internal_enum_variant_tag};
 use schemars_flatten::flatten;
@@ -43,19 +43,29 @@ pub enum Scalar<'t> {
 /// A schema in which rows are asked; their answers are filled in later.
 #[cycle(template)]
 #[derive(Drop)]
-pub enum SchemaTemplate<'t> {
+pub struct SchemaTemplate<'t> {
+    /// Its notes, where there are some.
+    pub notes: Option<&'t Map<String, Value>>,
+    /// What it is without them.
+    pub node: SchemaNode<'t>,
+}
+
+/// A schema without notes of its own.
+#[cycle(template)]
+#[derive(Drop)]
+pub enum SchemaNode<'t> {
     /// A finished schema.
     Finished(Schema),
     /// A finished schema of these keywords; of equal keywords the last one counts.
     Keywords(Vec<(&'t str, Scalar<'t>)>),
+    /// The schema of all values of one JSON type.
+    OfType(&'t str),
     /// The answer of a row.
     Asked(Ask),
     /// An object of these keywords; of equal keywords the last one counts.
     Object(Vec<(&'t str, ValueTemplate<'t>)>),
     /// A schema that accepts null too.
     Nullable(Box<SchemaTemplate<'t>>),
-    /// A schema with these notes.
-    Noted(&'t Map<String, Value>, Box<SchemaTemplate<'t>>),
     /// A schema with this title.
     Titled(&'t str, Box<SchemaTemplate<'t>>),
     /// A schema into which the keywords of these answers are put, one after another.
@@ -104,25 +114,33 @@ fn add_asks(template: &SchemaTemplate<'_>, asks: &mut Vec<Ask>) -> Result<(), Al
     ensures { OnOk result (map ask_of asks.new.items
         ≡ map ask_of asks.old.items ++ asks_of (template_view template.now)) }
 {
-    match template {
-        SchemaTemplate::Finished(_) => Ok(()),
-        SchemaTemplate::Keywords(_) => Ok(()),
-        SchemaTemplate::Asked(ask) => Ok(asks.push(*ask)?),
-        SchemaTemplate::Object(keywords) => {
+    add_node_asks(&template.node, asks)
+}
+
+#[cycle(add_asks)]
+fn add_node_asks(node: &SchemaNode<'_>, asks: &mut Vec<Ask>) -> Result<(), AllocError>
+    ensures { OnOk result (map ask_of asks.new.items
+        ≡ map ask_of asks.old.items ++ asks_of (node_view node.now)) }
+{
+    match node {
+        SchemaNode::Finished(_) => Ok(()),
+        SchemaNode::Keywords(_) => Ok(()),
+        SchemaNode::OfType(_) => Ok(()),
+        SchemaNode::Asked(ask) => Ok(asks.push(*ask)?),
+        SchemaNode::Object(keywords) => {
             for keyword in keywords {
                 add_value_asks(&keyword.1, asks)?;
             }
             Ok(())
         }
-        SchemaTemplate::Nullable(inner) => add_asks(inner, asks),
-        SchemaTemplate::Noted(_, inner) => add_asks(inner, asks),
-        SchemaTemplate::Titled(_, inner) => add_asks(inner, asks),
-        SchemaTemplate::WithMembers(inner, members) => {
+        SchemaNode::Nullable(inner) => add_asks(inner, asks),
+        SchemaNode::Titled(_, inner) => add_asks(inner, asks),
+        SchemaNode::WithMembers(inner, members) => {
             add_asks(inner, asks)?;
             asks.extend_from_slice(members)?;
             Ok(())
         }
-        SchemaTemplate::Tagged { inner, .. } => add_asks(inner, asks),
+        SchemaNode::Tagged { inner, .. } => add_asks(inner, asks),
     }
 }
 
@@ -165,10 +183,8 @@ pub fn fill(
     Ok(schema)
 }
 
-// What a schema with others in it needs is in functions of its own, so that a call of this one
-// has few locals.
+// The notes come after the rest, of which they take the place.
 #[cycle(fill)]
-#[tactic(auto, using(crate::proofs::Templates::seen_object))]
 fn fill_schema(
     alloc: Global,
     template: SchemaTemplate<'_>,
@@ -178,18 +194,36 @@ fn fill_schema(
     ensures left { OnOk result (parts.new.items
         ≡ left (template_view template.entry) parts.old.items) }
 {
-    match template {
-        SchemaTemplate::Finished(schema) => Ok(schema),
-        SchemaTemplate::Keywords(keywords) => schema_of(alloc, &keywords),
-        SchemaTemplate::Asked(_) => Ok(next_part(parts)),
-        SchemaTemplate::Object(keywords) => fill_object(alloc, keywords, parts),
-        SchemaTemplate::Nullable(inner) => fill_nullable(alloc, inner, parts),
-        SchemaTemplate::Noted(notes, inner) => fill_noted(alloc, inner, notes, parts),
-        SchemaTemplate::Titled(title, inner) => fill_titled(alloc, inner, title, parts),
-        SchemaTemplate::WithMembers(inner, members) => {
-            fill_with_members(alloc, inner, members, parts)
-        }
-        SchemaTemplate::Tagged {
+    let SchemaTemplate { notes, node } = template;
+    let mut schema = fill_node(alloc, node, parts)?;
+    if let Some(notes) = notes {
+        annotate(alloc, &mut schema, notes)?;
+    }
+    Ok(schema)
+}
+
+// What a schema with others in it needs is in functions of its own, so that a call of this one
+// has few locals.
+#[cycle(fill)]
+#[tactic(auto, using(crate::proofs::Templates::seen_object))]
+fn fill_node(
+    alloc: Global,
+    node: SchemaNode<'_>,
+    parts: &mut VecDeque<Schema>,
+) -> Result<Schema, AllocError>
+    ensures value { IfOk result (λ s. s ≡ filled (node_view node.entry) parts.old.items) }
+    ensures left { OnOk result (parts.new.items ≡ left (node_view node.entry) parts.old.items) }
+{
+    match node {
+        SchemaNode::Finished(schema) => Ok(schema),
+        SchemaNode::Keywords(keywords) => schema_of(alloc, &keywords),
+        SchemaNode::OfType(name) => type_alone(alloc, name),
+        SchemaNode::Asked(_) => Ok(next_part(parts)),
+        SchemaNode::Object(keywords) => fill_object(alloc, keywords, parts),
+        SchemaNode::Nullable(inner) => fill_nullable(alloc, inner, parts),
+        SchemaNode::Titled(title, inner) => fill_titled(alloc, inner, title, parts),
+        SchemaNode::WithMembers(inner, members) => fill_with_members(alloc, inner, members, parts),
+        SchemaNode::Tagged {
             tag,
             name,
             closed,
@@ -232,24 +266,6 @@ fn fill_nullable(
 {
     let mut schema = fill_schema(alloc, Box::into_inner(inner), parts)?;
     allow_null(alloc, &mut schema)?;
-    Ok(schema)
-}
-
-#[cycle(fill)]
-#[inline(never)]
-fn fill_noted(
-    alloc: Global,
-    inner: Box<SchemaTemplate<'_>>,
-    notes: &Map<String, Value>,
-    parts: &mut VecDeque<Schema>,
-) -> Result<Schema, AllocError>
-    ensures value { IfOk result (λ s. s ≡ filled (noted (members_view notes.now.entries)
-        (template_view inner.entry.value)) parts.old.items) }
-    ensures left { OnOk result (parts.new.items
-        ≡ left (template_view inner.entry.value) parts.old.items) }
-{
-    let mut schema = fill_schema(alloc, Box::into_inner(inner), parts)?;
-    annotate(alloc, &mut schema, notes)?;
     Ok(schema)
 }
 

@@ -2,13 +2,13 @@
 ghost use Rattle.std.specs.Prelude.{◌≡◌, ◌∷◌, ◌++◌, map, IfOk, OnOk};
 ghost use Rattle.schemars_builders.specs.Variants.{unit_variant};
 ghost use Rattle.schemars_shapes.specs.Shape.{payload_of, variant_of, adjacent_view};
-ghost use Rattle.schemars_documents.specs.View.{template_view, property_view};
+ghost use Rattle.schemars_documents.specs.View.{template_view, node_view, property_view};
 ghost use Rattle.schemars_documents.specs.OfShape.{said, adjacent_payload, adjacent_item, adjacent_template};
 
 use crate::shape::enums::payload_template;
 use crate::shape::maps::whole_template;
-use crate::template::SchemaTemplate;
-use crate::template::nodes::{one_of, unit};
+use crate::template::nodes::{bare, noted, one_of, unit};
+use crate::template::{SchemaNode, SchemaTemplate};
 use schemars_schema::Schema;
 use schemars_types::{Adjacent, Contract, Payload, Variant};
 use std::alloc::{AllocError, Global};
@@ -18,13 +18,13 @@ pub fn adjacent_template<'t>(
     alloc: Global,
     contract: Contract,
     adjacent: &'t Adjacent,
-) -> Result<SchemaTemplate<'t>, AllocError>
-    ensures { IfOk result (λ t. template_view t ≡ adjacent_template contract
+) -> Result<SchemaNode<'t>, AllocError>
+    ensures { IfOk result (λ t. node_view t ≡ adjacent_template contract
         (adjacent_view adjacent.now).0 (adjacent_view adjacent.now).1
         (adjacent_view adjacent.now).2 (adjacent_view adjacent.now).3) }
 {
     if adjacent.variants.is_empty() {
-        return Ok(SchemaTemplate::Finished(Schema::from(false)));
+        return Ok(SchemaNode::Finished(Schema::from(false)));
     }
     let tag = adjacent.tag.as_str();
     let content = adjacent.content.as_str();
@@ -72,7 +72,7 @@ fn adjacent_item<'t>(
 {
     let members = members(alloc, contract, tag, content, variant)?;
     let item = whole_template(alloc, members, closed)?;
-    Ok(SchemaTemplate::Noted(&variant.notes, Box::new(alloc, item)?))
+    Ok(noted(&variant.notes, item))
 }
 
 // The variant's name, and what the variant has unless it is a unit.
@@ -88,7 +88,7 @@ fn members<'t>(
         ∷ adjacent_payload contract content.now (variant_of variant.now).payload) }
 {
     let name = unit(alloc, variant.name.as_str())?;
-    let mut members = vec![in alloc; (tag, name)]?;
+    let mut members = vec![in alloc; (tag, bare(name))]?;
     add_payload(alloc, contract, content, &variant.payload, &mut members)?;
     Ok(members)
 }
@@ -107,8 +107,8 @@ fn add_payload<'t>(
     match payload {
         Payload::Unit => Ok(()),
         Payload::Newtype(_) | Payload::Tuple(_) | Payload::Struct(_) => {
-            let template = payload_template(alloc, contract, payload)?;
-            members.push((content, template))?;
+            let part = payload_template(alloc, contract, payload)?;
+            members.push((content, bare(part)))?;
             Ok(())
         }
     }

@@ -2,12 +2,12 @@
 ghost use Rattle.std.specs.Prelude.{◌≡◌, ◌∷◌, ◌++◌, [], map, IfOk, OnOk};
 ghost use Rattle.schemars_builders.specs.Variants.{unit_variant};
 ghost use Rattle.schemars_documents.specs.Template.{row, finished};
-ghost use Rattle.schemars_documents.specs.View.{template_view};
+ghost use Rattle.schemars_documents.specs.View.{template_view, node_view};
 ghost use Rattle.schemars_documents.specs.OfShape.{member_template, result_template, bound_template, either_template};
 
 use crate::shape::maps::member_template;
-use crate::template::SchemaTemplate;
-use crate::template::nodes::{one_of, row, unit};
+use crate::template::nodes::{bare, one_of, row, unit};
+use crate::template::{SchemaNode, SchemaTemplate};
 use schemars_types::TypeNo;
 use std::alloc::{AllocError, Global};
 
@@ -16,16 +16,16 @@ pub fn result_template<'t>(
     alloc: Global,
     ok: TypeNo,
     err: TypeNo,
-) -> Result<SchemaTemplate<'t>, AllocError>
-    ensures { IfOk result (λ t. template_view t ≡ result_template ok err) }
+) -> Result<SchemaNode<'t>, AllocError>
+    ensures { IfOk result (λ t. node_view t ≡ result_template ok err) }
 {
     let results = two_members(alloc, ("Ok", ok), ("Err", err), false)?;
     one_of(alloc, results)
 }
 
 /// A bound that holds a value of this row, or none.
-pub fn bound_template<'t>(alloc: Global, n: TypeNo) -> Result<SchemaTemplate<'t>, AllocError>
-    ensures { IfOk result (λ t. template_view t ≡ bound_template n) }
+pub fn bound_template<'t>(alloc: Global, n: TypeNo) -> Result<SchemaNode<'t>, AllocError>
+    ensures { IfOk result (λ t. node_view t ≡ bound_template n) }
 {
     let mut choices = two_members(alloc, ("Included", n), ("Excluded", n), false)?;
     add_unit(alloc, &mut choices, "Unbounded")?;
@@ -37,8 +37,8 @@ pub fn either_template<'t>(
     alloc: Global,
     left: TypeNo,
     right: TypeNo,
-) -> Result<SchemaTemplate<'t>, AllocError>
-    ensures { IfOk result (λ t. template_view t ≡ either_template left right) }
+) -> Result<SchemaNode<'t>, AllocError>
+    ensures { IfOk result (λ t. node_view t ≡ either_template left right) }
 {
     let choices = two_members(alloc, ("Left", left), ("Right", right), true)?;
     one_of(alloc, choices)
@@ -55,9 +55,9 @@ fn two_members<'t>(
         ≡ member_template closed first.entry.0.now (row first.entry.1)
         ∷ member_template closed second.entry.0.now (row second.entry.1) ∷ []) }
 {
-    let first = member_template(alloc, first.0, row(first.1), closed)?;
-    let second = member_template(alloc, second.0, row(second.1), closed)?;
-    let members = vec![in alloc; first, second]?;
+    let first = member_template(alloc, first.0, bare(row(first.1)), closed)?;
+    let second = member_template(alloc, second.0, bare(row(second.1)), closed)?;
+    let members = vec![in alloc; bare(first), bare(second)]?;
     Ok(members)
 }
 
@@ -70,6 +70,6 @@ fn add_unit<'t>(
     ensures { OnOk result (map template_view choices.new.items
         ≡ map template_view choices.old.items ++ finished (unit_variant name.now) ∷ []) }
 {
-    choices.push(unit(alloc, name)?)?;
+    choices.push(bare(unit(alloc, name)?))?;
     Ok(())
 }

@@ -4,13 +4,13 @@ ghost use Rattle.serde_json.specs.Data.{array};
 ghost use Rattle.schemars_shapes.specs.Shape.{payload_of, variant_of};
 ghost use Rattle.schemars_builders.specs.NullLaw.{text_items};
 ghost use Rattle.schemars_documents.specs.Template.{noted};
-ghost use Rattle.schemars_documents.specs.View.{template_view};
+ghost use Rattle.schemars_documents.specs.View.{template_view, node_view};
 ghost use Rattle.schemars_documents.specs.OfShape.{object_with, typed_template, said, payload_template, named_template, bare_units, other_items, external_template, payload_item, untagged_template, titled};
 
 use crate::shape::lists::tuple_template;
 use crate::shape::maps::{member_template, struct_template, typed};
-use crate::template::nodes::{any_of, object_with, one_of, row, type_alone, unit};
-use crate::template::{SchemaTemplate, ValueTemplate};
+use crate::template::nodes::{any_of, bare, noted, object_with, one_of, row, type_alone, unit};
+use crate::template::{SchemaNode, SchemaTemplate, ValueTemplate};
 use schemars_schema::Schema;
 use schemars_shapes::is_bare_unit;
 use schemars_types::{Contract, Payload, Variant};
@@ -22,15 +22,15 @@ pub fn external_template<'t>(
     alloc: Global,
     contract: Contract,
     variants: &'t [Variant],
-) -> Result<SchemaTemplate<'t>, AllocError>
-    ensures { IfOk result (λ t. template_view t
+) -> Result<SchemaNode<'t>, AllocError>
+    ensures { IfOk result (λ t. node_view t
         ≡ external_template contract (map variant_of variants.now)) }
 {
     let names = bare_units(alloc, variants)?;
     let others = other_items(alloc, contract, variants)?;
     if names.is_empty() {
         if others.is_empty() {
-            return Ok(SchemaTemplate::Finished(Schema::from(false)));
+            return Ok(SchemaNode::Finished(Schema::from(false)));
         }
         return one_of(alloc, others);
     }
@@ -38,7 +38,7 @@ pub fn external_template<'t>(
     if others.is_empty() {
         return Ok(units);
     }
-    let items = led_by(alloc, units, others)?;
+    let items = led_by(units, others)?;
     one_of(alloc, items)
 }
 
@@ -48,12 +48,12 @@ pub fn untagged_template<'t>(
     contract: Contract,
     titles: bool,
     variants: &'t [Variant],
-) -> Result<SchemaTemplate<'t>, AllocError>
-    ensures { IfOk result (λ t. template_view t
+) -> Result<SchemaNode<'t>, AllocError>
+    ensures { IfOk result (λ t. node_view t
         ≡ untagged_template contract titles (map variant_of variants.now)) }
 {
     if variants.is_empty() {
-        return Ok(SchemaTemplate::Finished(Schema::from(false)));
+        return Ok(SchemaNode::Finished(Schema::from(false)));
     }
     let items = payload_items(alloc, contract, titles, variants)?;
     any_of(alloc, items)
@@ -100,23 +100,11 @@ fn other_item<'t>(
         (named_template contract (variant_of variant.now).name (variant_of variant.now).payload)) }
 {
     let item = named_template(alloc, contract, variant.name.as_str(), &variant.payload)?;
-    noted(alloc, variant, item)
+    Ok(noted(&variant.notes, item))
 }
 
-// The template with the variant's notes.
-fn noted<'t>(
-    alloc: Global,
-    variant: &'t Variant,
-    template: SchemaTemplate<'t>,
-) -> Result<SchemaTemplate<'t>, AllocError>
-    ensures { IfOk result (λ t. template_view t
-        ≡ noted (variant_of variant.now).notes (template_view template.entry)) }
-{
-    Ok(SchemaTemplate::Noted(&variant.notes, Box::new(alloc, template)?))
-}
-
-fn units_template<'t>(alloc: Global, names: Vec<&'t str>) -> Result<SchemaTemplate<'t>, AllocError>
-    ensures { IfOk result (λ t. template_view t
+fn units_template<'t>(alloc: Global, names: Vec<&'t str>) -> Result<SchemaNode<'t>, AllocError>
+    ensures { IfOk result (λ t. node_view t
         ≡ object_with (typed_template (codes "string")
         ∷ said (codes "enum") (array (text_items (map (λ n. n.now) names.entry.items))) ∷ [])) }
 {
@@ -126,14 +114,13 @@ fn units_template<'t>(alloc: Global, names: Vec<&'t str>) -> Result<SchemaTempla
 }
 
 fn led_by<'t>(
-    alloc: Global,
-    first: SchemaTemplate<'t>,
+    first: SchemaNode<'t>,
     mut rest: Vec<SchemaTemplate<'t>>,
 ) -> Result<Vec<SchemaTemplate<'t>>, AllocError>
     ensures { IfOk result (λ v. map template_view v.items
-        ≡ template_view first.entry ∷ map template_view rest.entry.items) }
+        ≡ node_view first.entry ∷ map template_view rest.entry.items) }
 {
-    rest.insert(0, first)?;
+    rest.insert(0, bare(first))?;
     Ok(rest)
 }
 
@@ -143,15 +130,15 @@ fn named_template<'t>(
     contract: Contract,
     name: &'t str,
     payload: &'t Payload,
-) -> Result<SchemaTemplate<'t>, AllocError>
-    ensures { IfOk result (λ t. template_view t
+) -> Result<SchemaNode<'t>, AllocError>
+    ensures { IfOk result (λ t. node_view t
         ≡ named_template contract name.now (payload_of payload.now)) }
 {
     if let Payload::Unit = payload {
         return unit(alloc, name);
     }
     let part = payload_template(alloc, contract, payload)?;
-    member_template(alloc, name, part, true)
+    member_template(alloc, name, bare(part), true)
 }
 
 // The payload of each variant, with the variant's notes.
@@ -183,23 +170,23 @@ fn payload_item<'t>(
 {
     let payload = payload_template(alloc, contract, &variant.payload)?;
     let item = titled(alloc, titles, variant.name.as_str(), payload)?;
-    noted(alloc, variant, item)
+    Ok(noted(&variant.notes, item))
 }
 
-// The template under this title, where there are titles.
+// The schema under this title, where there are titles.
 fn titled<'t>(
     alloc: Global,
     titles: bool,
     name: &'t str,
-    template: SchemaTemplate<'t>,
-) -> Result<SchemaTemplate<'t>, AllocError>
-    ensures { IfOk result (λ t. template_view t
-        ≡ titled titles name.now (template_view template.entry)) }
+    node: SchemaNode<'t>,
+) -> Result<SchemaNode<'t>, AllocError>
+    ensures { IfOk result (λ t. node_view t
+        ≡ titled titles name.now (node_view node.entry)) }
 {
     if titles {
-        return Ok(SchemaTemplate::Titled(name, Box::new(alloc, template)?));
+        return Ok(SchemaNode::Titled(name, Box::new(alloc, bare(node))?));
     }
-    Ok(template)
+    Ok(node)
 }
 
 // What a variant has beside its name.
@@ -207,12 +194,12 @@ pub(crate) fn payload_template<'t>(
     alloc: Global,
     contract: Contract,
     payload: &'t Payload,
-) -> Result<SchemaTemplate<'t>, AllocError>
-    ensures { IfOk result (λ t. template_view t
+) -> Result<SchemaNode<'t>, AllocError>
+    ensures { IfOk result (λ t. node_view t
         ≡ payload_template contract (payload_of payload.now)) }
 {
     match payload {
-        Payload::Unit => type_alone(alloc, "null"),
+        Payload::Unit => Ok(type_alone("null")),
         Payload::Newtype(n) => Ok(row(*n)),
         Payload::Tuple(parts) => tuple_template(alloc, parts),
         Payload::Struct(fields) => struct_template(alloc, contract, fields),

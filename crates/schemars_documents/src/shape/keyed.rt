@@ -4,12 +4,12 @@ ghost use Rattle.schemars_types.specs.Faults.{IsChecked};
 ghost use Rattle.schemars_types.specs.KeyOptions.{key_options, keys};
 ghost use Rattle.schemars_types.specs.Found.{options_of};
 ghost use Rattle.schemars_documents.specs.Template.{row};
-ghost use Rattle.schemars_documents.specs.View.{template_view, value_view, keyword_view, property_view};
+ghost use Rattle.schemars_documents.specs.View.{node_view, value_view, keyword_view, property_view};
 ghost use Rattle.schemars_documents.specs.OfShape.{pattern_properties_at, other_values, values_template, values_of};
 
 use crate::shape::maps::{add_properties, typed};
-use crate::template::nodes::{named, object_with, row, row_value, truth};
-use crate::template::{SchemaTemplate, ValueTemplate};
+use crate::template::nodes::{bare, named, object_with, row, row_value, truth};
+use crate::template::{SchemaNode, SchemaTemplate, ValueTemplate};
 use schemars_types::{KeyOptions, TypeNo, Types, key_options};
 use std::alloc::{AllocError, Global};
 
@@ -19,9 +19,9 @@ pub fn values_template<'t>(
     types: &'t Types,
     key: TypeNo,
     value: TypeNo,
-) -> Result<SchemaTemplate<'t>, AllocError>
+) -> Result<SchemaNode<'t>, AllocError>
     requires { IsChecked types.now }
-    ensures { IfOk result (λ t. template_view t
+    ensures { IfOk result (λ t. node_view t
         ≡ values_template (key_options types.now key) value) }
 {
     let options = key_options(alloc, types, key)?;
@@ -33,8 +33,8 @@ fn options_template<'t>(
     alloc: Global,
     options: &KeyOptions<'t>,
     value: TypeNo,
-) -> Result<SchemaTemplate<'t>, AllocError>
-    ensures { IfOk result (λ t. template_view t ≡ values_template (options_of options.now) value) }
+) -> Result<SchemaNode<'t>, AllocError>
+    ensures { IfOk result (λ t. node_view t ≡ values_template (options_of options.now) value) }
 {
     let others = options.others;
     let texts = options.texts.as_slice();
@@ -72,8 +72,8 @@ fn keyed_template<'t>(
     texts: &[&'t str],
     patterns: &[&'t str],
     value: TypeNo,
-) -> Result<SchemaTemplate<'t>, AllocError>
-    ensures { IfOk result (λ t. template_view t
+) -> Result<SchemaNode<'t>, AllocError>
+    ensures { IfOk result (λ t. node_view t
         ≡ values_template (keys others (map (λ t. t.now) texts.now) None
         (map (λ t. t.now) patterns.now)) value) }
 {
@@ -124,7 +124,7 @@ fn values_at<'t>(
 {
     let mut values = Vec::with_capacity(alloc, keys.len())?;
     for key in keys {
-        values.push((*key, row(value)))?;
+        values.push((*key, bare(row(value))))?;
     }
     Ok(values)
 }

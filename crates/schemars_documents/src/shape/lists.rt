@@ -1,26 +1,26 @@
 //! The templates of lists.
 ghost use Rattle.std.specs.Prelude.{◌≡◌, [], map, IfOk};
 ghost use Rattle.schemars_documents.specs.Template.{row};
-ghost use Rattle.schemars_documents.specs.View.{template_view};
+ghost use Rattle.schemars_documents.specs.View.{template_view, node_view};
 ghost use Rattle.schemars_documents.specs.OfShape.{list_template, set_template, array_template, up_to_template, tuple_template};
 
 use crate::shape::scalars::empty_list_template;
-use crate::template::nodes::{count, object_with, row, row_value, text, truth};
-use crate::template::{SchemaTemplate, ValueTemplate};
+use crate::template::nodes::{bare, count, object_with, row, row_value, text, truth};
+use crate::template::{SchemaNode, SchemaTemplate, ValueTemplate};
 use schemars_types::TypeNo;
 use std::alloc::{AllocError, Global};
 
 /// A list of items of this row.
-pub fn seq_template<'t>(alloc: Global, item: TypeNo) -> Result<SchemaTemplate<'t>, AllocError>
-    ensures { IfOk result (λ t. template_view t ≡ list_template item []) }
+pub fn seq_template<'t>(alloc: Global, item: TypeNo) -> Result<SchemaNode<'t>, AllocError>
+    ensures { IfOk result (λ t. node_view t ≡ list_template item []) }
 {
     let keywords = vec![in alloc; ("type", text("array")), ("items", row_value(item))]?;
     Ok(object_with(keywords))
 }
 
 /// A list of items of this row that differ.
-pub fn set_template<'t>(alloc: Global, item: TypeNo) -> Result<SchemaTemplate<'t>, AllocError>
-    ensures { IfOk result (λ t. template_view t ≡ set_template item) }
+pub fn set_template<'t>(alloc: Global, item: TypeNo) -> Result<SchemaNode<'t>, AllocError>
+    ensures { IfOk result (λ t. node_view t ≡ set_template item) }
 {
     let keywords = vec![in alloc;
         ("type", text("array")),
@@ -35,8 +35,8 @@ pub fn array_template<'t>(
     alloc: Global,
     item: TypeNo,
     len: u64,
-) -> Result<SchemaTemplate<'t>, AllocError>
-    ensures { IfOk result (λ t. template_view t ≡ array_template item len) }
+) -> Result<SchemaNode<'t>, AllocError>
+    ensures { IfOk result (λ t. node_view t ≡ array_template item len) }
 {
     if len == 0 {
         return empty_list_template(alloc);
@@ -55,8 +55,8 @@ pub fn up_to_template<'t>(
     alloc: Global,
     item: TypeNo,
     cap: u64,
-) -> Result<SchemaTemplate<'t>, AllocError>
-    ensures { IfOk result (λ t. template_view t ≡ up_to_template item cap) }
+) -> Result<SchemaNode<'t>, AllocError>
+    ensures { IfOk result (λ t. node_view t ≡ up_to_template item cap) }
 {
     let keywords = vec![in alloc;
         ("type", text("array")),
@@ -67,8 +67,8 @@ pub fn up_to_template<'t>(
 }
 
 /// A list of one item for each part.
-pub fn tuple_template<'t>(alloc: Global, parts: &[TypeNo]) -> Result<SchemaTemplate<'t>, AllocError>
-    ensures { IfOk result (λ t. template_view t ≡ tuple_template parts.now) }
+pub fn tuple_template<'t>(alloc: Global, parts: &[TypeNo]) -> Result<SchemaNode<'t>, AllocError>
+    ensures { IfOk result (λ t. node_view t ≡ tuple_template parts.now) }
 {
     if parts.is_empty() {
         return empty_list_template(alloc);
@@ -89,7 +89,7 @@ fn rows_in_order<'t>(alloc: Global, parts: &[TypeNo]) -> Result<Vec<SchemaTempla
 {
     let mut rows = Vec::with_capacity(alloc, parts.len())?;
     for part in parts {
-        rows.push(row(*part))?;
+        rows.push(bare(row(*part)))?;
     }
     Ok(rows)
 }

@@ -2,12 +2,12 @@
 ghost use Rattle.std.specs.Prelude.{◌≡◌, ◌∷◌, ◌++◌, [], map, IfOk, OnOk};
 ghost use Rattle.schemars_shapes.specs.Shape.{field_of, flattened_of, fields_of};
 ghost use Rattle.schemars_builders.specs.NullLaw.{text_items};
-ghost use Rattle.schemars_documents.specs.View.{ask_of, template_view, keyword_view, property_view};
+ghost use Rattle.schemars_documents.specs.View.{ask_of, template_view, node_view, keyword_view, property_view};
 ghost use Rattle.schemars_documents.specs.OfShape.{typed_template, property, properties_at, required_at, closed_keyword, object_with, map_template, fields_template, with_flattened, members_asked, struct_template, member_template, whole_template, range_template};
 
 use crate::documents::{is_required, required_names};
-use crate::template::nodes::{named, object_with, row, text, truth};
-use crate::template::{Ask, SchemaTemplate, ValueTemplate};
+use crate::template::nodes::{bare, named, noted, object_with, row, text, truth};
+use crate::template::{Ask, SchemaNode, SchemaTemplate, ValueTemplate};
 use schemars_types::{Contract, Field, Fields, Flattened, TypeNo};
 use std::alloc::{AllocError, Global};
 
@@ -17,8 +17,8 @@ pub fn map_template<'t>(
     properties: Vec<(&'t str, SchemaTemplate<'t>)>,
     required: Vec<&'t str>,
     closed: bool,
-) -> Result<SchemaTemplate<'t>, AllocError>
-    ensures { IfOk result (λ t. template_view t
+) -> Result<SchemaNode<'t>, AllocError>
+    ensures { IfOk result (λ t. node_view t
         ≡ map_template (map property_view properties.entry.items)
         (text_items (map (λ n. n.now) required.entry.items)) closed) }
 {
@@ -91,8 +91,8 @@ pub fn struct_template<'t>(
     alloc: Global,
     contract: Contract,
     fields: &'t Fields,
-) -> Result<SchemaTemplate<'t>, AllocError>
-    ensures { IfOk result (λ t. template_view t
+) -> Result<SchemaNode<'t>, AllocError>
+    ensures { IfOk result (λ t. node_view t
         ≡ struct_template contract (fields_of fields.now)) }
 {
     let own = fields_template(alloc, contract, &fields.list, fields.closed)?;
@@ -104,8 +104,8 @@ fn fields_template<'t>(
     contract: Contract,
     list: &'t [Field],
     closed: bool,
-) -> Result<SchemaTemplate<'t>, AllocError>
-    ensures { IfOk result (λ t. template_view t
+) -> Result<SchemaNode<'t>, AllocError>
+    ensures { IfOk result (λ t. node_view t
         ≡ fields_template contract (map field_of list.now) closed) }
 {
     let properties = properties(alloc, list)?;
@@ -117,17 +117,17 @@ fn fields_template<'t>(
 fn with_flattened<'t>(
     alloc: Global,
     contract: Contract,
-    own: SchemaTemplate<'t>,
+    own: SchemaNode<'t>,
     flatten: &[Flattened],
-) -> Result<SchemaTemplate<'t>, AllocError>
-    ensures { IfOk result (λ t. template_view t
-        ≡ with_flattened contract (map flattened_of flatten.now) (template_view own.entry)) }
+) -> Result<SchemaNode<'t>, AllocError>
+    ensures { IfOk result (λ t. node_view t
+        ≡ with_flattened contract (map flattened_of flatten.now) (node_view own.entry)) }
 {
     if flatten.is_empty() {
         return Ok(own);
     }
     let members = members_of(alloc, contract, flatten)?;
-    Ok(SchemaTemplate::WithMembers(Box::new(alloc, own)?, members))
+    Ok(SchemaNode::WithMembers(Box::new(alloc, bare(own))?, members))
 }
 
 fn members_of(
@@ -156,9 +156,8 @@ fn properties<'t>(
 {
     let mut properties = Vec::with_capacity(alloc, fields.len())?;
     for field in fields {
-        let part = Box::new(alloc, row(field.ty))?;
-        let noted = SchemaTemplate::Noted(&field.notes, part);
-        properties.push((field.name.as_str(), noted))?;
+        let part = noted(&field.notes, row(field.ty));
+        properties.push((field.name.as_str(), part))?;
     }
     Ok(properties)
 }
@@ -169,8 +168,8 @@ pub fn member_template<'t>(
     name: &'t str,
     part: SchemaTemplate<'t>,
     closed: bool,
-) -> Result<SchemaTemplate<'t>, AllocError>
-    ensures { IfOk result (λ t. template_view t
+) -> Result<SchemaNode<'t>, AllocError>
+    ensures { IfOk result (λ t. node_view t
         ≡ member_template closed name.now (template_view part.entry)) }
 {
     let properties: Vec<(&'t str, SchemaTemplate<'t>)> = vec![in alloc; (name, part)]?;
@@ -183,8 +182,8 @@ pub fn whole_template<'t>(
     alloc: Global,
     properties: Vec<(&'t str, SchemaTemplate<'t>)>,
     closed: bool,
-) -> Result<SchemaTemplate<'t>, AllocError>
-    ensures { IfOk result (λ t. template_view t
+) -> Result<SchemaNode<'t>, AllocError>
+    ensures { IfOk result (λ t. node_view t
         ≡ whole_template (map property_view properties.entry.items) closed) }
 {
     let required = names(alloc, &properties)?;
@@ -206,12 +205,12 @@ fn names<'t>(
 }
 
 /// A map with a start and an end of this row.
-pub fn range_template<'t>(alloc: Global, n: TypeNo) -> Result<SchemaTemplate<'t>, AllocError>
-    ensures { IfOk result (λ t. template_view t ≡ range_template n) }
+pub fn range_template<'t>(alloc: Global, n: TypeNo) -> Result<SchemaNode<'t>, AllocError>
+    ensures { IfOk result (λ t. node_view t ≡ range_template n) }
 {
     let properties: Vec<(&'t str, SchemaTemplate<'t>)> = vec![in alloc;
-        ("start", row(n)),
-        ("end", row(n)),
+        ("start", bare(row(n))),
+        ("end", bare(row(n))),
     ]?;
     let required = vec![in alloc; "start", "end"]?;
     map_template(alloc, properties, required, false)

@@ -3,24 +3,24 @@ ghost use Rattle.std.specs.Prelude.{◌≡◌, ◌∷◌, [], codes, map, IfOk};
 ghost use Rattle.serde_json.specs.Data.{number, unsigned};
 ghost use Rattle.schemars_documents.specs.Documents.{typed, int_document, char_document, formatted_document, empty_list_document};
 ghost use Rattle.schemars_documents.specs.Template.{finished};
-ghost use Rattle.schemars_documents.specs.View.{template_view, scalar_keyword};
+ghost use Rattle.schemars_documents.specs.View.{node_view, scalar_keyword};
 
 use crate::integers::int_keywords_of;
 use crate::template::nodes::keywords;
-use crate::template::{Scalar, SchemaTemplate};
+use crate::template::{Scalar, SchemaNode};
 use schemars_types::IntKind;
 use std::alloc::{AllocError, Global};
 
 /// An integer of this kind.
-pub fn int_template<'t>(alloc: Global, kind: IntKind) -> Result<SchemaTemplate<'t>, AllocError>
-    ensures { IfOk result (λ t. template_view t ≡ finished (int_document kind)) }
+pub fn int_template<'t>(alloc: Global, kind: IntKind) -> Result<SchemaNode<'t>, AllocError>
+    ensures { IfOk result (λ t. node_view t ≡ finished (int_document kind)) }
 {
     Ok(keywords(int_keywords_of(alloc, kind)?))
 }
 
 /// A text of one code point.
-pub fn char_template<'t>(alloc: Global) -> Result<SchemaTemplate<'t>, AllocError>
-    ensures { IfOk result (λ t. template_view t ≡ finished char_document) }
+pub fn char_template<'t>(alloc: Global) -> Result<SchemaNode<'t>, AllocError>
+    ensures { IfOk result (λ t. node_view t ≡ finished char_document) }
 {
     Ok(keywords(char_keywords(alloc)?))
 }
@@ -39,11 +39,8 @@ pub fn char_keywords<'t>(alloc: Global) -> Result<Vec<(&'t str, Scalar<'t>)>, Al
 }
 
 /// A text of this format.
-pub fn formatted_template<'t>(
-    alloc: Global,
-    format: &'t str,
-) -> Result<SchemaTemplate<'t>, AllocError>
-    ensures { IfOk result (λ t. template_view t ≡ finished (formatted_document format.now)) }
+pub fn formatted_template<'t>(alloc: Global, format: &'t str) -> Result<SchemaNode<'t>, AllocError>
+    ensures { IfOk result (λ t. node_view t ≡ finished (formatted_document format.now)) }
 {
     let both = vec![in alloc;
         ("type", Scalar::Text("string")),
@@ -53,8 +50,8 @@ pub fn formatted_template<'t>(
 }
 
 /// A list of no items.
-pub fn empty_list_template<'t>(alloc: Global) -> Result<SchemaTemplate<'t>, AllocError>
-    ensures { IfOk result (λ t. template_view t ≡ finished empty_list_document) }
+pub fn empty_list_template<'t>(alloc: Global) -> Result<SchemaNode<'t>, AllocError>
+    ensures { IfOk result (λ t. node_view t ≡ finished empty_list_document) }
 {
     let both = vec![in alloc;
         ("type", Scalar::Text("array")),

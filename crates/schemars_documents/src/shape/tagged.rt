@@ -1,12 +1,12 @@
 //! The templates of enums whose variants are named by a member of their own maps.
 ghost use Rattle.std.specs.Prelude.{◌≡◌, map, IfOk};
 ghost use Rattle.schemars_shapes.specs.Shape.{internal_payload_of, internal_variant_of, internal_view};
-ghost use Rattle.schemars_documents.specs.View.{template_view};
+ghost use Rattle.schemars_documents.specs.View.{template_view, node_view};
 ghost use Rattle.schemars_documents.specs.OfShape.{content_template, internal_item, internal_template};
 
 use crate::shape::maps::struct_template;
-use crate::template::nodes::{one_of, type_alone};
-use crate::template::{Ask, SchemaTemplate};
+use crate::template::nodes::{bare, noted, one_of, type_alone};
+use crate::template::{Ask, SchemaNode, SchemaTemplate};
 use schemars_schema::Schema;
 use schemars_types::{Contract, Internal, InternalPayload, InternalVariant};
 use std::alloc::{AllocError, Global};
@@ -16,13 +16,13 @@ pub fn internal_template<'t>(
     alloc: Global,
     contract: Contract,
     internal: &'t Internal,
-) -> Result<SchemaTemplate<'t>, AllocError>
-    ensures { IfOk result (λ t. template_view t ≡ internal_template contract
+) -> Result<SchemaNode<'t>, AllocError>
+    ensures { IfOk result (λ t. node_view t ≡ internal_template contract
         (internal_view internal.now).0 (internal_view internal.now).1
         (internal_view internal.now).2) }
 {
     if internal.variants.is_empty() {
-        return Ok(SchemaTemplate::Finished(Schema::from(false)));
+        return Ok(SchemaNode::Finished(Schema::from(false)));
     }
     let tag = internal.tag.as_str();
     let items = internal_items(alloc, contract, tag, internal.closed, &internal.variants)?;
@@ -60,14 +60,14 @@ fn internal_item<'t>(
 {
     let content = content_template(alloc, contract, &variant.payload)?;
     let name = variant.name.as_str();
-    let inner = Box::new(alloc, content)?;
-    let tagged = SchemaTemplate::Tagged {
+    let inner = Box::new(alloc, bare(content))?;
+    let tagged = SchemaNode::Tagged {
         tag,
         name,
         closed,
         inner,
     };
-    Ok(SchemaTemplate::Noted(&variant.notes, Box::new(alloc, tagged)?))
+    Ok(noted(&variant.notes, tagged))
 }
 
 // The content beside the tag.
@@ -75,13 +75,13 @@ fn content_template<'t>(
     alloc: Global,
     contract: Contract,
     payload: &'t InternalPayload,
-) -> Result<SchemaTemplate<'t>, AllocError>
-    ensures { IfOk result (λ t. template_view t
+) -> Result<SchemaNode<'t>, AllocError>
+    ensures { IfOk result (λ t. node_view t
         ≡ content_template contract (internal_payload_of payload.now)) }
 {
     match payload {
-        InternalPayload::Unit => type_alone(alloc, "null"),
-        InternalPayload::Newtype(n) => Ok(SchemaTemplate::Asked(Ask::Content(*n))),
+        InternalPayload::Unit => Ok(type_alone("null")),
+        InternalPayload::Newtype(n) => Ok(SchemaNode::Asked(Ask::Content(*n))),
         InternalPayload::Struct(fields) => struct_template(alloc, contract, fields),
     }
 }

@@ -1,38 +1,55 @@
 //! Templates of one node.
 ghost use Rattle.std.specs.Prelude.{◌≡◌, ◌∷◌, [], map, IfOk};
 ghost use Rattle.serde_json.specs.Data.{string, number, unsigned, boolean};
+ghost use Rattle.serde_json.specs.View.{members_view};
 ghost use Rattle.schemars_schema.specs.SchemaData.{object_of};
 ghost use Rattle.schemars_builders.specs.Variants.{unit_variant};
 ghost use Rattle.schemars_documents.specs.Documents.{type_alone};
-ghost use Rattle.schemars_documents.specs.Template.{row, finished, list};
-ghost use Rattle.schemars_documents.specs.View.{template_view, value_view, keyword_view, property_view, scalar_keyword};
+ghost use Rattle.schemars_documents.specs.Template.{row, finished, noted, list};
+ghost use Rattle.schemars_documents.specs.View.{template_view, node_view, value_view, keyword_view, property_view, scalar_keyword};
 ghost use Rattle.schemars_documents.specs.OfShape.{object_with, templates_of, one_of_template, any_of_template};
 
-use crate::template::{Ask, Scalar, SchemaTemplate, ValueTemplate};
+use crate::template::{Ask, Scalar, SchemaNode, SchemaTemplate, ValueTemplate};
 use schemars_types::TypeNo;
-use serde_json::Value;
+use serde_json::{Map, Value};
 use std::alloc::{AllocError, Global};
+
+/// The schema of this node, without notes.
+pub fn bare<'t>(node: SchemaNode<'t>) -> SchemaTemplate<'t>
+    ensures { template_view result ≡ node_view node.entry }
+{
+    SchemaTemplate { notes: None, node }
+}
+
+/// The schema of this node, with these notes.
+pub fn noted<'t>(notes: &'t Map<String, Value>, node: SchemaNode<'t>) -> SchemaTemplate<'t>
+    ensures { template_view result ≡ noted (members_view notes.now.entries) (node_view node.entry) }
+{
+    SchemaTemplate {
+        notes: Some(notes),
+        node,
+    }
+}
 
 /// A finished schema of these keywords.
 #[tactic(auto, using(crate::proofs::Templates::seen_keywords))]
-pub fn keywords<'t>(keywords: Vec<(&'t str, Scalar<'t>)>) -> SchemaTemplate<'t>
-    ensures { template_view result
+pub fn keywords<'t>(keywords: Vec<(&'t str, Scalar<'t>)>) -> SchemaNode<'t>
+    ensures { node_view result
         ≡ finished (object_of (map scalar_keyword keywords.entry.items)) }
 {
-    SchemaTemplate::Keywords(keywords)
+    SchemaNode::Keywords(keywords)
 }
 
 /// The schema of all values of one JSON type.
-pub fn type_alone<'t>(alloc: Global, name: &'t str) -> Result<SchemaTemplate<'t>, AllocError>
-    ensures { IfOk result (λ t. template_view t ≡ finished (type_alone name.now)) }
+pub fn type_alone<'t>(name: &'t str) -> SchemaNode<'t>
+    ensures { node_view result ≡ finished (type_alone name.now) }
 {
-    let one = vec![in alloc; ("type", Scalar::Text(name))]?;
-    Ok(keywords(one))
+    SchemaNode::OfType(name)
 }
 
 /// A unit by its name.
-pub fn unit<'t>(alloc: Global, name: &'t str) -> Result<SchemaTemplate<'t>, AllocError>
-    ensures { IfOk result (λ t. template_view t ≡ finished (unit_variant name.now)) }
+pub fn unit<'t>(alloc: Global, name: &'t str) -> Result<SchemaNode<'t>, AllocError>
+    ensures { IfOk result (λ t. node_view t ≡ finished (unit_variant name.now)) }
 {
     let both = vec![in alloc;
         ("type", Scalar::Text("string")),
@@ -63,25 +80,25 @@ pub fn truth<'t>(is_true: bool) -> ValueTemplate<'t>
 }
 
 /// The schema of a row.
-pub fn row<'t>(n: TypeNo) -> SchemaTemplate<'t>
-    ensures { template_view result ≡ row n }
+pub fn row<'t>(n: TypeNo) -> SchemaNode<'t>
+    ensures { node_view result ≡ row n }
 {
-    SchemaTemplate::Asked(Ask::Part(n))
+    SchemaNode::Asked(Ask::Part(n))
 }
 
 /// The schema of a row, as the value of a keyword.
 pub fn row_value<'t>(n: TypeNo) -> ValueTemplate<'t>
     ensures { value_view result ≡ row n }
 {
-    ValueTemplate::Schema(row(n))
+    ValueTemplate::Schema(bare(row(n)))
 }
 
 /// An object with these keywords.
 #[tactic(auto, using(crate::proofs::Templates::seen_object))]
-pub fn object_with<'t>(keywords: Vec<(&'t str, ValueTemplate<'t>)>) -> SchemaTemplate<'t>
-    ensures { template_view result ≡ object_with (map keyword_view keywords.entry.items) }
+pub fn object_with<'t>(keywords: Vec<(&'t str, ValueTemplate<'t>)>) -> SchemaNode<'t>
+    ensures { node_view result ≡ object_with (map keyword_view keywords.entry.items) }
 {
-    SchemaTemplate::Object(keywords)
+    SchemaNode::Object(keywords)
 }
 
 /// An object with a schema under each of these names.
@@ -96,8 +113,8 @@ pub fn named<'t>(schemas: Vec<(&'t str, SchemaTemplate<'t>)>) -> ValueTemplate<'
 pub fn one_of<'t>(
     alloc: Global,
     choices: Vec<SchemaTemplate<'t>>,
-) -> Result<SchemaTemplate<'t>, AllocError>
-    ensures { IfOk result (λ t. template_view t
+) -> Result<SchemaNode<'t>, AllocError>
+    ensures { IfOk result (λ t. node_view t
         ≡ one_of_template (map template_view choices.entry.items)) }
 {
     choice(alloc, "oneOf", choices)
@@ -107,8 +124,8 @@ pub fn one_of<'t>(
 pub fn any_of<'t>(
     alloc: Global,
     choices: Vec<SchemaTemplate<'t>>,
-) -> Result<SchemaTemplate<'t>, AllocError>
-    ensures { IfOk result (λ t. template_view t
+) -> Result<SchemaNode<'t>, AllocError>
+    ensures { IfOk result (λ t. node_view t
         ≡ any_of_template (map template_view choices.entry.items)) }
 {
     choice(alloc, "anyOf", choices)
@@ -119,8 +136,8 @@ fn choice<'t>(
     alloc: Global,
     keyword: &'t str,
     choices: Vec<SchemaTemplate<'t>>,
-) -> Result<SchemaTemplate<'t>, AllocError>
-    ensures { IfOk result (λ t. template_view t ≡ object_with ((
+) -> Result<SchemaNode<'t>, AllocError>
+    ensures { IfOk result (λ t. node_view t ≡ object_with ((
       keyword.now,
       list (templates_of (map template_view choices.entry.items)),
     ) ∷ [])) }

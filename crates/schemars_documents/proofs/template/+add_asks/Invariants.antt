@@ -5,8 +5,8 @@ use Rattle.schemars_documents.specs.OfShape.{object_with, templates_of}
 use Rattle.schemars_documents.specs.View.{ask_of, template_view, keyword_view, property_view}
 use Rattle.schemars_documents.proofs.template.+add_asks.Given as goal
 
-abbrev pub invariant-add_asks-loop-keyword : goal.invariant-add_asks-loop-keyword
-invariant-add_asks-loop-keyword l =
+abbrev pub invariant-add_node_asks-loop-keyword : goal.invariant-add_node_asks-loop-keyword
+invariant-add_node_asks-loop-keyword l =
     map ask_of l.asks.items ++ asks_of (object_with (map keyword_view (drop l.keyword-index l.keyword-items)))
     ≡ map ask_of l.fn.asks.items ++ asks_of (object_with (map keyword_view l.keyword-items))
 

@@ -1,7 +1,7 @@
 use Rattle.std.proofs.Common.{◌≡◌, true, false, length, map, ap, subst, ◌∙◌, ◌∷◌, sym, arith, IfOk}
 use Rattle.std.specs.Prelude.{◌==◌}
 use Rattle.schemars_shapes.specs.Shape.{variant_of}
-use Rattle.schemars_documents.specs.View.{template_view}
+use Rattle.schemars_documents.specs.View.{template_view, node_view}
 use Rattle.schemars_documents.specs.OfShape.{bare_units, one_of_template, choice_of, external_template}
 use Rattle.schemars_documents.proofs.Units.{units_alone, units_lead, seen}
 use Rattle.schemars_documents.proofs.shape.enums.external_template.Goals as goal
@@ -33,4 +33,4 @@ returns c =
     ap one_of_template (c.in_ok-items.ensures ∙ ap (λ u. u ∷ map template_view others.items) c.in_ok-units.ensures)
     ∙ (units_lead units names.items (map template_view others.items) some c.in_ok-names.ensures more
     ∙ ap (choice_of units) c.in_ok-others.ensures) in
-    subst (λ u. IfOk c.one_of-2.result (λ t. template_view t ≡ u)) all c.one_of-2.ensures
+    subst (λ u. IfOk c.one_of-2.result (λ t. node_view t ≡ u)) all c.one_of-2.ensures

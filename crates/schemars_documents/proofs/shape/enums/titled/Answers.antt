@@ -1,8 +1,8 @@
--- Where there are no titles the template stays.
+-- Where there are no titles the schema stays.
 use Rattle.std.proofs.Common.{sym, ap}
 use Rattle.schemars_documents.specs.OfShape.{titled}
-use Rattle.schemars_documents.specs.View.{template_view}
+use Rattle.schemars_documents.specs.View.{node_view}
 use Rattle.schemars_documents.proofs.shape.enums.titled.Goals as goal
 
 pub returns : goal.returns
-returns c = sym (ap (λ b. titled b c.args.name.now (template_view c.args.template)) c.if-titles.false)
+returns c = sym (ap (λ b. titled b c.args.name.now (node_view c.args.node)) c.if-titles.false)

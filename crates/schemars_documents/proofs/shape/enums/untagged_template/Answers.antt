@@ -3,7 +3,7 @@ use Rattle.std.specs.Prelude.{◌==◌}
 use Rattle.schemars_shapes.specs.Shape.{variant_of}
 use Rattle.schemars_shapes.specs.declared.variant.Variant.{Variant}
 use Rattle.schemars_types.specs.declared.contract.Contract.{Contract}
-use Rattle.schemars_documents.specs.View.{template_view}
+use Rattle.schemars_documents.specs.View.{node_view}
 use Rattle.schemars_documents.specs.OfShape.{any_of_template, payload_item, untagged_template}
 use Rattle.schemars_documents.proofs.shape.enums.untagged_template.Goals as goal
 
@@ -17,4 +17,4 @@ returns c =
     let variants = c.args.variants.now in
     let all = ap any_of_template c.in_ok-items.ensures
     ∙ one_at_least c.args.contract c.args.titles variants (sym c.is_empty.ensures ∙ c.if-is_empty.false) in
-    subst (λ u. IfOk c.any_of.result (λ t. template_view t ≡ u)) all c.any_of.ensures
+    subst (λ u. IfOk c.any_of.result (λ t. node_view t ≡ u)) all c.any_of.ensures

@@ -1,21 +1,16 @@
 -- The variant's notes are beside its tag and its content.
-use Rattle.std.proofs.Common.{◌≡◌, ap, ◌∙◌, rules, Bool, Bor, Box, BTreeMap, String, Global}
-use Rattle.serde_json.specs.View.{members_view}
-use Rattle.serde_json.specs.declared.value.Value.{Value}
+use Rattle.std.proofs.Common.{◌≡◌, ap, ◌∙◌, rules, Bool, Bor, Box, Global}
 use Rattle.schemars_schema.specs.Json.{Text}
 use Rattle.schemars_shapes.specs.Shape.{internal_variant_of}
 use Rattle.schemars_documents.specs.Template.{noted, tagged}
 use Rattle.schemars_documents.specs.OfShape.{content_template}
-use Rattle.schemars_documents.specs.View.{template_view}
-use Rattle.schemars_documents.specs.declared.template.SchemaTemplate.{SchemaTemplate, Noted, Tagged, the_lemmas}
+use Rattle.schemars_documents.specs.View.{template_view, node_view}
+use Rattle.schemars_documents.specs.declared.template.SchemaTemplate.{SchemaTemplate}
+use Rattle.schemars_documents.specs.declared.template.SchemaNode.{Tagged, the_lemmas}
 use Rattle.schemars_documents.proofs.shape.tagged.internal_item.Goals as goal
 
-seen_noted : (notes : Bor (BTreeMap (String Global) Value)) (t : Box SchemaTemplate Global)
-    → template_view (Noted notes t) ≡ noted (members_view notes.now.entries) (template_view t.value)
-seen_noted notes t = search (rules, the_lemmas)
-
 seen_tagged : (tag name : Bor Text) (closed : Bool) (t : Box SchemaTemplate Global)
-    → template_view (Tagged tag name closed t) ≡ tagged tag.now name.now closed (template_view t.value)
+    → node_view (Tagged tag name closed t) ≡ tagged tag.now name.now closed (template_view t.value)
 seen_tagged tag name closed t = search (rules, the_lemmas)
 
 pub returns : goal.returns
@@ -23,8 +18,8 @@ returns c =
     let tag = c.args.tag in
     let x = internal_variant_of c.args.variant.now in
     let content = content_template c.args.contract x.payload in
-    let beside = ap template_view c.in_ok-new.ensures.ok ∙ seen_tagged tag c.as_str-name.result c.args.closed c.in_ok-inner.inner in
-    let inside = ap template_view c.in_ok-inner.ensures.ok ∙ c.in_ok-content.ensures in
+    let beside = seen_tagged tag c.as_str-name.result c.args.closed c.in_ok-inner.inner in
+    let inside = ap template_view c.in_ok-inner.ensures.ok ∙ (c.bare.ensures ∙ c.in_ok-content.ensures) in
     let said = ap (tagged tag.now c.as_str-name.result.now c.args.closed) inside in
     let named = ap (λ name. tagged tag.now name c.args.closed content) c.as_str-name.ensures.value in
-    seen_noted _ c.in_ok-new.field-0 ∙ ap (noted x.notes) (beside ∙ (said ∙ named))
+    c.noted.ensures ∙ ap (noted x.notes) (beside ∙ (said ∙ named))
