@@ -146,11 +146,7 @@ impl<'t> MemberList<'t> {
     }
 
     // Takes the members of the object of this name out: none where there is no such object.
-    pub(crate) fn take_members(
-        &mut self,
-        alloc: Global,
-        name: &str,
-    ) -> Result<MemberList<'t>, Stop>
+    pub(crate) fn take_members(&mut self, alloc: Global, name: &str) -> Result<MemberList<'t>, Stop>
         ensures value { IfOk result (λ m. object m
             ≡ there_or (object no_members) (get_member name.now self.old)) }
         ensures rest { OnOk result (self.new ≡ without name.now self.old) }

@@ -53,10 +53,7 @@ fn or_null<'t>(alloc: Global, schema: Assembled<'t>) -> Result<Assembled<'t>, St
 }
 
 // A choice of others is not covered, since it may accept null already.
-fn null_in_object<'t>(
-    alloc: Global,
-    members: MemberList<'t>,
-) -> Result<Assembled<'t>, Stop>
+fn null_in_object<'t>(alloc: Global, members: MemberList<'t>) -> Result<Assembled<'t>, Stop>
     ensures { IfOk result (λ p. assembled_view p ≡ allow_null (object members.entry)) }
 {
     if members.has("anyOf") {
@@ -101,10 +98,7 @@ fn accepts_everything(schema: &Value) -> bool
 }
 
 // Lets the type have null, where there is one.
-fn null_in_type<'t>(
-    alloc: Global,
-    members: &mut MemberList<'t>,
-) -> Result<(), Stop>
+fn null_in_type<'t>(alloc: Global, members: &mut MemberList<'t>) -> Result<(), Stop>
     ensures { OnOk result (members.new
         ≡ null_in_type (get_member (codes "type") members.old) members.old) }
 {
@@ -166,10 +160,7 @@ pub(crate) fn holds_text(parts: &[Assembled<'_>], text: &str) -> bool
 }
 
 // Lets `const` and `enum` admit null.
-fn null_in_values<'t>(
-    alloc: Global,
-    members: &mut MemberList<'t>,
-) -> Result<(), Stop>
+fn null_in_values<'t>(alloc: Global, members: &mut MemberList<'t>) -> Result<(), Stop>
     ensures { OnOk result (members.new ≡ null_in_values members.old) }
 {
     match members.take("const") {
@@ -196,10 +187,7 @@ fn const_or_null<'t>(
     members.put("enum", Assembled::List(values))
 }
 
-fn null_in_enum<'t>(
-    alloc: Global,
-    members: &mut MemberList<'t>,
-) -> Result<(), Stop>
+fn null_in_enum<'t>(alloc: Global, members: &mut MemberList<'t>) -> Result<(), Stop>
     ensures { OnOk result (members.new
         ≡ null_in_enum (get_member (codes "enum") members.old) members.old) }
 {

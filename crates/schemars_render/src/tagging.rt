@@ -91,11 +91,7 @@ fn put_property<'t>(
 }
 
 // Puts the name before those that are required.
-fn require_first<'t>(
-    alloc: Global,
-    members: &mut MemberList<'t>,
-    name: &'t str,
-) -> Result<(), Stop>
+fn require_first<'t>(alloc: Global, members: &mut MemberList<'t>, name: &'t str) -> Result<(), Stop>
     ensures { OnOk result (members.new ≡ required_first name.now members.old) }
 {
     let mut names = members.take_items(alloc, "required")?;
@@ -104,10 +100,7 @@ fn require_first<'t>(
 }
 
 // Excludes other keys, unless they are spoken of.
-fn close_where<'t>(
-    members: &mut MemberList<'t>,
-    is_closed: bool,
-) -> Result<(), Stop>
+fn close_where<'t>(members: &mut MemberList<'t>, is_closed: bool) -> Result<(), Stop>
     ensures { OnOk result (members.new ≡ closed_where is_closed members.old) }
 {
     if !is_closed || members.has("additionalProperties") {
