@@ -6,5 +6,6 @@ pub mod Items
 pub mod Lists
 pub mod Parts
 pub mod PutInOrder
+pub mod Searched
 pub mod Wholes
 pub mod Written

@@ -1,9 +1,12 @@
 -- Lists of members: what they stand for, in the order of their names.
-use Rattle.std.proofs.Common.{◌≡◌, ℕ, ◌+◌, ◌<◌, List, [], ◌∷◌, ◌++◌, map, length, get_or, drop, zero, suc, ◌≤◌, false, Ordering, Less, Equal, Greater, is_ge, nat_cmp, IsPermutation, arith, refl, sym, ap, subst, ◌∙◌}
+use Rattle.std.proofs.Common.{◌≡◌, ℕ, ◌+◌, ◌<◌, List, [], ◌∷◌, ◌++◌, map, length, get_or, drop, zero, suc, ◌≤◌, false, Ordering, Less, Equal, Greater, is_ge, nat_cmp, IsPermutation, string_bytes, arith, append-nil, refl, sym, ap, subst, ◌∙◌}
 use Rattle.std.proofs.lemmas.List.{drop_more}
-use Rattle.std.proofs.lemmas.List.Sorted.{IsPermutation-map, IsPermutation-refl}
+use Rattle.std.proofs.lemmas.List.Sorted.{IsPermutation-map}
 use Rattle.std.specs.Cmp.Lexicographic.{slice_cmp}
-use Rattle.serde_json.specs.Data.{Members, no_members, member, put}
+use Rattle.serde_json.specs.Data.{Data, no_members, member}
+use Rattle.serde_json.specs.View.{view, members_view}
+use Rattle.serde_json.proofs.Views.{Entry as NamedValue}
+use Rattle.schemars_schema.specs.Json.{Text}
 use Rattle.schemars_schema.specs.SchemaData.{put_all}
 use Rattle.schemars_schema.proofs.SortedMembers.{IsSorted, above-trans}
 use Rattle.schemars_render.specs.Assembled.{assembled_view, members_assembled, named_view}
@@ -43,20 +46,24 @@ as_listed : (es : List Entry) → members_assembled es ≡ listed (map named_vie
 as_listed [] = refl
 as_listed (e ∷ es) = ap (member e.0.now (assembled_view e.1)) (as_listed es)
 
+-- a value and its name
+abbrev pub named_value : NamedValue → Text × Data
+named_value e = (string_bytes e.0, view e.1)
+
+values_as_listed : (es : List NamedValue) → members_view es ≡ listed (map named_value es)
+values_as_listed [] = refl
+values_as_listed (e ∷ es) = ap (member (string_bytes e.0) (view e.1)) (values_as_listed es)
+
+-- parts of all values
+pub all_values : (es : List Entry) (left all : List NamedValue) → left ≡ []
+    → map named_view es ++ map named_value left ≡ map named_value all → members_assembled es ≡ members_view all
+all_values es left all ends h =
+    as_listed es ∙ ap listed (sym (append-nil (map named_view es))
+    ∙ (ap (λ xs. map named_view es ++ map named_value xs) (sym ends) ∙ h)) ∙ sym (values_as_listed all)
+
 -- the same members in another order
 pub sorted_members : (es xs : List Entry) → IsPermutation es xs → IsSorted (members_assembled xs)
     → members_assembled xs ≡ put_all (map named_view es) no_members
 sorted_members es xs moved sorted =
     as_listed xs ∙ put_in_order (map named_view es) (map named_view xs) (IsPermutation-map named_view es xs moved)
     (subst IsSorted (as_listed xs) sorted)
-
--- one more, put in last
-pub put_last : (es : List Entry) (e : Entry) (ms : Members) → put_all (map named_view (es ++ e ∷ [])) ms
-    ≡ put e.0.now (assembled_view e.1) (put_all (map named_view es) ms)
-put_last [] e ms = refl
-put_last (f ∷ es) e ms = put_last es e (put f.0.now (assembled_view f.1) ms)
-
--- members in the order of their names are those that are put in one after another
-pub put_as_listed : (es : List Entry) → IsSorted (members_assembled es)
-    → put_all (map named_view es) no_members ≡ members_assembled es
-put_as_listed es sorted = sym (sorted_members es es (IsPermutation-refl es) sorted)

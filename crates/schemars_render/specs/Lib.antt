@@ -2,4 +2,5 @@
 pub mod Answer
 pub mod Assembled
 pub mod Rendered
+pub mod Searched
 pub mod Writing

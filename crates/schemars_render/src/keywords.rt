@@ -7,7 +7,7 @@ ghost use Rattle.schemars_render.specs.Assembled.{assembled_view};
 
 use crate::assembled::Assembled;
 use crate::error::Stop;
-use crate::members::{list_in, object_of, push_values};
+use crate::members::members_in;
 use serde_json::{Map, Value};
 use std::alloc::Global;
 
@@ -23,9 +23,9 @@ pub(crate) fn annotate<'t>(
     if notes.is_empty() {
         return Ok(schema);
     }
-    let mut members = list_in(alloc, schema)?;
-    push_values(&mut members, notes)?;
-    object_of(members)
+    let mut members = members_in(alloc, schema)?;
+    members.put_values(notes)?;
+    Ok(members.into_object())
 }
 
 // The schema with this title.
@@ -37,7 +37,7 @@ pub(crate) fn titled<'t>(
     ensures { IfOk result (λ p. assembled_view p
         ≡ annotated (title_alone title.now) (assembled_view schema.entry)) }
 {
-    let mut members = list_in(alloc, schema)?;
-    members.push(("title", Assembled::Text(title)))?;
-    object_of(members)
+    let mut members = members_in(alloc, schema)?;
+    members.put("title", Assembled::Text(title))?;
+    Ok(members.into_object())
 }

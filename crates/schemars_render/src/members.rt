@@ -1,19 +1,207 @@
-//! Members and items of parts. Members are put into a map and taken out of it.
-ghost use Rattle.std.specs.Prelude.{◌≡◌, is_some, map, option_map, IfOk, IsTrue, OnOk};
+//! Members and items of parts. Members in the order of their names are edited in their list.
+ghost use Rattle.std.specs.Prelude.{◌≡◌, ◌<◌, is_some, length, map, option_map, slice_set, IfOk, IsTrue, MatchResult, OnOk};
 ghost use Rattle.std.specs.List.Sorted.{IsPermutation};
 ghost use Rattle.serde_json.specs.Data.{array, no_items, object, member, no_members, put};
 ghost use Rattle.serde_json.specs.Find.{get_member};
 ghost use Rattle.serde_json.specs.View.{view, items_view, members_view};
 ghost use Rattle.schemars_schema.specs.Edits.{without};
-ghost use Rattle.schemars_schema.specs.SchemaData.{members_in, object_of, put_all, put_members};
+ghost use Rattle.schemars_schema.specs.SchemaData.{members_in, object_of, put_members};
 ghost use Rattle.schemars_schema.proofs.SortedMembers.{IsSorted};
 ghost use Rattle.schemars_render.specs.Assembled.{assembled_view, items_assembled, members_assembled, named_view, there_or};
+ghost use Rattle.schemars_render.specs.Searched.{IsFoundAt, BelongsAt};
 
 use crate::assembled::Assembled;
 use crate::error::Stop;
 use serde_json::{Map, Value};
 use std::alloc::Global;
-use std::collections::BTreeMap;
+use std::cmp::Ordering;
+use std::marker::Model;
+
+// Members in the order of their names, each name once.
+#[derive(Drop)]
+pub(crate) struct MemberList<'t> {
+    list: Vec<(&'t str, Assembled<'t>)>,
+}
+
+impl<'t> Model for MemberList<'t> {
+    ghost use Rattle.serde_json.specs.Data.{Members};
+    ghost use Rattle.schemars_schema.specs.DataCode.{members_code};
+    ghost use Rattle.schemars_schema.proofs.SortedMembers.{IsSorted};
+    ghost use Rattle.schemars_render.specs.Assembled.{members_assembled};
+
+    ghost Value = { Members };
+
+    ghost coded = { members_code };
+
+    ghost view = { λ m. members_assembled m.list.items };
+
+    ghost invariant = { λ m. IsSorted (members_assembled m.list.items) };
+}
+
+impl<'t> MemberList<'t> {
+    pub(crate) fn new(alloc: Global) -> MemberList<'t>
+        ensures { result ≡ no_members }
+    {
+        MemberList {
+            list: Vec::new(alloc),
+        }
+    }
+
+    // These members, where each name is before the next.
+    pub(crate) fn of(list: Vec<(&'t str, Assembled<'t>)>) -> Result<MemberList<'t>, Stop>
+        ensures { IfOk result (λ m. m ≡ members_assembled list.entry.items) }
+    {
+        if is_ascending(&list) {
+            Ok(MemberList { list })
+        } else {
+            Err(Stop::NotCovered)
+        }
+    }
+
+    // All members as parts.
+    pub(crate) fn of_values(
+        alloc: Global,
+        values: &'t Map<String, Value>,
+    ) -> Result<MemberList<'t>, Stop>
+        ensures { IfOk result (λ m. m ≡ members_view values.now.entries) }
+    {
+        let mut list = Vec::with_capacity(alloc, values.len())?;
+        for (name, value) in values.iter() {
+            list.push((name.as_str(), Assembled::Value(value)))?;
+        }
+        Ok(MemberList { list })
+    }
+
+    // This member alone.
+    fn lone(alloc: Global, name: &'t str, part: Assembled<'t>) -> Result<MemberList<'t>, Stop>
+        ensures { IfOk result (λ m. m ≡ member name.now (assembled_view part.entry) no_members) }
+    {
+        let list = vec![in alloc; (name, part)]?;
+        Ok(MemberList { list })
+    }
+
+    // The object of the members.
+    pub(crate) fn into_object(self) -> Assembled<'t>
+        ensures { assembled_view result ≡ object self.entry }
+    {
+        Assembled::Object(self.list)
+    }
+
+    // Puts the part in, in the place of a member of its name.
+    pub(crate) fn put(&mut self, name: &'t str, part: Assembled<'t>) -> Result<(), Stop>
+        ensures { OnOk result (self.new ≡ put name.now (assembled_view part.entry) self.old) }
+    {
+        match search(&self.list, name) {
+            Ok(place) => {
+                replace(&mut self.list, place, (name, part));
+                Ok(())
+            }
+            Err(place) => {
+                self.list.insert(place, (name, part))?;
+                Ok(())
+            }
+        }
+    }
+
+    // Puts the values in, which take the place of members of their names.
+    pub(crate) fn put_values(&mut self, values: &'t Map<String, Value>) -> Result<(), Stop>
+        ensures { OnOk result (self.new ≡ put_members (members_view values.now.entries) self.old) }
+    {
+        for (name, value) in values.iter() {
+            self.put(name.as_str(), Assembled::Value(value))?;
+        }
+        Ok(())
+    }
+
+    // Finds the part of this name.
+    pub(crate) fn find(&self, name: &str) -> Option<&Assembled<'t>>
+        ensures { option_map (λ p. assembled_view p.now) result ≡ get_member name.now self.now }
+    {
+        match search(&self.list, name) {
+            Ok(place) => Some(&self.list[place].1),
+            Err(_) => None,
+        }
+    }
+
+    // Whether there is a member of this name.
+    pub(crate) fn has(&self, name: &str) -> bool
+        ensures { result ≡ is_some (get_member name.now self.now) }
+    {
+        self.find(name).is_some()
+    }
+
+    // Takes the part of this name out.
+    pub(crate) fn take(&mut self, name: &str) -> Option<Assembled<'t>>
+        ensures value { option_map assembled_view result ≡ get_member name.now self.old }
+        ensures rest { self.new ≡ without name.now self.old }
+        ensures ascending { IsSorted self.old }
+    {
+        match search(&self.list, name) {
+            Ok(place) => {
+                let (_, part) = self.list.remove(place);
+                Some(part)
+            }
+            Err(_) => None,
+        }
+    }
+
+    // Takes the members of the object of this name out: none where there is no such object.
+    pub(crate) fn take_members(&mut self, alloc: Global, name: &str) -> Result<MemberList<'t>, Stop>
+        ensures value { IfOk result (λ m. object m
+            ≡ there_or (object no_members) (get_member name.now self.old)) }
+        ensures rest { OnOk result (self.new ≡ without name.now self.old) }
+        ensures ascending { OnOk result (IsSorted self.old) }
+    {
+        match self.take(name) {
+            Some(part) => into_members(alloc, part),
+            None => Ok(MemberList::new(alloc)),
+        }
+    }
+
+    // Takes the items of the list of this name out: none where there is no such list.
+    pub(crate) fn take_items(
+        &mut self,
+        alloc: Global,
+        name: &str,
+    ) -> Result<Vec<Assembled<'t>>, Stop>
+        ensures value { IfOk result (λ v. array (items_assembled v.items)
+            ≡ there_or (array no_items) (get_member name.now self.old)) }
+        ensures rest { OnOk result (self.new ≡ without name.now self.old) }
+        ensures ascending { OnOk result (IsSorted self.old) }
+    {
+        match self.take(name) {
+            Some(part) => into_items(alloc, part),
+            None => Ok(Vec::new(alloc)),
+        }
+    }
+}
+
+// The place of the member of this name, or else the place where it belongs.
+fn search<'t>(list: &Vec<(&'t str, Assembled<'t>)>, name: &str) -> Result<usize, usize>
+    ensures { MatchResult result (IsFoundAt name.now (members_assembled list.now.items))
+        (BelongsAt name.now (members_assembled list.now.items)) }
+{
+    for (place, member) in list.iter().enumerate() {
+        match name.cmp(member.0) {
+            Ordering::Less => return Err(place),
+            Ordering::Equal => return Ok(place),
+            Ordering::Greater => {}
+        }
+    }
+    Err(list.len())
+}
+
+// Puts the member in the place of another.
+fn replace<'t>(
+    list: &mut Vec<(&'t str, Assembled<'t>)>,
+    place: usize,
+    member: (&'t str, Assembled<'t>),
+)
+    requires { place < length list.old.items }
+    ensures { list.new.items ≡ slice_set list.old.items place member.entry }
+{
+    list[place] = member;
+}
 
 // The object of these members, put in one after another. A name that is there twice is not covered.
 pub(crate) fn object_of<'t>(members: Vec<(&'t str, Assembled<'t>)>) -> Result<Assembled<'t>, Stop>
@@ -52,21 +240,6 @@ pub(crate) fn is_ascending<'t>(members: &Vec<(&'t str, Assembled<'t>)>) -> bool
     true
 }
 
-// The object of the members of a map.
-pub(crate) fn object<'t>(
-    alloc: Global,
-    members: BTreeMap<&'t str, Assembled<'t>>,
-) -> Result<Assembled<'t>, Stop>
-    ensures { IfOk result (λ p. assembled_view p
-        ≡ object (members_assembled members.entry.entries)) }
-{
-    let mut list = Vec::with_capacity(alloc, members.len())?;
-    for (name, part) in members {
-        list.push((name, part))?;
-    }
-    Ok(Assembled::Object(list))
-}
-
 // The object of this member alone.
 pub(crate) fn lone_object<'t>(
     alloc: Global,
@@ -80,176 +253,38 @@ pub(crate) fn lone_object<'t>(
     Ok(Assembled::Object(members))
 }
 
-// The members of a schema once it is an object, in the order of their names. Those of `false` are not
-// covered.
-pub(crate) fn list_in<'t>(
-    alloc: Global,
-    schema: Assembled<'t>,
-) -> Result<Vec<(&'t str, Assembled<'t>)>, Stop>
-    ensures { IfOk result (λ v. put_all (map named_view v.items) no_members
-        ≡ members_in (assembled_view schema.entry)) }
+// The members of a schema once it is an object.
+pub(crate) fn members_in<'t>(alloc: Global, schema: Assembled<'t>) -> Result<MemberList<'t>, Stop>
+    ensures { IfOk result (λ m. m ≡ members_in (assembled_view schema.entry)) }
 {
     match schema {
-        Assembled::Object(members) => ascending(members),
-        Assembled::Reference(target) => {
-            let members = vec![in alloc; ("$ref", Assembled::Text(target))]?;
-            Ok(members)
-        }
-        Assembled::Value(value) => list_in_value(alloc, value),
+        Assembled::Object(members) => MemberList::of(members),
+        Assembled::Reference(target) => MemberList::lone(alloc, "$ref", Assembled::Text(target)),
+        Assembled::Value(value) => members_in_value(alloc, value),
         _ => Err(Stop::NotCovered),
     }
 }
 
-fn list_in_value<'t>(alloc: Global, value: &'t Value) -> Result<Vec<(&'t str, Assembled<'t>)>, Stop>
-    ensures { IfOk result (λ v. put_all (map named_view v.items) no_members
-        ≡ members_in (view value.now)) }
+fn members_in_value<'t>(alloc: Global, value: &'t Value) -> Result<MemberList<'t>, Stop>
+    ensures { IfOk result (λ m. m ≡ members_in (view value.now)) }
 {
     match value {
-        Value::Object(values) => {
-            let mut members = Vec::with_capacity(alloc, values.len())?;
-            push_values(&mut members, values)?;
-            Ok(members)
-        }
-        Value::Bool(true) => Ok(Vec::new(alloc)),
+        Value::Object(members) => MemberList::of_values(alloc, members),
+        Value::Bool(true) => Ok(MemberList::new(alloc)),
+        Value::Bool(false) => MemberList::lone(alloc, "not", Assembled::Object(Vec::new(alloc))),
         _ => Err(Stop::NotCovered),
     }
-}
-
-// The members, where each name is before the next.
-fn ascending<'t>(
-    members: Vec<(&'t str, Assembled<'t>)>,
-) -> Result<Vec<(&'t str, Assembled<'t>)>, Stop>
-    ensures { IfOk result (λ v. put_all (map named_view v.items) no_members
-        ≡ members_assembled members.entry.items) }
-{
-    if is_ascending(&members) {
-        Ok(members)
-    } else {
-        Err(Stop::NotCovered)
-    }
-}
-
-// Adds the values behind the members.
-pub(crate) fn push_values<'t>(
-    members: &mut Vec<(&'t str, Assembled<'t>)>,
-    values: &'t Map<String, Value>,
-) -> Result<(), Stop>
-    ensures { OnOk result (put_all (map named_view members.new.items) no_members
-        ≡ put_members (members_view values.now.entries)
-        (put_all (map named_view members.old.items) no_members)) }
-{
-    for (name, value) in values.iter() {
-        members.push((name.as_str(), Assembled::Value(value)))?;
-    }
-    Ok(())
-}
-
-// The members of a list as a map, where their names ascend.
-pub(crate) fn by_name<'t>(
-    alloc: Global,
-    members: Vec<(&'t str, Assembled<'t>)>,
-) -> Result<BTreeMap<&'t str, Assembled<'t>>, Stop>
-    ensures { IfOk result (λ m. members_assembled m.entries
-        ≡ members_assembled members.entry.items) }
-{
-    if !is_ascending(&members) {
-        return Err(Stop::NotCovered);
-    }
-    let mut map = BTreeMap::new(alloc);
-    for (name, part) in members {
-        put_part(&mut map, name, part)?;
-    }
-    Ok(map)
-}
-
-// Puts the part in, in the place of a member of its name.
-pub(crate) fn put_part<'t>(
-    members: &mut BTreeMap<&'t str, Assembled<'t>>,
-    name: &'t str,
-    part: Assembled<'t>,
-) -> Result<(), Stop>
-    ensures { OnOk result (members_assembled members.new.entries
-        ≡ put name.now (assembled_view part.entry) (members_assembled members.old.entries)) }
-{
-    members.insert(name, part)?;
-    Ok(())
-}
-
-// Finds the part of this name.
-pub(crate) fn find_part<'m, 't>(
-    members: &'m BTreeMap<&'t str, Assembled<'t>>,
-    name: &str,
-) -> Option<&'m Assembled<'t>>
-    ensures { option_map (λ p. assembled_view p.now) result
-        ≡ get_member name.now (members_assembled members.now.entries) }
-{
-    members.get(name)
-}
-
-// Whether there is a member of this name.
-pub(crate) fn has_part<'t>(members: &BTreeMap<&'t str, Assembled<'t>>, name: &str) -> bool
-    ensures { result ≡ is_some (get_member name.now (members_assembled members.now.entries)) }
-{
-    find_part(members, name).is_some()
-}
-
-// Takes the part of this name out.
-pub(crate) fn take_part<'t>(
-    members: &mut BTreeMap<&'t str, Assembled<'t>>,
-    name: &str,
-) -> Option<Assembled<'t>>
-    ensures value { option_map assembled_view result
-        ≡ get_member name.now (members_assembled members.old.entries) }
-    ensures rest { members_assembled members.new.entries
-        ≡ without name.now (members_assembled members.old.entries) }
-    ensures ascending { IsSorted (members_assembled members.old.entries) }
-{
-    // `len` says that the keys ascend.
-    if members.len() == 0 {
-        return None;
-    }
-    members.remove(name)
 }
 
 // The members of an object.
-pub(crate) fn into_members<'t>(
-    alloc: Global,
-    part: Assembled<'t>,
-) -> Result<BTreeMap<&'t str, Assembled<'t>>, Stop>
-    ensures { IfOk result (λ m. assembled_view part.entry ≡ object (members_assembled m.entries)) }
+fn into_members<'t>(alloc: Global, part: Assembled<'t>) -> Result<MemberList<'t>, Stop>
+    ensures { IfOk result (λ m. assembled_view part.entry ≡ object m) }
 {
     match part {
-        Assembled::Object(members) => by_name(alloc, members),
-        Assembled::Value(Value::Object(members)) => members_of(alloc, members),
+        Assembled::Object(members) => MemberList::of(members),
+        Assembled::Value(Value::Object(members)) => MemberList::of_values(alloc, members),
         _ => Err(Stop::NotCovered),
     }
-}
-
-// All members as parts.
-pub(crate) fn members_of<'t>(
-    alloc: Global,
-    values: &'t Map<String, Value>,
-) -> Result<BTreeMap<&'t str, Assembled<'t>>, Stop>
-    ensures { IfOk result (λ m. members_assembled m.entries ≡ members_view values.now.entries) }
-{
-    let mut members = BTreeMap::new(alloc);
-    put_values(&mut members, values)?;
-    Ok(members)
-}
-
-// Puts the members in, which take the place of members of their names.
-pub(crate) fn put_values<'t>(
-    members: &mut BTreeMap<&'t str, Assembled<'t>>,
-    values: &'t Map<String, Value>,
-) -> Result<(), Stop>
-    ensures values { OnOk result (members_assembled members.new.entries
-        ≡ put_members (members_view values.now.entries) (members_assembled members.old.entries)) }
-    ensures ascending { OnOk result (IsSorted (members_view values.now.entries)) }
-{
-    for (name, value) in values.iter() {
-        put_part(members, name.as_str(), Assembled::Value(value))?;
-    }
-    Ok(())
 }
 
 // The items of a list.
@@ -272,84 +307,4 @@ fn items_of<'t>(alloc: Global, values: &'t Vec<Value>) -> Result<Vec<Assembled<'
         parts.push(Assembled::Value(value))?;
     }
     Ok(parts)
-}
-
-// The members of a schema once it is an object.
-pub(crate) fn members_in<'t>(
-    alloc: Global,
-    schema: Assembled<'t>,
-) -> Result<BTreeMap<&'t str, Assembled<'t>>, Stop>
-    ensures { IfOk result (λ m. members_assembled m.entries
-        ≡ members_in (assembled_view schema.entry)) }
-{
-    match schema {
-        Assembled::Object(members) => by_name(alloc, members),
-        Assembled::Reference(target) => lone_member(alloc, "$ref", Assembled::Text(target)),
-        Assembled::Value(value) => members_in_value(alloc, value),
-        _ => Err(Stop::NotCovered),
-    }
-}
-
-fn members_in_value<'t>(
-    alloc: Global,
-    value: &'t Value,
-) -> Result<BTreeMap<&'t str, Assembled<'t>>, Stop>
-    ensures { IfOk result (λ m. members_assembled m.entries ≡ members_in (view value.now)) }
-{
-    match value {
-        Value::Object(members) => members_of(alloc, members),
-        Value::Bool(true) => Ok(BTreeMap::new(alloc)),
-        Value::Bool(false) => lone_member(alloc, "not", Assembled::Object(Vec::new(alloc))),
-        _ => Err(Stop::NotCovered),
-    }
-}
-
-// This member alone.
-fn lone_member<'t>(
-    alloc: Global,
-    name: &'t str,
-    part: Assembled<'t>,
-) -> Result<BTreeMap<&'t str, Assembled<'t>>, Stop>
-    ensures { IfOk result (λ m. members_assembled m.entries
-        ≡ member name.now (assembled_view part.entry) no_members) }
-{
-    let mut members = BTreeMap::new(alloc);
-    put_part(&mut members, name, part)?;
-    Ok(members)
-}
-
-// Takes the members of the object of this name out: none where there is no such object.
-pub(crate) fn take_members<'t>(
-    alloc: Global,
-    members: &mut BTreeMap<&'t str, Assembled<'t>>,
-    name: &str,
-) -> Result<BTreeMap<&'t str, Assembled<'t>>, Stop>
-    ensures value { IfOk result (λ m. object (members_assembled m.entries)
-        ≡ there_or (object no_members) (get_member name.now (members_assembled members.old.entries))) }
-    ensures rest { OnOk result (members_assembled members.new.entries
-        ≡ without name.now (members_assembled members.old.entries)) }
-    ensures ascending { OnOk result (IsSorted (members_assembled members.old.entries)) }
-{
-    match take_part(members, name) {
-        Some(part) => into_members(alloc, part),
-        None => Ok(BTreeMap::new(alloc)),
-    }
-}
-
-// Takes the items of the list of this name out: none where there is no such list.
-pub(crate) fn take_items<'t>(
-    alloc: Global,
-    members: &mut BTreeMap<&'t str, Assembled<'t>>,
-    name: &str,
-) -> Result<Vec<Assembled<'t>>, Stop>
-    ensures value { IfOk result (λ v. array (items_assembled v.items)
-        ≡ there_or (array no_items) (get_member name.now (members_assembled members.old.entries))) }
-    ensures rest { OnOk result (members_assembled members.new.entries
-        ≡ without name.now (members_assembled members.old.entries)) }
-    ensures ascending { OnOk result (IsSorted (members_assembled members.old.entries)) }
-{
-    match take_part(members, name) {
-        Some(part) => into_items(alloc, part),
-        None => Ok(Vec::new(alloc)),
-    }
 }

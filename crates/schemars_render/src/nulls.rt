@@ -6,17 +6,14 @@ ghost use Rattle.serde_json.specs.View.{view};
 ghost use Rattle.schemars_schema.specs.Acceptance.{is_null};
 ghost use Rattle.schemars_schema.specs.Edits.{holds_text};
 ghost use Rattle.schemars_builders.specs.AllowNull.{allow_null, or_null, is_combined, accepts_everything, holds_null, null_in_type, type_with_null, null_in_values, null_in_enum, enum_with_null};
-ghost use Rattle.schemars_render.specs.Assembled.{assembled_view, items_assembled, members_assembled};
+ghost use Rattle.schemars_render.specs.Assembled.{assembled_view, items_assembled};
 
 use crate::assembled::Assembled;
 use crate::error::Stop;
-use crate::members::{
-    by_name, find_part, has_part, into_items, lone_object, members_of, object, put_part, take_part,
-};
+use crate::members::{MemberList, into_items, lone_object};
 use crate::tagging::is_text_part;
 use serde_json::Value;
 use std::alloc::Global;
-use std::collections::BTreeMap;
 
 // The schema, which accepts null too.
 pub(crate) fn with_null<'t>(alloc: Global, schema: Assembled<'t>) -> Result<Assembled<'t>, Stop>
@@ -25,7 +22,7 @@ pub(crate) fn with_null<'t>(alloc: Global, schema: Assembled<'t>) -> Result<Asse
     match schema {
         Assembled::Reference(target) => or_null(alloc, Assembled::Reference(target)),
         Assembled::Object(members) => {
-            let members = by_name(alloc, members)?;
+            let members = MemberList::of(members)?;
             null_in_object(alloc, members)
         }
         Assembled::Value(value) => null_in_value(alloc, value),
@@ -38,7 +35,7 @@ fn null_in_value<'t>(alloc: Global, value: &'t Value) -> Result<Assembled<'t>, S
 {
     match value {
         Value::Object(members) => {
-            let members = members_of(alloc, members)?;
+            let members = MemberList::of_values(alloc, members)?;
             null_in_object(alloc, members)
         }
         Value::Bool(true) => Ok(Assembled::Value(value)),
@@ -56,39 +53,34 @@ fn or_null<'t>(alloc: Global, schema: Assembled<'t>) -> Result<Assembled<'t>, St
 }
 
 // A choice of others is not covered, since it may accept null already.
-fn null_in_object<'t>(
-    alloc: Global,
-    members: BTreeMap<&'t str, Assembled<'t>>,
-) -> Result<Assembled<'t>, Stop>
-    ensures { IfOk result (λ p. assembled_view p
-        ≡ allow_null (object (members_assembled members.entry.entries))) }
+fn null_in_object<'t>(alloc: Global, members: MemberList<'t>) -> Result<Assembled<'t>, Stop>
+    ensures { IfOk result (λ p. assembled_view p ≡ allow_null (object members.entry)) }
 {
-    if has_part(&members, "anyOf") {
+    if members.has("anyOf") {
         return Err(Stop::NotCovered);
     }
     if is_combined(&members)? {
-        let schema = object(alloc, members)?;
-        return or_null(alloc, schema);
+        return or_null(alloc, members.into_object());
     }
     let mut members = members;
     null_in_type(alloc, &mut members)?;
     null_in_values(alloc, &mut members)?;
-    object(alloc, members)
+    Ok(members.into_object())
 }
 
 // Whether a schema may refuse null by more than its own type.
-fn is_combined<'t>(members: &BTreeMap<&'t str, Assembled<'t>>) -> Result<bool, Stop>
-    ensures { IfOk result (λ b. b ≡ is_combined (object (members_assembled members.now.entries))) }
+fn is_combined(members: &MemberList<'_>) -> Result<bool, Stop>
+    ensures { IfOk result (λ b. b ≡ is_combined (object members.now)) }
 {
-    let combines = has_part(members, "if")
-        || has_part(members, "allOf")
-        || has_part(members, "anyOf")
-        || has_part(members, "oneOf")
-        || has_part(members, "$ref");
+    let combines = members.has("if")
+        || members.has("allOf")
+        || members.has("anyOf")
+        || members.has("oneOf")
+        || members.has("$ref");
     if combines {
         return Ok(true);
     }
-    match find_part(members, "not") {
+    match members.find("not") {
         Some(Assembled::Value(schema)) => Ok(accepts_everything(schema)),
         Some(_) => Err(Stop::NotCovered),
         None => Ok(false),
@@ -106,18 +98,14 @@ fn accepts_everything(schema: &Value) -> bool
 }
 
 // Lets the type have null, where there is one.
-fn null_in_type<'t>(
-    alloc: Global,
-    members: &mut BTreeMap<&'t str, Assembled<'t>>,
-) -> Result<(), Stop>
-    ensures { OnOk result (members_assembled members.new.entries ≡ null_in_type
-        (get_member (codes "type") (members_assembled members.old.entries))
-        (members_assembled members.old.entries)) }
+fn null_in_type<'t>(alloc: Global, members: &mut MemberList<'t>) -> Result<(), Stop>
+    ensures { OnOk result (members.new
+        ≡ null_in_type (get_member (codes "type") members.old) members.old) }
 {
-    match take_part(members, "type") {
+    match members.take("type") {
         Some(type_names) => {
             let with_null = type_with_null(alloc, type_names)?;
-            put_part(members, "type", with_null)
+            members.put("type", with_null)
         }
         None => Ok(()),
     }
@@ -172,14 +160,10 @@ pub(crate) fn holds_text(parts: &[Assembled<'_>], text: &str) -> bool
 }
 
 // Lets `const` and `enum` admit null.
-fn null_in_values<'t>(
-    alloc: Global,
-    members: &mut BTreeMap<&'t str, Assembled<'t>>,
-) -> Result<(), Stop>
-    ensures { OnOk result (members_assembled members.new.entries
-        ≡ null_in_values (members_assembled members.old.entries)) }
+fn null_in_values<'t>(alloc: Global, members: &mut MemberList<'t>) -> Result<(), Stop>
+    ensures { OnOk result (members.new ≡ null_in_values members.old) }
 {
-    match take_part(members, "const") {
+    match members.take("const") {
         Some(constant) => const_or_null(alloc, members, constant),
         None => null_in_enum(alloc, members),
     }
@@ -188,33 +172,29 @@ fn null_in_values<'t>(
 // Makes a `const` that was taken out an `enum` of its value and null. A null is not covered.
 fn const_or_null<'t>(
     alloc: Global,
-    members: &mut BTreeMap<&'t str, Assembled<'t>>,
+    members: &mut MemberList<'t>,
     constant: Assembled<'t>,
 ) -> Result<(), Stop>
     ensures other { OnOk result (is_null (assembled_view constant.entry) ≡ false) }
-    ensures becomes { OnOk result (members_assembled members.new.entries
+    ensures becomes { OnOk result (members.new
         ≡ put (codes "enum") (array (item (assembled_view constant.entry) (item null no_items)))
-        (members_assembled members.old.entries)) }
+        members.old) }
 {
     if is_null_part(&constant) {
         return Err(Stop::NotCovered);
     }
     let values = vec![in alloc; constant, Assembled::Null]?;
-    put_part(members, "enum", Assembled::List(values))
+    members.put("enum", Assembled::List(values))
 }
 
-fn null_in_enum<'t>(
-    alloc: Global,
-    members: &mut BTreeMap<&'t str, Assembled<'t>>,
-) -> Result<(), Stop>
-    ensures { OnOk result (members_assembled members.new.entries ≡ null_in_enum
-        (get_member (codes "enum") (members_assembled members.old.entries))
-        (members_assembled members.old.entries)) }
+fn null_in_enum<'t>(alloc: Global, members: &mut MemberList<'t>) -> Result<(), Stop>
+    ensures { OnOk result (members.new
+        ≡ null_in_enum (get_member (codes "enum") members.old) members.old) }
 {
-    match take_part(members, "enum") {
+    match members.take("enum") {
         Some(values) => {
             let with_null = enum_with_null(alloc, values)?;
-            put_part(members, "enum", with_null)
+            members.put("enum", with_null)
         }
         None => Ok(()),
     }

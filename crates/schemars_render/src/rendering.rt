@@ -31,9 +31,9 @@ pub struct Rendered {
 /// Returns the ordered text of the schema that the template is with these answers in the places of
 /// the rows, if it is JSON of 64-bit whole numbers, and what it needs, if `asks_needs`.
 ///
-/// There is no text where the schema has to be made first: where an answer is missing, and in a few
-/// rare cases where null, a tag or the members of another schema are added, as where both schemas
-/// have an `anyOf`.
+/// There is no text where the schema has to be made first: where an answer is missing, where the
+/// members of another schema are added, as in a struct with flattened rows, and in a few rare cases
+/// where null or a tag is added, as null to a schema that has an `anyOf`.
 ///
 /// # Errors
 ///

@@ -5,16 +5,13 @@ ghost use Rattle.serde_json.specs.Find.{as_str};
 ghost use Rattle.schemars_schema.specs.Edits.{is_text};
 ghost use Rattle.schemars_builders.specs.Properties.{has_null_type, with_property, required_first, tagged, closed_where, internally_tagged_variant};
 ghost use Rattle.schemars_builders.specs.Variants.{unit_variant};
-ghost use Rattle.schemars_render.specs.Assembled.{assembled_view, members_assembled};
+ghost use Rattle.schemars_render.specs.Assembled.{assembled_view};
 
 use crate::assembled::Assembled;
 use crate::error::Stop;
-use crate::members::{
-    find_part, has_part, members_in, object, object_of, put_part, take_items, take_members,
-};
+use crate::members::{MemberList, members_in, object_of};
 use schemars_schema::edits::is_text;
 use std::alloc::Global;
-use std::collections::BTreeMap;
 
 // The schema of a variant, made that of objects with the variant's name under the tag.
 pub(crate) fn with_tag<'t>(
@@ -31,13 +28,15 @@ pub(crate) fn with_tag<'t>(
     let is_closed = closed && has_null_type(&members);
     put_tag(alloc, &mut members, tag, name)?;
     close_where(&mut members, is_closed)?;
-    object(alloc, members)
+    Ok(members.into_object())
 }
 
-fn has_null_type<'t>(members: &BTreeMap<&'t str, Assembled<'t>>) -> bool
-    ensures { result ≡ has_null_type (object (members_assembled members.now.entries)) }
+fn has_null_type(members: &MemberList<'_>) -> bool
+    ensures { result ≡ has_null_type (object members.now) }
 {
-    find_part(members, "type").is_some_and(|part| is_text_part(part, "null"))
+    members
+        .find("type")
+        .is_some_and(|part| is_text_part(part, "null"))
 }
 
 // Whether the part is this text.
@@ -54,14 +53,13 @@ pub(crate) fn is_text_part(part: &Assembled<'_>, text: &str) -> bool
 // Makes the keywords those of objects that have to have the tag.
 fn put_tag<'t>(
     alloc: Global,
-    members: &mut BTreeMap<&'t str, Assembled<'t>>,
+    members: &mut MemberList<'t>,
     tag: &'t str,
     name: &'t str,
 ) -> Result<(), Stop>
-    ensures { OnOk result (members_assembled members.new.entries
-        ≡ tagged tag.now name.now (members_assembled members.old.entries)) }
+    ensures { OnOk result (members.new ≡ tagged tag.now name.now members.old) }
 {
-    put_part(members, "type", Assembled::Text("object"))?;
+    members.put("type", Assembled::Text("object"))?;
     let property = unit_variant(alloc, name)?;
     put_property(alloc, members, tag, property)?;
     require_first(alloc, members, tag)
@@ -80,44 +78,33 @@ fn unit_variant<'t>(alloc: Global, name: &'t str) -> Result<Assembled<'t>, Stop>
 // Puts the schema of a property in.
 fn put_property<'t>(
     alloc: Global,
-    members: &mut BTreeMap<&'t str, Assembled<'t>>,
+    members: &mut MemberList<'t>,
     name: &'t str,
     property: Assembled<'t>,
 ) -> Result<(), Stop>
-    ensures { OnOk result (members_assembled members.new.entries
-        ≡ with_property name.now (assembled_view property.entry)
-        (members_assembled members.old.entries)) }
+    ensures { OnOk result (members.new
+        ≡ with_property name.now (assembled_view property.entry) members.old) }
 {
-    let mut properties = take_members(alloc, members, "properties")?;
-    put_part(&mut properties, name, property)?;
-    let with_property = object(alloc, properties)?;
-    put_part(members, "properties", with_property)
+    let mut properties = members.take_members(alloc, "properties")?;
+    properties.put(name, property)?;
+    members.put("properties", properties.into_object())
 }
 
 // Puts the name before those that are required.
-fn require_first<'t>(
-    alloc: Global,
-    members: &mut BTreeMap<&'t str, Assembled<'t>>,
-    name: &'t str,
-) -> Result<(), Stop>
-    ensures { OnOk result (members_assembled members.new.entries
-        ≡ required_first name.now (members_assembled members.old.entries)) }
+fn require_first<'t>(alloc: Global, members: &mut MemberList<'t>, name: &'t str) -> Result<(), Stop>
+    ensures { OnOk result (members.new ≡ required_first name.now members.old) }
 {
-    let mut names = take_items(alloc, members, "required")?;
+    let mut names = members.take_items(alloc, "required")?;
     names.insert(0, Assembled::Text(name))?;
-    put_part(members, "required", Assembled::List(names))
+    members.put("required", Assembled::List(names))
 }
 
 // Excludes other keys, unless they are spoken of.
-fn close_where<'t>(
-    members: &mut BTreeMap<&'t str, Assembled<'t>>,
-    is_closed: bool,
-) -> Result<(), Stop>
-    ensures { OnOk result (members_assembled members.new.entries
-        ≡ closed_where is_closed (members_assembled members.old.entries)) }
+fn close_where<'t>(members: &mut MemberList<'t>, is_closed: bool) -> Result<(), Stop>
+    ensures { OnOk result (members.new ≡ closed_where is_closed members.old) }
 {
-    if !is_closed || has_part(members, "additionalProperties") {
+    if !is_closed || members.has("additionalProperties") {
         return Ok(());
     }
-    put_part(members, "additionalProperties", Assembled::Bool(false))
+    members.put("additionalProperties", Assembled::Bool(false))
 }

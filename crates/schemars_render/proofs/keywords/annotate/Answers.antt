@@ -1,5 +1,4 @@
 use Rattle.std.proofs.Common.{◌∙◌, ap}
-use Rattle.std.proofs.lemmas.Result.{IfOk-weaker}
 use Rattle.serde_json.specs.Data.{object}
 use Rattle.serde_json.specs.View.{members_view}
 use Rattle.schemars_schema.specs.SchemaData.{put_members}
@@ -10,7 +9,6 @@ use Rattle.schemars_render.proofs.keywords.annotate.Goals as goal
 pub returns : goal.returns
 returns c =
     let notes = c.args.notes.now.entries in
-    IfOk-weaker c.object_of.result _ _
-    (λ p h. h ∙ (ap object (c.in_ok-push_values.ensures ∙ ap (put_members (members_view notes)) c.in_ok-members.ensures)
-    ∙ annotated-some notes c.is_empty.result c.if-is_empty.false c.is_empty.ensures.1 (assembled_view c.args.schema)))
-    c.object_of.ensures
+    c.into_object.ensures
+    ∙ (ap object (c.in_ok-put_values.ensures ∙ ap (put_members (members_view notes)) c.in_ok-members.ensures)
+    ∙ annotated-some notes c.is_empty.result c.if-is_empty.false c.is_empty.ensures.1 (assembled_view c.args.schema))

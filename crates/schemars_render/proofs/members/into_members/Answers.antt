@@ -7,7 +7,7 @@ use Rattle.schemars_render.proofs.members.into_members.Goals as goal
 
 pub returns-in-Object : goal.returns-in-Object
 returns-in-Object c =
-    IfOk-weaker c.by_name.result _ _
+    IfOk-weaker c.of.result _ _
     (λ m h. ap assembled_view c.in-Object.is
     ∙ (seen_object c.in-Object.members ∙ ap object (sym (h ∙ ap (λ v. members_assembled v.items) c.in-Object.members-is))))
-    c.by_name.ensures
+    c.of.ensures

@@ -2,25 +2,25 @@
 use Rattle.std.proofs.Common.{codes, ap, ◌∙◌}
 use Rattle.std.proofs.lemmas.Result.{on_ok_weaker}
 use Rattle.schemars_builders.specs.AllowNull.{null_in_type, type_with_null}
-use Rattle.schemars_render.specs.Assembled.{assembled_view, members_assembled}
+use Rattle.schemars_render.specs.Assembled.{assembled_view}
 use Rattle.schemars_render.proofs.Changed.{retaken, without-missing}
 use Rattle.schemars_render.proofs.nulls.null_in_type.Goals as goal
 
 pub returns-in_ok-with_null-in-Some : goal.returns-in_ok-with_null-in-Some
 returns-in_ok-with_null-in-Some c =
-    let old = members_assembled c.args.members.now.entries in
-    let mid = members_assembled c.take_part.new.members.entries in
+    let old = c.args.members.now in
+    let mid = c.take.new.self in
     let first = assembled_view c.in-Some.type_names in
-    on_ok_weaker c.put_part.result
+    on_ok_weaker c.put.result
     (λ put_in.
     retaken (codes "type") type_with_null first (assembled_view c.in_ok-with_null-in-Some.with_null) old mid
-    (members_assembled c.put_part.new.members.entries) c.in-Some.ensures.ascending c.in-Some.ensures.value
+    c.put.new.self c.in-Some.ensures.ascending c.in-Some.ensures.value
     c.in-Some.ensures.rest c.in_ok-with_null-in-Some.ensures put_in
     ∙ ap (λ o. null_in_type o old) c.in-Some.ensures.value)
-    c.put_part.ensures
+    c.put.ensures
 
 pub returns-in-None : goal.returns-in-None
 returns-in-None c =
-    let old = members_assembled c.args.members.now.entries in
+    let old = c.args.members.now in
     c.in-None.ensures.rest
     ∙ (without-missing (codes "type") old c.in-None.ensures.value ∙ ap (λ o. null_in_type o old) c.in-None.ensures.value)

@@ -3,14 +3,13 @@ use Rattle.std.proofs.Common.{◌≡◌, codes, ap, ◌∙◌}
 use Rattle.std.proofs.lemmas.Result.{on_ok_weaker}
 use Rattle.serde_json.specs.Find.{get_member}
 use Rattle.schemars_builders.specs.AllowNull.{null_in_enum, null_in_const}
-use Rattle.schemars_render.specs.Assembled.{members_assembled}
 use Rattle.schemars_render.proofs.Changed.{without-missing}
 use Rattle.schemars_render.proofs.nulls.null_in_values.Goals as goal
 
 pub returns-in-None : goal.returns-in-None
 returns-in-None c =
-    let old = members_assembled c.args.members.now.entries in
-    let same : members_assembled c.take_part.new.members.entries ≡ old =
+    let old = c.args.members.now in
+    let same : c.take.new.self ≡ old =
     c.in-None.ensures.rest ∙ without-missing (codes "const") old c.in-None.ensures.value in
     on_ok_weaker c.null_in_enum.result
     (λ put_in.

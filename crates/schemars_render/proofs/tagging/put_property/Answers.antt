@@ -3,22 +3,22 @@ use Rattle.std.proofs.Common.{◌≡◌, codes, ap, ◌∙◌}
 use Rattle.std.proofs.lemmas.Result.{on_ok_weaker}
 use Rattle.serde_json.specs.Data.{object, no_members, put}
 use Rattle.schemars_schema.specs.Edits.{with_member}
-use Rattle.schemars_render.specs.Assembled.{assembled_view, members_assembled}
+use Rattle.schemars_render.specs.Assembled.{assembled_view}
 use Rattle.schemars_render.proofs.Changed.{changed_again}
 use Rattle.schemars_render.proofs.tagging.put_property.Goals as goal
 
 pub returns : goal.returns
 returns c =
     let key = codes "properties" in
-    let old = members_assembled c.args.members.now.entries in
-    let mid = members_assembled c.take_members.new.members.entries in
-    let inner = object (members_assembled c.in_ok-properties.properties.entries) in
+    let old = c.args.members.now in
+    let mid = c.take_members.new.self in
+    let inner = object c.in_ok-properties.properties in
     let change = with_member c.args.name.now (assembled_view c.args.property) in
-    let inside : assembled_view c.in_ok-with_property.with_property ≡ change inner =
-    c.in_ok-with_property.ensures ∙ ap object c.in_ok-put_part.ensures in
-    on_ok_weaker c.put_part-2.result
+    let inside : assembled_view c.into_object.result ≡ change inner =
+    c.into_object.ensures ∙ ap object c.in_ok-put.ensures in
+    on_ok_weaker c.put-2.result
     (λ put_in.
     put_in ∙ (ap (λ e. put key e mid) inside
     ∙ (ap (put key (change inner)) c.in_ok-properties.ensures.rest
     ∙ changed_again key change (object no_members) inner old c.in_ok-properties.ensures.ascending c.in_ok-properties.ensures.value)))
-    c.put_part-2.ensures
+    c.put-2.ensures

@@ -3,7 +3,7 @@ use Rattle.std.proofs.Common.{◌≡◌, codes, ap, ◌∙◌}
 use Rattle.std.proofs.lemmas.Result.{on_ok_weaker}
 use Rattle.serde_json.specs.Data.{string, array, no_items, item, put}
 use Rattle.schemars_schema.specs.Edits.{with_first}
-use Rattle.schemars_render.specs.Assembled.{assembled_view, items_assembled, members_assembled}
+use Rattle.schemars_render.specs.Assembled.{assembled_view, items_assembled}
 use Rattle.schemars_render.specs.declared.assembled.Assembled as part
 use Rattle.schemars_render.proofs.Changed.{changed_again}
 use Rattle.schemars_render.proofs.Parts.{seen_list, seen_text}
@@ -12,17 +12,17 @@ use Rattle.schemars_render.proofs.tagging.require_first.Goals as goal
 pub returns : goal.returns
 returns c =
     let key = codes "required" in
-    let old = members_assembled c.args.members.now.entries in
-    let mid = members_assembled c.take_items.new.members.entries in
+    let old = c.args.members.now in
+    let mid = c.take_items.new.self in
     let ds = items_assembled c.in_ok-names.names.items in
     let change = with_first (string c.args.name.now) in
     let names = c.insert.new.self in
     let more : items_assembled names.items ≡ item (string c.args.name.now) ds =
     ap items_assembled c.in_ok-insert.ensures.items ∙ ap (λ d. item d ds) (seen_text c.args.name) in
     let inside : assembled_view (part.List names) ≡ change (array ds) = seen_list names ∙ ap array more in
-    on_ok_weaker c.put_part.result
+    on_ok_weaker c.put.result
     (λ put_in.
     put_in ∙ (ap (λ e. put key e mid) inside
     ∙ (ap (put key (change (array ds))) c.in_ok-names.ensures.rest
     ∙ changed_again key change (array no_items) (array ds) old c.in_ok-names.ensures.ascending c.in_ok-names.ensures.value)))
-    c.put_part.ensures
+    c.put.ensures
