@@ -3,9 +3,10 @@ ghost use Rattle.std.specs.Prelude.{◌≡◌, map, IfOk, OnOk};
 ghost use Rattle.serde_json.specs.Data.{array};
 ghost use Rattle.schemars_schema.specs.SchemaData.{object_of};
 ghost use Rattle.schemars_builders.specs.NullLaw.{text_items};
+ghost use Rattle.schemars_documents.specs.Documents.{type_alone};
 ghost use Rattle.schemars_documents.specs.Template.{list, filled, left, first, behind};
 ghost use Rattle.schemars_documents.specs.OfShape.{object_with, templates_of};
-ghost use Rattle.schemars_documents.specs.View.{template_view, value_view, keyword_view, property_view, scalar_view, scalar_keyword};
+ghost use Rattle.schemars_documents.specs.View.{template_view, node_view, value_view, keyword_view, property_view, scalar_view, scalar_keyword};
 ghost use Rattle.schemars_render.specs.Assembled.{assembled_view};
 
 use crate::assembled::Assembled;
@@ -14,13 +15,13 @@ use crate::keywords::{annotate, titled};
 use crate::members::object_of;
 use crate::nulls::with_null;
 use crate::tagging::with_tag;
-use schemars_documents::template::{Scalar, SchemaTemplate, ValueTemplate};
+use schemars_documents::template::{Scalar, SchemaNode, SchemaTemplate, ValueTemplate};
 use std::alloc::Global;
 use std::collections::VecDeque;
 
 // The schema with these answers in the places of the rows. The answers for what follows are left.
+// The notes come after the rest, of which they take the place.
 #[cycle(assemble)]
-#[tactic(auto, using(schemars_documents::proofs::Templates::seen_object))]
 pub(crate) fn assemble_schema<'a>(
     alloc: Global,
     template: &'a SchemaTemplate<'_>,
@@ -31,26 +32,42 @@ pub(crate) fn assemble_schema<'a>(
     ensures left { OnOk result (map assembled_view answers.new.items
         ≡ left (template_view template.now) (map assembled_view answers.old.items)) }
 {
-    match template {
-        SchemaTemplate::Finished(schema) => Ok(Assembled::Value(schema.as_value())),
-        SchemaTemplate::Keywords(keywords) => assemble_keywords(alloc, keywords),
-        SchemaTemplate::Asked(_) => next_answer(answers),
-        SchemaTemplate::Object(keywords) => assemble_object(alloc, keywords, answers),
-        SchemaTemplate::Nullable(inner) => {
+    let schema = assemble_node(alloc, &template.node, answers)?;
+    match template.notes {
+        Some(notes) => annotate(alloc, schema, notes),
+        None => Ok(schema),
+    }
+}
+
+#[cycle(assemble)]
+#[tactic(auto, using(schemars_documents::proofs::Templates::seen_object))]
+fn assemble_node<'a>(
+    alloc: Global,
+    node: &'a SchemaNode<'_>,
+    answers: &mut VecDeque<Assembled<'a>>,
+) -> Result<Assembled<'a>, Stop>
+    ensures value { IfOk result (λ p. assembled_view p
+        ≡ filled (node_view node.now) (map assembled_view answers.old.items)) }
+    ensures left { OnOk result (map assembled_view answers.new.items
+        ≡ left (node_view node.now) (map assembled_view answers.old.items)) }
+{
+    match node {
+        SchemaNode::Finished(schema) => Ok(Assembled::Value(schema.as_value())),
+        SchemaNode::Keywords(keywords) => assemble_keywords(alloc, keywords),
+        SchemaNode::OfType(name) => assemble_type(alloc, &**name),
+        SchemaNode::Asked(_) => next_answer(answers),
+        SchemaNode::Object(keywords) => assemble_object(alloc, keywords, answers),
+        SchemaNode::Nullable(inner) => {
             let schema = assemble_schema(alloc, inner, answers)?;
             with_null(alloc, schema)
         }
-        SchemaTemplate::Noted(notes, inner) => {
-            let schema = assemble_schema(alloc, inner, answers)?;
-            annotate(alloc, schema, &**notes)
-        }
-        SchemaTemplate::Titled(title, inner) => {
+        SchemaNode::Titled(title, inner) => {
             let schema = assemble_schema(alloc, inner, answers)?;
             titled(alloc, schema, &**title)
         }
         // as a JSON value it takes less, since its answers are schemas
-        SchemaTemplate::WithMembers(..) => Err(Stop::NotCovered),
-        SchemaTemplate::Tagged {
+        SchemaNode::WithMembers(..) => Err(Stop::NotCovered),
+        SchemaNode::Tagged {
             tag,
             name,
             closed,
@@ -149,6 +166,14 @@ fn next_answer<'a>(answers: &mut VecDeque<Assembled<'a>>) -> Result<Assembled<'a
         Some(answer) => Ok(answer),
         None => Err(Stop::NotCovered),
     }
+}
+
+// The schema of all values of one JSON type.
+fn assemble_type<'a>(alloc: Global, name: &'a str) -> Result<Assembled<'a>, Stop>
+    ensures { IfOk result (λ p. assembled_view p ≡ type_alone name.now) }
+{
+    let members = vec![in alloc; ("type", Assembled::Text(name))]?;
+    object_of(members)
 }
 
 // A finished schema of these keywords.
