@@ -11,7 +11,12 @@ use crate::members::members_in;
 use serde_json::{Map, Value};
 use std::alloc::Global;
 
-// The schema with these notes, which take the place of members of their names.
+// How many notes are put into a list of members. Each is looked for in the list, so that many take
+// less in a map.
+const MOST_NOTES: usize = 32;
+
+// The schema with these notes, which take the place of members of their names. More than
+// `MOST_NOTES` are not covered.
 pub(crate) fn annotate<'t>(
     alloc: Global,
     schema: Assembled<'t>,
@@ -22,6 +27,9 @@ pub(crate) fn annotate<'t>(
 {
     if notes.is_empty() {
         return Ok(schema);
+    }
+    if notes.len() > MOST_NOTES {
+        return Err(Stop::NotCovered);
     }
     let mut members = members_in(alloc, schema)?;
     members.put_values(notes)?;
