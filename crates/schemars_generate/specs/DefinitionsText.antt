@@ -33,7 +33,8 @@ pub record IsDefinitionsText {O : Type 0} (Q : TransformStep O) (ts : Transforms
 -- why there is none: memory, no such row, or the transforms of the definitions that a generator holds once it has made a part for row n
 abbrev pub IsDefinitionsRefusal : {O : Type 0} → TransformStep O → Transforms O → State → ℕ → GenerateError → Type 0
 IsDefinitionsRefusal {O} Q ts old n e =
-    (e ≡ OutOfMemory) ⊎ (e ≡ UnknownType n) ⊎ ((new : State) × HasMadePart old new n × (after : Transforms O) × IsTakeRefusal Q ts after new e)
+    (e ≡ OutOfMemory) ⊎ (e ≡ UnknownType n)
+    ⊎ ((new : State) × HasMadePart old new n × (after : Transforms O) × IsTakeRefusal Q ts after new e)
 
 -- the transforms are those of OpenAPI, and there are no definitions yet
 pub record TakesEarly {O : Type 0} (g : Generator O) : Type 0 where
