@@ -54,7 +54,7 @@ schema_node (node.Object es) = object_with (map under_name es.items)
 schema_node (node.Nullable t) = spec.nullable t.value
 schema_node (node.Titled name t) = spec.noted (title_alone name.now) t.value
 schema_node (node.WithMembers t asks) = with_answers t.value (map ask_of asks.items)
-schema_node (node.Tagged tag name closed t) = spec.tagged tag.now name.now closed t.value
+schema_node (node.Tagged tag t) = spec.tagged tag.value.tag.now tag.value.name.now tag.value.closed t.value
 
 abbrev pub value_node : ValueTemplate-F Template Template Template → Template
 value_node (node.Value v) = spec.finished (view v)

@@ -40,6 +40,17 @@ pub enum Scalar<'t> {
     Integer(i64),
 }
 
+/// The variant of an internally tagged enum that an object has to name.
+#[derive(Clone, Copy)]
+pub struct Tag<'t> {
+    /// The member that names the variant.
+    pub tag: &'t str,
+    /// The name of the variant.
+    pub name: &'t str,
+    /// Whether all other keys are forbidden where the variant is a unit.
+    pub closed: bool,
+}
+
 /// A schema in which rows are asked; their answers are filled in later.
 #[cycle(template)]
 #[derive(Drop)]
@@ -70,14 +81,8 @@ pub enum SchemaNode<'t> {
     Titled(&'t str, Box<SchemaTemplate<'t>>),
     /// A schema into which the keywords of these answers are put, one after another.
     WithMembers(Box<SchemaTemplate<'t>>, Vec<Ask>),
-    /// One variant of an internally tagged enum: the inner schema plus a required member `tag`
-    /// whose value is `name`. For a unit variant, `closed` also forbids all other keys.
-    Tagged {
-        tag: &'t str,
-        name: &'t str,
-        closed: bool,
-        inner: Box<SchemaTemplate<'t>>,
-    },
+    /// The schema of a variant's content, with the variant's name as a required member.
+    Tagged(Box<Tag<'t>>, Box<SchemaTemplate<'t>>),
 }
 
 /// The value of a keyword, in which rows are asked.
@@ -140,7 +145,7 @@ fn add_node_asks(node: &SchemaNode<'_>, asks: &mut Vec<Ask>) -> Result<(), Alloc
             asks.extend_from_slice(members)?;
             Ok(())
         }
-        SchemaNode::Tagged { inner, .. } => add_asks(inner, asks),
+        SchemaNode::Tagged(_, inner) => add_asks(inner, asks),
     }
 }
 
@@ -223,12 +228,7 @@ fn fill_node(
         SchemaNode::Nullable(inner) => fill_nullable(alloc, inner, parts),
         SchemaNode::Titled(title, inner) => fill_titled(alloc, inner, title, parts),
         SchemaNode::WithMembers(inner, members) => fill_with_members(alloc, inner, members, parts),
-        SchemaNode::Tagged {
-            tag,
-            name,
-            closed,
-            inner,
-        } => fill_tagged(alloc, inner, tag, name, closed, parts),
+        SchemaNode::Tagged(tag, inner) => fill_tagged(alloc, inner, &tag, parts),
     }
 }
 
@@ -310,18 +310,16 @@ fn fill_with_members(
 fn fill_tagged(
     alloc: Global,
     inner: Box<SchemaTemplate<'_>>,
-    tag: &str,
-    name: &str,
-    closed: bool,
+    tag: &Tag<'_>,
     parts: &mut VecDeque<Schema>,
 ) -> Result<Schema, AllocError>
-    ensures value { IfOk result (λ s. s ≡ filled (tagged tag.now name.now closed
-        (template_view inner.entry.value)) parts.old.items) }
+    ensures value { IfOk result (λ s. s ≡ filled (tagged tag.now.tag.now tag.now.name.now
+        tag.now.closed (template_view inner.entry.value)) parts.old.items) }
     ensures left { OnOk result (parts.new.items
         ≡ left (template_view inner.entry.value) parts.old.items) }
 {
     let mut schema = fill_schema(alloc, Box::into_inner(inner), parts)?;
-    apply_internal_enum_variant_tag(alloc, &mut schema, tag, name, closed)?;
+    apply_internal_enum_variant_tag(alloc, &mut schema, tag.tag, tag.name, tag.closed)?;
     Ok(schema)
 }
 

@@ -67,14 +67,9 @@ fn assemble_node<'a>(
         }
         // as a JSON value it takes less, since its answers are schemas
         SchemaNode::WithMembers(..) => Err(Stop::NotCovered),
-        SchemaNode::Tagged {
-            tag,
-            name,
-            closed,
-            inner,
-        } => {
+        SchemaNode::Tagged(tag, inner) => {
             let schema = assemble_schema(alloc, inner, answers)?;
-            with_tag(alloc, schema, &**tag, &**name, *closed)
+            with_tag(alloc, schema, tag)
         }
     }
 }

@@ -10,6 +10,7 @@ ghost use Rattle.schemars_render.specs.Assembled.{assembled_view};
 use crate::assembled::Assembled;
 use crate::error::Stop;
 use crate::members::{MemberList, members_in, object_of};
+use schemars_documents::template::Tag;
 use schemars_schema::edits::is_text;
 use std::alloc::Global;
 
@@ -17,16 +18,14 @@ use std::alloc::Global;
 pub(crate) fn with_tag<'t>(
     alloc: Global,
     schema: Assembled<'t>,
-    tag: &'t str,
-    name: &'t str,
-    closed: bool,
+    tag: &Tag<'t>,
 ) -> Result<Assembled<'t>, Stop>
-    ensures { IfOk result (λ p. assembled_view p ≡ internally_tagged_variant tag.now name.now
-        closed (assembled_view schema.entry)) }
+    ensures { IfOk result (λ p. assembled_view p ≡ internally_tagged_variant tag.now.tag.now
+        tag.now.name.now tag.now.closed (assembled_view schema.entry)) }
 {
     let mut members = members_in(alloc, schema)?;
-    let is_closed = closed && has_null_type(&members);
-    put_tag(alloc, &mut members, tag, name)?;
+    let is_closed = tag.closed && has_null_type(&members);
+    put_tag(alloc, &mut members, tag.tag, tag.name)?;
     close_where(&mut members, is_closed)?;
     Ok(members.into_object())
 }

@@ -108,7 +108,7 @@ fn units_template<'t>(alloc: Global, names: Vec<&'t str>) -> Result<SchemaNode<'
         ≡ object_with (typed_template (codes "string")
         ∷ said (codes "enum") (array (text_items (map (λ n. n.now) names.entry.items))) ∷ [])) }
 {
-    let mut keywords: Vec<(&'t str, ValueTemplate<'t>)> = typed(alloc, "string")?;
+    let mut keywords: Vec<(&'t str, ValueTemplate<'t>)> = typed(alloc, "string", 2)?;
     keywords.push(("enum", ValueTemplate::Texts(names)))?;
     Ok(object_with(keywords))
 }

@@ -77,7 +77,7 @@ fn keyed_template<'t>(
         ≡ values_template (keys others (map (λ t. t.now) texts.now) None
         (map (λ t. t.now) patterns.now)) value) }
 {
-    let mut keywords: Vec<(&'t str, ValueTemplate<'t>)> = typed(alloc, "object")?;
+    let mut keywords: Vec<(&'t str, ValueTemplate<'t>)> = typed(alloc, "object", 4)?;
     keywords.push(("additionalProperties", other_values(others, value)))?;
     add_pattern_properties(alloc, &mut keywords, patterns, value)?;
     let properties = values_at(alloc, texts, value)?;

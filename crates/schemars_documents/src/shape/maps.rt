@@ -22,21 +22,23 @@ pub fn map_template<'t>(
         ≡ map_template (map property_view properties.entry.items)
         (text_items (map (λ n. n.now) required.entry.items)) closed) }
 {
-    let mut keywords: Vec<(&'t str, ValueTemplate<'t>)> = typed(alloc, "object")?;
+    let room = if closed { 4 } else { 3 };
+    let mut keywords: Vec<(&'t str, ValueTemplate<'t>)> = typed(alloc, "object", room)?;
     add_properties(&mut keywords, properties)?;
     add_required(&mut keywords, required)?;
     add_closed(&mut keywords, closed)?;
     Ok(object_with(keywords))
 }
 
-/// The keyword `type` with this name, with room for the three others of a map.
+/// The keyword `type` with this name, in a list with room for `room` keywords.
 pub fn typed<'t>(
     alloc: Global,
     name: &'t str,
+    room: usize,
 ) -> Result<Vec<(&'t str, ValueTemplate<'t>)>, AllocError>
     ensures { IfOk result (λ v. map keyword_view v.items ≡ typed_template name.now ∷ []) }
 {
-    let mut keywords: Vec<(&'t str, ValueTemplate<'t>)> = Vec::with_capacity(alloc, 4)?;
+    let mut keywords: Vec<(&'t str, ValueTemplate<'t>)> = Vec::with_capacity(alloc, room)?;
     keywords.push(("type", text(name)))?;
     Ok(keywords)
 }

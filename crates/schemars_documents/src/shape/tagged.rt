@@ -6,7 +6,7 @@ ghost use Rattle.schemars_documents.specs.OfShape.{content_template, internal_it
 
 use crate::shape::maps::struct_template;
 use crate::template::nodes::{bare, noted, one_of, type_alone};
-use crate::template::{Ask, SchemaNode, SchemaTemplate};
+use crate::template::{Ask, SchemaNode, SchemaTemplate, Tag};
 use schemars_schema::Schema;
 use schemars_types::{Contract, Internal, InternalPayload, InternalVariant};
 use std::alloc::{AllocError, Global};
@@ -60,14 +60,9 @@ fn internal_item<'t>(
 {
     let content = content_template(alloc, contract, &variant.payload)?;
     let name = variant.name.as_str();
+    let tag = Box::new(alloc, Tag { tag, name, closed })?;
     let inner = Box::new(alloc, bare(content))?;
-    let tagged = SchemaNode::Tagged {
-        tag,
-        name,
-        closed,
-        inner,
-    };
-    Ok(noted(&variant.notes, tagged))
+    Ok(noted(&variant.notes, SchemaNode::Tagged(tag, inner)))
 }
 
 // The content beside the tag.
