@@ -4,14 +4,10 @@ ghost use Rattle.schemars_transform.specs.BuiltIn.{made_by};
 ghost use Rattle.schemars_transform.specs.Member.{some_own};
 ghost use Rattle.schemars_transform.specs.Needs.{needs_of};
 
-use crate::settings::SchemaSettings;
+use crate::settings::{draft07_transforms, draft2019_09_transforms, openapi3_transforms};
 use schemars_definitions::Change;
 use schemars_schema::Schema;
-use schemars_transform::{
-    AddNullable, GenTransform, Needs, NoTransform, RemoveRefSiblings, ReplaceBoolSchemas,
-    ReplaceConstValue, ReplacePrefixItems, ReplaceUnevaluatedProperties, SetSingleExample,
-    apply_all, apply_needed, are_idle,
-};
+use schemars_transform::{GenTransform, Needs, NoTransform, apply_all, apply_needed, are_idle};
 use schemars_walk::Transform;
 use std::alloc::{AllocError, Global};
 
@@ -29,9 +25,7 @@ impl Change for Changes2019_09 {
     }
 
     fn leaves(&self, needs: Needs) -> bool {
-        let transforms: [GenTransform<NoTransform>; 1] = [GenTransform::ReplacePrefixItems(
-            ReplacePrefixItems,
-        )];
+        let transforms: [GenTransform<NoTransform>; 1] = draft2019_09_transforms();
         are_idle(&transforms, needs)
     }
 
@@ -41,8 +35,8 @@ impl Change for Changes2019_09 {
         schema: &mut Schema,
         needs: Needs,
     ) -> Result<(), AllocError> {
-        let settings: SchemaSettings<NoTransform> = SchemaSettings::draft2019_09(alloc)?;
-        let SchemaSettings { mut transforms, .. } = settings;
+        let transforms: [GenTransform<NoTransform>; 1] = draft2019_09_transforms();
+        let mut transforms = Vec::from_array(alloc, transforms)?;
         apply_where_needed(alloc, &mut transforms, schema, needs)
     }
 }
@@ -61,11 +55,7 @@ impl Change for Changes07 {
     }
 
     fn leaves(&self, needs: Needs) -> bool {
-        let transforms: [GenTransform<NoTransform>; 3] = [
-            GenTransform::ReplaceUnevaluatedProperties(ReplaceUnevaluatedProperties),
-            GenTransform::RemoveRefSiblings(RemoveRefSiblings),
-            GenTransform::ReplacePrefixItems(ReplacePrefixItems),
-        ];
+        let transforms: [GenTransform<NoTransform>; 3] = draft07_transforms();
         are_idle(&transforms, needs)
     }
 
@@ -75,8 +65,8 @@ impl Change for Changes07 {
         schema: &mut Schema,
         needs: Needs,
     ) -> Result<(), AllocError> {
-        let settings: SchemaSettings<NoTransform> = SchemaSettings::draft07(alloc)?;
-        let SchemaSettings { mut transforms, .. } = settings;
+        let transforms: [GenTransform<NoTransform>; 3] = draft07_transforms();
+        let mut transforms = Vec::from_array(alloc, transforms)?;
         apply_where_needed(alloc, &mut transforms, schema, needs)
     }
 }
@@ -95,18 +85,7 @@ impl Change for ChangesOpenApi3 {
     }
 
     fn leaves(&self, needs: Needs) -> bool {
-        let bools = ReplaceBoolSchemas {
-            skip_additional_properties: true,
-        };
-        let transforms: [GenTransform<NoTransform>; 7] = [
-            GenTransform::ReplaceUnevaluatedProperties(ReplaceUnevaluatedProperties),
-            GenTransform::ReplaceBoolSchemas(bools),
-            GenTransform::AddNullable(AddNullable::default()),
-            GenTransform::RemoveRefSiblings(RemoveRefSiblings),
-            GenTransform::SetSingleExample(SetSingleExample),
-            GenTransform::ReplaceConstValue(ReplaceConstValue),
-            GenTransform::ReplacePrefixItems(ReplacePrefixItems),
-        ];
+        let transforms: [GenTransform<NoTransform>; 7] = openapi3_transforms();
         are_idle(&transforms, needs)
     }
 
@@ -116,8 +95,8 @@ impl Change for ChangesOpenApi3 {
         schema: &mut Schema,
         needs: Needs,
     ) -> Result<(), AllocError> {
-        let settings: SchemaSettings<NoTransform> = SchemaSettings::openapi3(alloc)?;
-        let SchemaSettings { mut transforms, .. } = settings;
+        let transforms: [GenTransform<NoTransform>; 7] = openapi3_transforms();
+        let mut transforms = Vec::from_array(alloc, transforms)?;
         apply_where_needed(alloc, &mut transforms, schema, needs)
     }
 }
