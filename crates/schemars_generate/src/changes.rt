@@ -3,11 +3,15 @@ ghost use Rattle.std.specs.Prelude.{◌≡◌, false, OnOk};
 ghost use Rattle.schemars_transform.specs.BuiltIn.{made_by};
 ghost use Rattle.schemars_transform.specs.Member.{some_own};
 ghost use Rattle.schemars_transform.specs.Needs.{needs_of};
+ghost use Rattle.schemars_generate.specs.Settings.{transforms07, transforms2019_09, transforms_openapi3};
 
-use crate::settings::{draft07_transforms, draft2019_09_transforms, openapi3_transforms};
 use schemars_definitions::Change;
 use schemars_schema::Schema;
-use schemars_transform::{GenTransform, Needs, NoTransform, apply_all, apply_needed, are_idle};
+use schemars_transform::{
+    AddNullable, GenTransform, Needs, NoTransform, RemoveRefSiblings, ReplaceBoolSchemas,
+    ReplaceConstValue, ReplacePrefixItems, ReplaceUnevaluatedProperties, SetSingleExample,
+    apply_all, apply_needed, are_idle,
+};
 use schemars_walk::Transform;
 use std::alloc::{AllocError, Global};
 
@@ -25,8 +29,7 @@ impl Change for Changes2019_09 {
     }
 
     fn leaves(&self, needs: Needs) -> bool {
-        let transforms: [GenTransform<NoTransform>; 1] = draft2019_09_transforms();
-        are_idle(&transforms, needs)
+        are_idle(&draft2019_09_transforms(), needs)
     }
 
     fn change(
@@ -35,8 +38,7 @@ impl Change for Changes2019_09 {
         schema: &mut Schema,
         needs: Needs,
     ) -> Result<(), AllocError> {
-        let transforms: [GenTransform<NoTransform>; 1] = draft2019_09_transforms();
-        let mut transforms = Vec::from_array(alloc, transforms)?;
+        let mut transforms = Vec::from_array(alloc, draft2019_09_transforms())?;
         apply_where_needed(alloc, &mut transforms, schema, needs)
     }
 }
@@ -55,8 +57,7 @@ impl Change for Changes07 {
     }
 
     fn leaves(&self, needs: Needs) -> bool {
-        let transforms: [GenTransform<NoTransform>; 3] = draft07_transforms();
-        are_idle(&transforms, needs)
+        are_idle(&draft07_transforms(), needs)
     }
 
     fn change(
@@ -65,8 +66,7 @@ impl Change for Changes07 {
         schema: &mut Schema,
         needs: Needs,
     ) -> Result<(), AllocError> {
-        let transforms: [GenTransform<NoTransform>; 3] = draft07_transforms();
-        let mut transforms = Vec::from_array(alloc, transforms)?;
+        let mut transforms = Vec::from_array(alloc, draft07_transforms())?;
         apply_where_needed(alloc, &mut transforms, schema, needs)
     }
 }
@@ -85,8 +85,7 @@ impl Change for ChangesOpenApi3 {
     }
 
     fn leaves(&self, needs: Needs) -> bool {
-        let transforms: [GenTransform<NoTransform>; 7] = openapi3_transforms();
-        are_idle(&transforms, needs)
+        are_idle(&openapi3_transforms(), needs)
     }
 
     fn change(
@@ -95,10 +94,45 @@ impl Change for ChangesOpenApi3 {
         schema: &mut Schema,
         needs: Needs,
     ) -> Result<(), AllocError> {
-        let transforms: [GenTransform<NoTransform>; 7] = openapi3_transforms();
-        let mut transforms = Vec::from_array(alloc, transforms)?;
+        let mut transforms = Vec::from_array(alloc, openapi3_transforms())?;
         apply_where_needed(alloc, &mut transforms, schema, needs)
     }
+}
+
+// The transforms of 2019-09, in order.
+fn draft2019_09_transforms() -> [GenTransform<NoTransform>; 1]
+    ensures { result ≡ transforms2019_09 }
+{
+    [GenTransform::ReplacePrefixItems(ReplacePrefixItems)]
+}
+
+// The transforms of Draft 7, in order.
+fn draft07_transforms() -> [GenTransform<NoTransform>; 3]
+    ensures { result ≡ transforms07 }
+{
+    [
+        GenTransform::ReplaceUnevaluatedProperties(ReplaceUnevaluatedProperties),
+        GenTransform::RemoveRefSiblings(RemoveRefSiblings),
+        GenTransform::ReplacePrefixItems(ReplacePrefixItems),
+    ]
+}
+
+// The transforms of OpenAPI, in order.
+fn openapi3_transforms() -> [GenTransform<NoTransform>; 7]
+    ensures { result ≡ transforms_openapi3 }
+{
+    let bools = ReplaceBoolSchemas {
+        skip_additional_properties: true,
+    };
+    [
+        GenTransform::ReplaceUnevaluatedProperties(ReplaceUnevaluatedProperties),
+        GenTransform::ReplaceBoolSchemas(bools),
+        GenTransform::AddNullable(AddNullable::default()),
+        GenTransform::RemoveRefSiblings(RemoveRefSiblings),
+        GenTransform::SetSingleExample(SetSingleExample),
+        GenTransform::ReplaceConstValue(ReplaceConstValue),
+        GenTransform::ReplacePrefixItems(ReplacePrefixItems),
+    ]
 }
 
 // Applies built-in transforms to a schema, one after another. They fail only if out of memory.
