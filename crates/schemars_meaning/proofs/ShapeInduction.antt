@@ -1,6 +1,6 @@
 -- What holds of the template of every shape, where it holds of each way that templates are put together.
 use Rattle.std.proofs.Common.{◌≡◌, ℕ, zero, suc, ℤ, pos, negsuc, List, [], ◌∷◌, ◌++◌, map, length, Bool, true, false, Option, Some, None, refl, arith, Contains}
-use Rattle.schemars_meaning.proofs.Words.{AllByRecursion, codes, bytes_eq, not, if◌then◌else◌, Data, boolean, number, string, array, Members, get_member, Text, IsSchema, members_in, object_of, references, NoSchemas, text_items, unit_variant, Shape, Field, Flattened, Fields, Payload, Variant, no_payload, newtype_payload, tuple_payload, struct_payload, is_bare_unit, Row, KeyOptions, keys, key_options, required_names, type_alone, int_document, non_zero_document, bytes_document, Basis, Template, content, finished, asked, row, list, nullable, noted, KeywordTemplate, templates_of, property, map_template, member_template, fields_template, with_flattened, struct_template, tuple_template, payload_template, named_template, content_template, bare_units, other_items, choice_of, external_template, titled, payload_item, untagged_template, internal_item, internal_template, said, whole_template, adjacent_payload, adjacent_item, adjacent_template, values_of, all_patterns, pattern_properties_at, properties_at, values_template, template_of}
+use Rattle.schemars_meaning.proofs.Words.{AllByRecursion, codes, bytes_eq, not, if◌then◌else◌, Data, boolean, number, string, array, Members, get_member, Text, IsSchema, members_in, object_of, references, NoSchemas, text_items, unit_variant, Shape, Field, Flattened, Fields, Payload, Variant, no_payload, newtype_payload, tuple_payload, struct_payload, is_bare_unit, Row, KeyOptions, keys, key_options, required_names, type_alone, int_document, non_zero_document, bytes_document, Basis, Template, Ask, part, content, finished, asked, row, list, members, nullable, noted, KeywordTemplate, templates_of, property, map_template, member_template, fields_template, with_flattened, struct_template, tuple_template, payload_template, named_template, content_template, bare_units, other_items, choice_of, external_template, titled, payload_item, untagged_template, internal_item, internal_template, said, whole_template, adjacent_payload, adjacent_item, adjacent_template, values_of, all_patterns, pattern_properties_at, properties_at, values_template, template_of}
 use Rattle.std.specs.Prelude.{filter}
 use Rattle.std.proofs.lemmas.List.Elements.{Contains-append_right}
 use Rattle.serde_json.specs.Data.{unsigned}
@@ -184,9 +184,13 @@ pub record Documents (Holds Item : Template → Type 0) (Names : List Text → T
 
 -- ---- by keyword
 
+-- none of the keys of definitions
+abbrev pub IsOther : Text → Type 0
+IsOther k = is_listed k (codes "$defs" ∷ codes "definitions" ∷ []) ≡ false
+
 -- where a keyword's value is read, which is no reference and no definitions
 abbrev pub IsUnder : Place → Text → Type 0
-IsUnder p k = (place_under k ≡ p) × (bytes_eq k (codes "$ref") ≡ false) × (is_listed k (codes "$defs" ∷ codes "definitions" ∷ []) ≡ false)
+IsUnder p k = (place_under k ≡ p) × (bytes_eq k (codes "$ref") ≡ false) × (IsOther k)
 
 -- What is shown of a keyword with its value: it holds of objects, where it holds of their keywords.
 pub record Keywords (Holds Item : Template → Type 0) (Names : List Text → Type 0) : Type 1 where
@@ -406,7 +410,7 @@ pub record Law (basis : Basis) : Type 1 where
   pub content_row : (tag : Text) (closed : Bool) (n : ℕ) → of_payload (shape.by_tag tag closed) (newtype_payload n)
       → holds (asked (content n))
   pub tag : (tag name : Text) (closed : Bool) (p : Payload) → of_payload (shape.by_tag tag closed) p
-      → holds (content_template basis.contract p) → holds (tagged tag name closed (content_template basis.contract p))
+      → holds (content_template basis.contract p) → is_item (tagged tag name closed (content_template basis.contract p))
   pub beside : (tag key : Text) (closed : Bool) (p : Payload) → of_payload (shape.by_tag_and_content tag key closed) p
       → are_names (tag ∷ key ∷ [])
 
@@ -493,7 +497,7 @@ module _ (basis : Basis) (law : Law basis) where
       let by = shape.by_tag tag closed in
       docs.one_of (map (internal_item contract tag closed) (x ∷ xs)) (each_item by (internal_item contract tag closed) (λ y ys g.
       let own = law.payload by y ys g in
-      law.notes by y ys g _ (law.item _ (law.tag tag y.name closed y.payload own (content_holds tag closed y.payload own)))) (x ∷ xs) h)
+      law.notes by y ys g _ (law.tag tag y.name closed y.payload own (content_holds tag closed y.payload own))) (x ∷ xs) h)
 
   -- the name under one key, and the rest under another
   both_hold : (tag key name : Text) (closed : Bool) (t : Template) → law.holds t → law.are_names (tag ∷ key ∷ [])
@@ -575,3 +579,85 @@ module _ (basis : Basis) (law : Law basis) where
   shape_holds (shape.enum (shape.by_tag_and_content tag key closed) xs) h =
       adjacent_holds tag key closed xs (law.variants (shape.by_tag_and_content tag key closed) xs h)
   shape_holds (shape.literal d) h = law.literal d h
+
+-- ---- simpler laws
+
+pub each : {X : Type 0} (P : X → Type 0) → ((x : X) → P x) → (xs : List X) → AllByRecursion P xs
+each P all [] = tt
+each P all (x ∷ xs) = (all x, each P all xs)
+
+-- what holds of an object where it holds of its values, whatever the keys are
+module _ (Holds : Template → Type 0) (bare : (d : Data) → has_float d ≡ false → Holds (finished d))
+    (lists : (ts : List Template) → AllByRecursion Holds ts → Holds (list (templates_of ts)))
+    (objects : (ks : List Text) (ts : List Template) → AllByRecursion Holds ts → Holds (members ks (templates_of ts))) where
+  values_all : (es : List KeywordTemplate) → AllByRecursion (λ e. Holds e.1) es → AllByRecursion Holds (map (λ e. e.1) es)
+  values_all [] h = tt
+  values_all (e ∷ es) h = (h.0, values_all es h.1)
+
+  pub by_value : Keywords Holds Holds (λ ks. Unit {0})
+  by_value = record {
+    told = λ k t. Holds t;
+    own = λ d is. bare d is.whole;
+    said = λ k d under whole. bare d whole;
+    items = λ n h. h;
+    others = λ t h. h;
+    listed = λ k ts under h. lists ts h;
+    named = λ k es under h apart. objects (names_of es) (map (λ e. e.1) es) (values_all es h);
+    object = λ es h apart. objects (names_of es) (map (λ e. e.1) es) (values_all es h);
+    apart = λ ks h. tt;
+  }
+
+-- what holds of an object by its own keys, whatever the values are and whatever fills a row; literals alone need to be known
+module _ (basis : Basis) (Holds : Template → Type 0) (Known : Shape → Type 0) (own : (d : Data) → IsOwn d → Holds (finished d))
+    (object : (es : List KeywordTemplate) → AllByRecursion (λ e. IsOther e.0) es → Holds (object_with es))
+    (rows : (a : Ask) → Holds (asked a)) (option : (t : Template) → Holds t → Holds (nullable t))
+    (add : (t u : Template) → Holds t → Holds u → Holds (with_keywords t u))
+    (literal : (d : Data) → Known (shape.literal d) → Holds (finished (literal_document d))) where
+  by_key : Keywords Holds (λ t. Unit {0}) (λ ks. Unit {0})
+  by_key = record {
+    told = λ k t. IsOther k;
+    own = own;
+    said = λ k d under whole. under.2;
+    items = λ n h. refl;
+    others = λ t h. refl;
+    listed = λ k ts under h. under.2;
+    named = λ k es under h apart. under.2;
+    object = λ es h apart. object es h;
+    apart = λ ks h. tt;
+  }
+
+  any_struct : (x : Fields) → Holds (struct_template basis.contract x)
+  any_struct x =
+      struct_holds Holds (λ t. Unit {0}) (λ ks. Unit {0}) (λ t h. tt) by_key basis.contract add x
+      (each (λ e. Unit {0}) (λ e. tt) (map property x.list)) tt
+      (each (λ p. Holds (asked (members_asked basis.contract p))) (λ p. rows (members_asked basis.contract p)) x.flatten)
+
+  pub outer_law : Law basis
+  outer_law = record {
+    holds = Holds;
+    is_item = λ t. Unit {0};
+    are_names = λ ks. Unit {0};
+    of_shape = Known;
+    of_variants = λ tagging xs. Unit {0};
+    of_payload = λ tagging p. Unit {0};
+    documents = by_keyword Holds (λ t. Unit {0}) (λ ks. Unit {0}) (λ t h. tt) by_key;
+    item = λ t h. tt;
+    rows = λ kind m h is. rows (part m);
+    option = λ n h. option (row n) h;
+    struct = λ x h. any_struct x;
+    variants = λ tagging xs h. tt;
+    literal = literal;
+    payload = λ tagging x xs h. tt;
+    notes = λ tagging x xs h t is. tt;
+    later = λ tagging x xs h. tt;
+    title = λ name t h. tt;
+    payload_rows = λ tagging p m h is. rows (part m);
+    payload_struct = λ tagging x h. any_struct x;
+    content_row = λ tag closed n h. rows (content n);
+    tag = λ tag name closed p h is. tt;
+    beside = λ tag key closed p h. tt;
+  }
+
+  pub outer_holds : (kind : Shape) → Known kind → Holds (template_of basis kind)
+  unfolding outer_law
+  outer_holds kind h = shape_holds basis outer_law kind h
