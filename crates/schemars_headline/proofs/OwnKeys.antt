@@ -12,7 +12,7 @@ use Rattle.schemars_schema.proofs.Literals.{plain_absent}
 use Rattle.schemars_headline.proofs.Keys.{IsDefinitionsKey, IsOther, annotation_other}
 use Rattle.schemars_meaning.proofs.Parts.{described_holds}
 use Rattle.schemars_meaning.proofs.ShapeInduction.{outer_holds}
-use Rattle.schemars_headline.proofs.Lacking.{HasNeither, Lacks, LacksIn, lacks_both, lacks-put, lacks_without, lacks_flattened, lacks_flattened_part, lacks_opened_inside, lacks_tagged_variant}
+use Rattle.schemars_headline.proofs.Lacking.{HasNeither, Lacks, LacksIn, lacks_both, lacks-put, lacks_without, lacks_flattened, lacks_flattened_part, lacks_opened_inside}
 
 -- ---- literals
 

@@ -1,11 +1,11 @@
 -- What is asked in a shape's template is of the rows of the shape.
 use Rattle.std.proofs.Common.{ℕ, List, [], ◌∷◌, ◌++◌, map, Bool, refl, arith, All, Contains}
-use Rattle.schemars_meaning.proofs.Words.{AllByRecursion, All-nil, All-cons, All-append, Shape, Field, Flattened, Fields, Payload, Variant, newtype_payload, is_required, Basis, Template, Ask, part, members_of, content, asked, asks_of, asks_in, templates_of, property, struct_template, template_of}
+use Rattle.schemars_meaning.proofs.Words.{AllByRecursion, All-nil, All-cons, All-append, Shape, Field, Flattened, Fields, Payload, Variant, newtype_payload, is_required, KeyOptions, values_template, Basis, Template, Ask, part, members_of, content, asked, asks_of, asks_in, templates_of, property, struct_template, template_of}
 use Rattle.std.proofs.lemmas.List.Elements.{Contains-append_left, Contains-append_right}
 use Rattle.schemars_shapes.specs.Shape.{Tagging, enum, by_tag, numbers_of, flattened_numbers, flattened_rows, fields_numbers, payload_numbers, payload_flattened, variant_numbers, of_variants}
 use Rattle.schemars_types.specs.declared.contract.Contract.{Contract}
 use Rattle.schemars_documents.specs.OfShape.{members_asked}
-use Rattle.schemars_meaning.proofs.ShapeInduction.{Keywords, Law, by_value, by_keyword, struct_holds, shape_holds}
+use Rattle.schemars_meaning.proofs.ShapeInduction.{AreKeysApart, Documents, Keywords, Law, by_value, by_keyword, struct_holds, shape_holds}
 
 abbrev pub asks_at : List Field → List Ask
 asks_at xs = asks_in (templates_of (map (λ e. e.1) (map property xs)))
@@ -47,6 +47,14 @@ module _ (P : Ask → Type 0) where
 
   by_asks : Keywords Asks Asks (λ ks. Unit {0})
   by_asks = by_value Asks (λ d h. All-nil P) listed (λ ks ts h. listed ts h)
+
+  documents : Documents Asks Asks (λ ks. Unit {0})
+  documents = by_keyword Asks Asks (λ ks. Unit {0}) (λ t h. h) by_asks
+
+  -- rows alone are asked for the values of a map
+  pub values_ask : (options : KeyOptions) (value : ℕ) → AreKeysApart options → P (part value)
+      → All P (asks_of (values_template options value))
+  values_ask options value apart h = documents.values options value apart (one (part value) h)
 
   -- ---- structs
 
@@ -123,7 +131,7 @@ module _ (P : Ask → Type 0) where
     of_shape = OfShape;
     of_variants = OfVariants;
     of_payload = OfPayload;
-    documents = by_keyword Asks Asks (λ ks. Unit {0}) (λ t h. h) by_asks;
+    documents = documents;
     item = λ t h. h;
     rows = λ kind m h is. one (part m) (h.0 m is);
     option = λ n h. h;

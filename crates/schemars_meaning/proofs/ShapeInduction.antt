@@ -586,14 +586,15 @@ pub each : {X : Type 0} (P : X → Type 0) → ((x : X) → P x) → (xs : List 
 each P all [] = tt
 each P all (x ∷ xs) = (all x, each P all xs)
 
+module _ (Holds : Template → Type 0) where
+  pub values_all : (es : List KeywordTemplate) → AllByRecursion (λ e. Holds e.1) es → AllByRecursion Holds (map (λ e. e.1) es)
+  values_all [] h = tt
+  values_all (e ∷ es) h = (h.0, values_all es h.1)
+
 -- what holds of an object where it holds of its values, whatever the keys are
 module _ (Holds : Template → Type 0) (bare : (d : Data) → has_float d ≡ false → Holds (finished d))
     (lists : (ts : List Template) → AllByRecursion Holds ts → Holds (list (templates_of ts)))
     (objects : (ks : List Text) (ts : List Template) → AllByRecursion Holds ts → Holds (members ks (templates_of ts))) where
-  values_all : (es : List KeywordTemplate) → AllByRecursion (λ e. Holds e.1) es → AllByRecursion Holds (map (λ e. e.1) es)
-  values_all [] h = tt
-  values_all (e ∷ es) h = (h.0, values_all es h.1)
-
   pub by_value : Keywords Holds Holds (λ ks. Unit {0})
   by_value = record {
     told = λ k t. Holds t;
@@ -602,8 +603,8 @@ module _ (Holds : Template → Type 0) (bare : (d : Data) → has_float d ≡ fa
     items = λ n h. h;
     others = λ t h. h;
     listed = λ k ts under h. lists ts h;
-    named = λ k es under h apart. objects (names_of es) (map (λ e. e.1) es) (values_all es h);
-    object = λ es h apart. objects (names_of es) (map (λ e. e.1) es) (values_all es h);
+    named = λ k es under h apart. objects (names_of es) (map (λ e. e.1) es) (values_all Holds es h);
+    object = λ es h apart. objects (names_of es) (map (λ e. e.1) es) (values_all Holds es h);
     apart = λ ks h. tt;
   }
 
