@@ -245,26 +245,3 @@ module _ (key : Text) (is_key : IsDefinitionsKey key) where
   pub lacks_flattened_part : (b : Bool) (s : Data) → LacksIn s → LacksIn (flattened_part b s)
   lacks_flattened_part b s h =
       lacks_opened (optional_where b (units_as_objects s)) (lacks_optional b (units_as_objects s) (lacks_units s h))
-
-  -- ---- tags
-
-  lacks_tagged : (tag name : Text) (ms : Members) → Lacks ms → Lacks (tagged tag name ms)
-  lacks_tagged tag name ms h =
-      let typed = put (codes "type") (string (codes "object")) ms in
-      let with_tag = changed_at (codes "properties") (with_member tag (unit_variant name)) (object no_members) typed in
-      lacks_changed_at (codes "required") (with_first (string tag)) (array no_items) with_tag refl
-      (lacks_changed_at (codes "properties") (with_member tag (unit_variant name)) (object no_members) typed refl
-      (lacks-put (codes "type") (string (codes "object")) ms refl h))
-
-  lacks_closed : (closed : Bool) (ms : Members) → Lacks ms → Lacks (closed_where closed ms)
-  lacks_closed false ms h = h
-  lacks_closed true ms h = go (is_some (get_member (codes "additionalProperties") ms))
-    where
-      go : (b : Bool) → Lacks (if b then ms else put (codes "additionalProperties") (boolean false) ms)
-      go true = h
-      go false = lacks-put (codes "additionalProperties") (boolean false) ms refl h
-
-  pub lacks_tagged_variant : (tag name : Text) (closed : Bool) (s : Data) → LacksIn s
-      → LacksIn (internally_tagged_variant tag name closed s)
-  lacks_tagged_variant tag name closed s h = lacks_closed (closed && has_null_type s) (tagged tag name (members_in s))
-      (lacks_tagged tag name (members_in s) h)

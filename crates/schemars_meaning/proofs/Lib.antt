@@ -40,6 +40,7 @@ pub mod AdjacentSays
 pub mod StructReady
 pub mod Meanings
 pub mod FieldsDescribed
+pub mod ShapeInduction
 pub mod Schemas
 pub mod SettledTables
 pub mod PartsDescribed
