@@ -1,6 +1,6 @@
 -- What fills the templates of enums and maps is what the laws of the drafts speak of, where the answers are.
 use Rattle.std.proofs.Common.{ℕ, List, [], ◌∷◌, ◌++◌, map, Bool, true, false, codes, refl, sym, subst}
-use Rattle.schemars_headline.proofs.Words.{if◌then◌else◌, AllByRecursion, Data, string, Members, no_members, put, Text, put_all, AreNotes, Field, Fields, Flattened, Payload, Shape, Variant, KeyOptions, keys, AreNoted, Keyword, Basis, Ask, part, Template, asks_of, filled, filled_in, keyed, left, struct_template, template_of, KeywordTemplate, typed_template, object_with, values_of, all_patterns, pattern_properties_at, properties_at, other_values, values_template, first_all, left_all, Fit, asked_of_members}
+use Rattle.schemars_headline.proofs.Words.{if◌then◌else◌, AllByRecursion, Data, string, Members, no_members, put, Text, put_all, AreNotes, Field, Fields, Flattened, Payload, Shape, Variant, KeyOptions, keys, AreNoted, Keyword, Basis, Ask, part, Template, asks_of, filled, filled_in, keyed, left, struct_template, template_of, KeywordTemplate, typed_template, object_with, values_of, all_patterns, pattern_properties_at, properties_at, other_values, values_template, internally_tagged_variant, first_all, left_all, Fit, asked_of_members}
 use Rattle.std.proofs.lemmas.List.Elements.{recursion_from_All}
 use Rattle.schemars_schema.proofs.Literals.{literal_is_schema}
 use Rattle.schemars_builders.specs.NullLaw.{text_items}
@@ -14,7 +14,8 @@ use Rattle.schemars_meaning.proofs.Filling.{without_end, parted}
 use Rattle.schemars_meaning.proofs.ByShape.{tuple_fills}
 use Rattle.schemars_meaning.proofs.Enums.{title_noted}
 use Rattle.schemars_meaning.proofs.Rows.{values_ask}
-use Rattle.schemars_meaning.proofs.ShapeInduction.{AreKeysApart, Documents, Law, values_all, shape_holds}
+use Rattle.schemars_meaning.proofs.ShapeInduction.{of_each, AreKeysApart, Documents, Law, IsBeside, AreBeside, beside_halves, plain_variants, shape_holds}
+use Rattle.schemars_meaning.proofs.ByKeyword.{values_all}
 use Rattle.schemars_laws.specs.Everywhere.{asked}
 use Rattle.schemars_headline.proofs.Changes.{Demand, Class, AreGood, are-put, IsGood, good, good_truth, good-annotated, good-allow_null}
 use Rattle.schemars_headline.proofs.Documents.{AllGood, are-typed, type-good, int-good, non_zero-good, char-good, formatted-good, bytes-good, schema_itself-good, empty_list-good, seq-good, set-good, array-good, up_to-good, tuple-good, parts-good, tagged-good, unit-good, units-good, one_of-good, any_of-good, map-good, AllNamed, asked-all, literal-good}
@@ -161,7 +162,7 @@ module _ (R : Demand) (A : Ask → Data → Type 0) (basis : Basis) (Under : Lis
       let d = tuple_fills A ns us fit in
       subst (IsGood R) (sym d.2) (tuple-good R d.0 (parts-good R (λ j. A (part j)) parts ns d.0 d.1))
 
-  documents : Documents Makes Makes (λ ks. Unit {0})
+  documents : Documents (of_each Makes)
   documents = record {
     type_of = λ name us fit. type-good R name;
     int = λ kind us fit. int-good R kind;
@@ -187,56 +188,40 @@ module _ (R : Demand) (A : Ask → Data → Type 0) (basis : Basis) (Under : Lis
   }
 
   module _ (others : Flattened → List Field) (enums : Flattened → List ℕ) where
-    -- what is tagged inside its map is a unit or has fields
-    abbrev InsideAt : Tagging → Payload → Type 0
-    InsideAt (by_tag tag closed) p = IsTagged tag (expanded_payload others enums p)
-    InsideAt _ p = Unit {0}
-
-    abbrev AllInside : Tagging → List Variant → Type 0
-    AllInside (by_tag tag closed) xs = AreTagged tag (map (expanded_variant others enums) xs)
-    AllInside _ xs = Unit {0}
-
-    inside : (tagging : Tagging) (x : Variant) (xs : List Variant) → AllInside tagging (x ∷ xs)
-        → InsideAt tagging x.payload × AllInside tagging xs
-    inside (by_tag tag closed) x xs are = are
-    inside _ x xs are = (tt, tt)
-
     abbrev pub OfShape : Shape → Type 0
     OfShape kind = IsPlainShape (expanded_shape others enums kind) × IsNotedShape kind × Under (parts_in kind)
 
-    abbrev OfVariants : Tagging → List Variant → Type 0
-    OfVariants tagging xs = AllInside tagging xs × AreNotedVariants xs × Under (variant_parts xs)
-
-    variants : (tagging : Tagging) (xs : List Variant) → OfShape (enum tagging xs) → OfVariants tagging xs
-    variants (by_tag tag closed) xs h = (h.0.2, h.1, h.2)
-    variants _ xs h = (tt, h.1, h.2)
-
     good_law : Law basis
     good_law = record {
-      holds = Makes;
-      is_item = Makes;
-      are_names = λ ks. Unit {0};
-      of_shape = OfShape;
-      of_variants = OfVariants;
-      of_payload = λ tagging p. InsideAt tagging p × IsNotedPayload p × Under (payload_parts p);
+      claim = of_each Makes;
       documents = documents;
-      item = λ t make. make;
+      of_shape = OfShape;
+      of_variants = λ tagging xs. AreBeside others enums tagging xs × AreNotedVariants xs × Under (variant_parts xs);
+      of_payload = λ tagging p. IsBeside others enums tagging p × IsNotedPayload p × Under (payload_parts p);
       rows = λ kind m h is. row-makes m;
       option = λ n make us fit. good-allow_null R (first us) (make us fit);
       struct = λ x h. structs x h.1 h.2;
-      variants = variants;
+      variants = λ tagging xs h. ((plain_variants others enums tagging xs h.0).1, h.1, h.2);
       literal = λ d h us fit. rw (literal_document-schema d (literal_is_schema d h.0)) (literal-good R d h.0);
-      payload = λ tagging x xs h.
-          ((inside tagging x xs h.0).0, h.1.1, (apart (payload_parts x.payload) (variant_parts xs) h.2).0);
+      payload = λ tagging x xs h. (
+        (beside_halves others enums tagging x xs h.0).0,
+        h.1.1,
+        (apart (payload_parts x.payload) (variant_parts xs) h.2).0,
+      );
       notes = λ tagging x xs h t make us fit. good-annotated R x.notes (filled t us) h.1.0 (make us fit);
-      later = λ tagging x xs h.
-          ((inside tagging x xs h.0).1, h.1.2, (apart (payload_parts x.payload) (variant_parts xs) h.2).1);
+      later = λ tagging x xs h. (
+        (beside_halves others enums tagging x xs h.0).1,
+        h.1.2,
+        (apart (payload_parts x.payload) (variant_parts xs) h.2).1,
+      );
       title = λ name t make us fit. good-annotated R (title_alone name) (filled t us) (title_noted name) (make us fit);
       payload_rows = λ tagging p m h is. row-makes m;
       payload_struct = λ tagging x h. structs x h.1 h.2;
       content_row = λ tag closed n h. absurd h.0;
-      tag = λ tag name closed p h make us fit.
-          tagged-good R tag name closed (filled (content_template basis.contract p) us) (make us fit);
+      tag = λ tag closed x xs h make us fit.
+          let bare = filled (content_template basis.contract x.payload) us in
+          good-annotated R x.notes (internally_tagged_variant tag x.name closed bare) h.1.0
+          (tagged-good R tag x.name closed bare (make us fit));
       beside = λ tag key closed p h. tt;
     }
 

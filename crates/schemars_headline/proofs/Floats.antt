@@ -26,7 +26,8 @@ use Rattle.schemars_shapes.specs.Units.{is_bare_unit}
 use Rattle.schemars_headline.proofs.Standing.{MayRefer, AllStand}
 use Rattle.schemars_headline.proofs.Keys.{AllMembers, all_members}
 use Rattle.schemars_meaning.proofs.Parts.{described_holds, written_holds}
-use Rattle.schemars_meaning.proofs.ShapeInduction.{Keywords, Law, by_value, by_keyword, each, struct_holds, shape_holds}
+use Rattle.schemars_meaning.proofs.ShapeInduction.{of_each, Law, shape_holds}
+use Rattle.schemars_meaning.proofs.ByKeyword.{Keywords, by_value, by_keyword, each, struct_holds}
 use Rattle.std.proofs.lemmas.Bool.{or_parts}
 
 abbrev pub IsWhole : Data → Type 0
@@ -223,7 +224,7 @@ fills_in (u ∷ us) all ts h = (all.0 ts h, fills_in us all.1 (left u ts) (left_
 first_whole : (ts : List Data) → AllByRecursion IsWhole ts → IsWhole (first ts)
 first_whole ts h = first_all IsWhole refl ts h
 
-keywords : Keywords Fills Fills (λ ks. Unit {0})
+keywords : Keywords (of_each Fills)
 keywords =
     by_value Fills (λ d whole ts h. whole)
     (λ us all ts h. whole_items (filled_in (templates_of us) ts) (fills_in us all ts h))
@@ -237,7 +238,7 @@ properties_whole (x ∷ xs) n =
 
 struct_whole : (contract : Contract) (x : Fields) → fields_have_float x.list ≡ false → Fills (struct_template contract x)
 struct_whole contract x n =
-    struct_holds Fills Fills (λ ks. Unit {0}) (λ t h. h) keywords contract
+    struct_holds (of_each Fills) keywords contract
     (λ t u all more ts h. flattened-whole (filled t ts) (filled u (left t ts)) (all ts h) (more (left t ts) (left_all IsWhole t ts h))) x
     (properties_whole x.list n) tt (each (λ p. Fills (asked (members_asked contract p))) (λ p. first_whole) x.flatten)
 
@@ -253,14 +254,11 @@ variants_whole x xs h =
 
 whole_law : (basis : Basis) → Law basis
 whole_law basis = record {
-  holds = Fills;
-  is_item = Fills;
-  are_names = λ ks. Unit {0};
+  claim = of_each Fills;
+  documents = by_keyword (of_each Fills) keywords;
   of_shape = λ kind. shape_has_float kind ≡ false;
   of_variants = λ tagging xs. variants_have_float xs ≡ false;
   of_payload = λ tagging p. payload_has_float p ≡ false;
-  documents = by_keyword Fills Fills (λ ks. Unit {0}) (λ t h. h) keywords;
-  item = λ t h. h;
   rows = λ kind m n is. first_whole;
   option = λ m all ts h. whole_allow_null (first ts) (all ts h);
   struct = λ x n. struct_whole basis.contract x n;
@@ -273,8 +271,10 @@ whole_law basis = record {
   payload_rows = λ tagging p m n is. first_whole;
   payload_struct = λ tagging x n. struct_whole basis.contract x n;
   content_row = λ tag closed m n. first_whole;
-  tag = λ tag name closed p n all ts h.
-      whole_tagged_variant tag name closed (filled (content_template basis.contract p) ts) (all ts h);
+  tag = λ tag closed x xs n all ts h.
+      let bare = filled (content_template basis.contract x.payload) ts in
+      whole_annotated x.notes (internally_tagged_variant tag x.name closed bare) (variants_whole x xs n).0
+      (whole_tagged_variant tag x.name closed bare (all ts h));
   beside = λ tag key closed p n. tt;
 }
 

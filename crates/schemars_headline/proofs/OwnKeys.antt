@@ -11,7 +11,7 @@ use Rattle.schemars_schema.specs.Literal.{IsPlainLiteral}
 use Rattle.schemars_schema.proofs.Literals.{plain_absent}
 use Rattle.schemars_headline.proofs.Keys.{IsDefinitionsKey, IsOther, annotation_other}
 use Rattle.schemars_meaning.proofs.Parts.{described_holds}
-use Rattle.schemars_meaning.proofs.ShapeInduction.{outer_holds}
+use Rattle.schemars_meaning.proofs.ByKeyword.{outer_holds}
 use Rattle.schemars_headline.proofs.Lacking.{HasNeither, Lacks, LacksIn, lacks_both, lacks-put, lacks_without, lacks_flattened, lacks_flattened_part, lacks_opened_inside}
 
 -- ---- literals
@@ -92,7 +92,7 @@ module _ (key : Text) (is_key : IsDefinitionsKey key) where
   shape_lacks : (basis : Basis) (kind : Shape) → HasPlainLiteral kind → Fills (template_of basis kind)
   shape_lacks basis kind plain =
       outer_holds basis Fills HasPlainLiteral
-      (λ d own ts h. lacks_both key is_key d own.lacking)
+      (λ d own ts h. lacks_both key is_key d own.2)
       (λ es others ts h. lacks-keyed es (filled_in (templates_of (map (λ e. e.1) es)) ts) no_members others refl)
       (λ a ts h. first_all In refl ts h)
       (λ t all ts h. lacks_allow_null (filled t ts) (all ts h))

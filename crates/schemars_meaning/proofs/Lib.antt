@@ -41,6 +41,7 @@ pub mod StructReady
 pub mod Meanings
 pub mod FieldsDescribed
 pub mod ShapeInduction
+pub mod ByKeyword
 pub mod Schemas
 pub mod SettledTables
 pub mod PartsDescribed

@@ -24,7 +24,8 @@ use Rattle.schemars_meaning.proofs.ReferencesKept.{Among, among_left, among_righ
 use Rattle.schemars_meaning.proofs.Schemas.{AreSchemas}
 use Rattle.schemars_meaning.proofs.SpreadMaps.{answered_left, IsMapAt, map_keeps, map_holds, part_holds, tag_holds, struct_holds, names_in, more_names, names_apart, tag_apart, apart-first}
 use Rattle.schemars_meaning.proofs.NodeReferences.{StandsAt, AsSchema, AsList, AsNamed, AreItems, AreNamed, AreAtKeys, refers_schema, kept_schema}
-use Rattle.schemars_meaning.proofs.ShapeInduction.{Documents, Keywords, Law, IsUnder, by_keyword, shape_holds}
+use Rattle.schemars_meaning.proofs.ShapeInduction.{Claim, Documents, Law, IsBeside, AreBeside, beside_halves, plain_variants, shape_holds}
+use Rattle.schemars_meaning.proofs.ByKeyword.{IsUnder, Keywords, by_keyword}
 
 -- ---- notes
 
@@ -70,8 +71,15 @@ module _ (Q : Type 0) (Answers : Ask → Data → Type 0) (basis : Basis)
   abbrev PlainParts : List Flattened → Type 0
   PlainParts = ArePlainParts basis.rows
 
-  abbrev AreNames : List Text → Type 0
-  AreNames ks = Q → AreApart ks
+  abbrev claim : Claim
+  claim = record {
+    holds = Schema;
+    inside = Schema;
+    chosen = Schema;
+    names = λ ks. Q → AreApart ks;
+    inner = λ t h. h;
+    choice = λ t h. h;
+  }
 
   -- ---- keywords
 
@@ -98,11 +106,11 @@ module _ (Q : Type 0) (Answers : Ask → Data → Type 0) (basis : Basis)
   at_keys [] h = tt
   at_keys (e ∷ es) h = (h.0, at_keys es h.1)
 
-  keywords : Keywords Schema Schema AreNames
+  keywords : Keywords claim
   unfolding found_in
   keywords = record {
     told = Told;
-    own = λ d is. is.silent;
+    own = λ d is. is.1;
     said = λ k d under whole. told_under k NoSchemas (finished d) under (λ ts. refl);
     items = λ n h. (tt, tt);
     others = λ t h. h;
@@ -112,8 +120,8 @@ module _ (Q : Type 0) (Answers : Ask → Data → Type 0) (basis : Basis)
     apart = λ ks h q. h;
   }
 
-  documents : Documents Schema Schema AreNames
-  documents = by_keyword Schema Schema AreNames (λ t h. h) keywords
+  documents : Documents claim
+  documents = by_keyword claim keywords
 
   -- ---- structs
 
@@ -182,37 +190,22 @@ module _ (Q : Type 0) (Answers : Ask → Data → Type 0) (basis : Basis)
   later : (x : Variant) (xs : List Variant) → ArePlainContents (x ∷ xs) → ArePlainContents xs
   later x xs h = (h.0.2, parts-later (payload_parts x.payload) (variant_parts xs) h.1)
 
-  -- what a variant has, beside its name
-  abbrev IsBeside : Tagging → Payload → Type 0
-  IsBeside (shape.by_tag tag closed) p = IsTagged tag (expanded_payload fields_at enums_at p)
-  IsBeside (shape.by_tag_and_content tag key closed) p = bytes_eq tag key ≡ false
-  IsBeside _ p = Unit {0}
-
-  abbrev AreBeside : Tagging → List Variant → Type 0
-  AreBeside (shape.by_tag tag closed) xs = AreTagged tag (map (expanded_variant fields_at enums_at) xs)
-  AreBeside (shape.by_tag_and_content tag key closed) xs = bytes_eq tag key ≡ false
-  AreBeside _ xs = Unit {0}
-
-  beside_halves : (tagging : Tagging) (x : Variant) (xs : List Variant) → AreBeside tagging (x ∷ xs)
-      → IsBeside tagging x.payload × AreBeside tagging xs
-  beside_halves (shape.by_tag tag closed) x xs h = h
-  beside_halves (shape.by_tag_and_content tag key closed) x xs h = (h, h)
-  beside_halves _ x xs h = (tt, tt)
-
   abbrev OfShape : Shape → Type 0
   OfShape kind = IsNotedShape kind × (Q → IsPlainShape (expanded_shape_in basis.rows kind) × PlainParts (parts_in kind))
 
   abbrev OfVariants : Tagging → List Variant → Type 0
-  OfVariants tagging xs = AreNotedVariants xs × (Q → ArePlainContents xs × AreBeside tagging xs)
+  OfVariants tagging xs = AreNotedVariants xs × (Q → ArePlainContents xs × AreBeside fields_at enums_at tagging xs)
 
   abbrev OfPayload : Tagging → Payload → Type 0
-  OfPayload tagging p = IsNotedPayload p × (Q → IsPlainContent p × IsBeside tagging p)
+  OfPayload tagging p = IsNotedPayload p × (Q → IsPlainContent p × IsBeside fields_at enums_at tagging p)
 
   variants : (tagging : Tagging) (xs : List Variant) → OfShape (shape.enum tagging xs) → OfVariants tagging xs
-  variants shape.by_name xs h = (h.0, λ q. (((h.1 q).0.1, (h.1 q).1), tt))
-  variants shape.by_nothing xs h = (h.0, λ q. (h.1 q, tt))
-  variants (shape.by_tag tag closed) xs h = (h.0, λ q. (((h.1 q).0.1, (h.1 q).1), (h.1 q).0.2))
-  variants (shape.by_tag_and_content tag key closed) xs h = (h.0, λ q. (((h.1 q).0.2, (h.1 q).1), (h.1 q).0.0))
+  variants tagging xs h =
+      (h.0, λ q. let own = plain_variants fields_at enums_at tagging xs (h.1 q).0 in ((own.0, (h.1 q).1), own.1))
+
+  payload : (tagging : Tagging) (x : Variant) (xs : List Variant) → OfVariants tagging (x ∷ xs) → OfPayload tagging x.payload
+  payload tagging x xs h =
+      (h.0.1, λ q. (here x xs (h.1 q).0, (beside_halves fields_at enums_at tagging x xs (h.1 q).1).0))
 
   -- beside the tag
   tagged_as_schema : (tag name : Text) (closed : Bool) (p : Payload) → OfPayload (shape.by_tag tag closed) p
@@ -236,27 +229,24 @@ module _ (Q : Type 0) (Answers : Ask → Data → Type 0) (basis : Basis)
 
   refers_law : Law basis
   refers_law = record {
-    holds = Schema;
-    is_item = Schema;
-    are_names = AreNames;
+    claim = claim;
+    documents = documents;
     of_shape = OfShape;
     of_variants = OfVariants;
     of_payload = OfPayload;
-    documents = documents;
-    item = λ t h. h;
     rows = λ kind m h is. tt;
     option = λ n h. h;
     struct = λ x h. struct_as_schema x h.0 (λ q. ((h.1 q).0.0, (h.1 q).1));
     variants = variants;
     literal = λ d h. ap references (literal_document-schema d (literal_is_schema d h.0)) ∙ literal_refers_nowhere d h.0;
-    payload = λ tagging x xs h. (h.0.1, λ q. (here x xs (h.1 q).0, (beside_halves tagging x xs (h.1 q).1).0));
+    payload = payload;
     notes = λ tagging x xs h t is. (h.0.0, is);
-    later = λ tagging x xs h. (h.0.2, λ q. (later x xs (h.1 q).0, (beside_halves tagging x xs (h.1 q).1).1));
+    later = λ tagging x xs h. (h.0.2, λ q. (later x xs (h.1 q).0, (beside_halves fields_at enums_at tagging x xs (h.1 q).1).1));
     title = λ name t h. ((refl, tt), h);
     payload_rows = λ tagging p m h is. tt;
     payload_struct = λ tagging x h. struct_as_schema x h.0 (λ q. ((h.1 q).0.0.0, (h.1 q).0.1));
     content_row = λ tag closed n h. tt;
-    tag = tagged_as_schema;
+    tag = λ tag closed x xs h is. (h.0.0, tagged_as_schema tag x.name closed x.payload (payload (shape.by_tag tag closed) x xs h) is);
     beside = λ tag key closed p h q. ((flipped tag key (h.1 q).1, tt), (tt, tt));
   }
 

@@ -5,7 +5,8 @@ use Rattle.std.proofs.lemmas.List.Elements.{Contains-append_left, Contains-appen
 use Rattle.schemars_shapes.specs.Shape.{Tagging, enum, by_tag, numbers_of, flattened_numbers, flattened_rows, fields_numbers, payload_numbers, payload_flattened, variant_numbers, of_variants}
 use Rattle.schemars_types.specs.declared.contract.Contract.{Contract}
 use Rattle.schemars_documents.specs.OfShape.{members_asked}
-use Rattle.schemars_meaning.proofs.ShapeInduction.{AreKeysApart, Documents, Keywords, Law, by_value, by_keyword, struct_holds, shape_holds}
+use Rattle.schemars_meaning.proofs.ShapeInduction.{of_each, AreKeysApart, Documents, Law, shape_holds}
+use Rattle.schemars_meaning.proofs.ByKeyword.{Keywords, by_value, by_keyword, struct_holds}
 
 abbrev pub asks_at : List Field → List Ask
 asks_at xs = asks_in (templates_of (map (λ e. e.1) (map property xs)))
@@ -45,11 +46,11 @@ module _ (P : Ask → Type 0) where
   listed [] h = All-nil P
   listed (t ∷ ts) h = All-append P (asks_of t) (asks_in (templates_of ts)) h.0 (listed ts h.1)
 
-  by_asks : Keywords Asks Asks (λ ks. Unit {0})
+  by_asks : Keywords (of_each Asks)
   by_asks = by_value Asks (λ d h. All-nil P) listed (λ ks ts h. listed ts h)
 
-  documents : Documents Asks Asks (λ ks. Unit {0})
-  documents = by_keyword Asks Asks (λ ks. Unit {0}) (λ t h. h) by_asks
+  documents : Documents (of_each Asks)
+  documents = by_keyword (of_each Asks) by_asks
 
   -- rows alone are asked for the values of a map
   pub values_ask : (options : KeyOptions) (value : ℕ) → AreKeysApart options → P (part value)
@@ -76,7 +77,7 @@ module _ (P : Ask → Type 0) where
   struct_all : (contract : Contract) (x : Fields) → Parts (fields_numbers x) → Members (flattened_rows x)
       → Asks (struct_template contract x)
   struct_all contract x h g =
-      struct_holds Asks Asks (λ ks. Unit {0}) (λ t h. h) by_asks contract (λ t u h g. All-append P (asks_of t) (asks_of u) h g) x
+      struct_holds (of_each Asks) by_asks contract (λ t u h g. All-append P (asks_of t) (asks_of u) h g) x
       (fields_all x.list (λ m is. h m (Contains-append_left (map (λ x. x.ty) x.list) (flattened_rows x) m is))) tt
       (flattened_all contract x.flatten g)
 
@@ -125,14 +126,11 @@ module _ (P : Ask → Type 0) where
 
   asks_law : (basis : Basis) → Law basis
   asks_law basis = record {
-    holds = Asks;
-    is_item = Asks;
-    are_names = λ ks. Unit {0};
+    claim = of_each Asks;
+    documents = documents;
     of_shape = OfShape;
     of_variants = OfVariants;
     of_payload = OfPayload;
-    documents = documents;
-    item = λ t h. h;
     rows = λ kind m h is. one (part m) (h.0 m is);
     option = λ n h. h;
     struct = λ x h. struct_all basis.contract x h.0 h.1;
@@ -145,7 +143,7 @@ module _ (P : Ask → Type 0) where
     payload_rows = λ tagging p m h is. one (part m) (h.0 m is);
     payload_struct = λ tagging x h. struct_all basis.contract x h.0 h.1;
     content_row = λ tag closed n h. one (content n) (h.2 n (0, omega arith, refl));
-    tag = λ tag name closed p h is. is;
+    tag = λ tag closed x xs h is. is;
     beside = λ tag key closed p h. tt;
   }
 

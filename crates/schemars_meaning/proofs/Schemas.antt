@@ -8,7 +8,7 @@ use Rattle.schemars_documents.specs.Documents.{is_signed}
 use Rattle.schemars_documents.specs.Template.{with_keywords, tagged}
 use Rattle.schemars_documents.specs.OfShape.{literal_document}
 use Rattle.schemars_meaning.proofs.Notes.{annotated-schema}
-use Rattle.schemars_meaning.proofs.ShapeInduction.{outer_holds}
+use Rattle.schemars_meaning.proofs.ByKeyword.{outer_holds}
 use Rattle.schemars_meaning.proofs.Parts.{first_all, described_holds, written_holds}
 use Rattle.schemars_meaning.proofs.ReferencesKept.{allow_null-schema}
 
@@ -46,7 +46,7 @@ literal_makes _ = tt
 
 shape_makes : (basis : Basis) (kind : Shape) → MakesSchema (template_of basis kind)
 shape_makes basis kind =
-    outer_holds basis MakesSchema (λ kind. Unit {0}) (λ d is. is.schema) (λ es h. tt) (λ a. tt) (λ t h. h) (λ t u h g. h)
+    outer_holds basis MakesSchema (λ kind. Unit {0}) (λ d is. is.0) (λ es h. tt) (λ a. tt) (λ t h. h) (λ t u h g. h)
     (λ d h. literal_makes d) kind tt
 
 -- the filled template of an entry is a schema, where the answers are
