@@ -2,16 +2,9 @@
 ghost use Rattle.std.specs.Prelude.{◌≡◌, ◌≢◌, ◌⊎◌, ◌↔◌, ℕ, List, Some, None, true, Err, IsTrue, IfOk, IfErr, OnOk, [], ◌∷◌, ◌<◌, length};
 ghost use Rattle.std.specs.Io.KnownBytes.{Consumes, IsAtEnd};
 ghost use Rattle.serde_json.specs.View.{view, members_view};
-ghost use Rattle.schemars_types.specs.Faults.{IsAccepted};
-ghost use Rattle.schemars_generate.specs.Refusals.{HasFault};
-ghost use Rattle.schemars_generate.specs.Generator.{settings_of, state, transforms_of};
 ghost use Rattle.schemars_transform.specs.Member.{some_own};
-ghost use Rattle.schemars_sample.specs.Example.{example_of};
-ghost use Rattle.schemars_sample.specs.SampleJson.{sample_json};
-ghost use Rattle.schemagen_input.specs.Input.{is_table};
-ghost use Rattle.schemagen_input.specs.SampleInput.{sample_input, IsAsRead};
 ghost use Rattle.schemagen_run.specs.declared.words.Dialect.TheVariants.{OpenApi3};
-ghost use Rattle.schemagen_run.specs.Run.{GivesAll, IsTextOf, IsNoJson, IsBadTable, IsTableText, IsAcceptedText, IsNotedText, IsFaultyTable, IsRefusal, IsLineRefusal, settings_for, settings_of_dialect, transforms_of_dialect, fresh, IsLineOf, IsTableLine, IsUnplacedText, AreTaken, IsNotWhole, IsSampleText, IsSampleDocument, IsExampleLine, IsSampleLineOf, IsSampleLine, IsLineFor};
+ghost use Rattle.schemagen_run.specs.Run.{IsAccepted, HasFault, settings_of, state, transforms_of, example_of, sample_json, is_table, sample_input, IsAsRead, GivesAll, IsTextOf, IsNoJson, IsBadTable, IsTableText, IsAcceptedText, IsNotedText, IsFaultyTable, IsRefusal, IsLineRefusal, settings_for, settings_of_dialect, transforms_of_dialect, fresh, IsLineOf, IsTableLine, IsUnplacedText, AreTaken, IsNotWhole, IsSampleText, IsSampleDocument, IsExampleLine, IsSampleLineOf, IsSampleLine, IsLineFor};
 ghost use Rattle.schemagen_run.specs.Writing.{WritesLine};
 ghost use Rattle.schemagen_run.specs.Promises.{RefusesWords, RefusesInput, RefusesDocument, WritesLineFor, RefusesOnlyOutside};
 ghost use Rattle.schemagen_run.specs.Output.{IsOutputOf, IsFreshFor};
