@@ -10,7 +10,7 @@ use Rattle.schemars_documents.specs.PlainTable.{IsPlainShape, IsTagged, AreTagge
 use Rattle.schemars_documents.specs.Template.{row, asks_in, first, Templates}
 use Rattle.schemars_documents.specs.OfShape.{templates_of, map_template, tuple_template, content_template, title_alone}
 use Rattle.schemars_documents.proofs.Literals.{literal_document-schema}
-use Rattle.schemars_meaning.proofs.Filling.{without_end, parted}
+use Rattle.schemars_meaning.proofs.Filling.{without_end, all_filled}
 use Rattle.schemars_meaning.proofs.ByShape.{tuple_fills}
 use Rattle.schemars_meaning.proofs.Enums.{title_noted}
 use Rattle.schemars_meaning.proofs.Rows.{values_ask}
@@ -110,18 +110,9 @@ module _ (R : Demand) (A : Ask → Data → Type 0) (basis : Basis) (Under : Lis
   abbrev pub Makes : Template → Type 0
   Makes t = (us : List Data) → Fit A (asks_of t) us → IsGood R (filled t us)
 
-  all-filled : (ts : List Template) → AllByRecursion Makes ts → (us : List Data) → Fit A (asks_in (templates_of ts)) us
-      → AllGood R (filled_in (templates_of ts) us)
-  all-filled [] make us fit = tt
-  all-filled (t ∷ ts) make us fit =
-      let p = parted A t (asks_in (templates_of ts)) us fit in (
-        subst (IsGood R) (sym p.4) (make.0 p.0 p.2),
-        subst (λ ws. AllGood R (filled_in (templates_of ts) ws)) (sym p.5) (all-filled ts make.1 p.1 p.3),
-      )
-
   all-last : (ts : List Template) → AllByRecursion Makes ts → (us : List Data) → Fit A (asks_in (templates_of ts) ++ []) us
       → AllGood R (filled_in (templates_of ts) us)
-  all-last ts make us fit = all-filled ts make us (without_end A (asks_in (templates_of ts)) us fit)
+  all-last ts make us fit = all_filled A (IsGood R) ts make us (without_end A (asks_in (templates_of ts)) us fit)
 
   map-makes : (es : List KeywordTemplate) (ks : List Text) (closed : Bool) → AllByRecursion (λ e. Makes e.1) es
       → Makes (map_template es (text_items ks) closed)
@@ -164,7 +155,7 @@ module _ (R : Demand) (A : Ask → Data → Type 0) (basis : Basis) (Under : Lis
 
   documents : Documents (of_each Makes)
   documents = record {
-    type_of = λ name us fit. type-good R name;
+    type_of = λ name is us fit. type-good R name;
     int = λ kind us fit. int-good R kind;
     non_zero = λ kind us fit. non_zero-good R kind;
     char = λ us fit. char-good R;

@@ -230,7 +230,7 @@ module _ (c : Claim) (k : Keywords c) where
   pub by_keyword : Documents c
   unfolding found_in
   by_keyword = record {
-    type_of = λ name. k.own (type_alone name) (tt, refl, (refl, refl), refl);
+    type_of = λ name is. k.own (type_alone name) (tt, refl, (refl, refl), refl);
     int = λ kind. k.own (int_document kind) (ints_own (format_of kind) (least_of kind) (greatest_of kind)).0;
     non_zero = λ kind. k.own (non_zero_document kind) (either IsOwn (is_signed kind) _ _
         (ints_own (format_of kind) (least_of kind) (greatest_of kind)).1 (ints_own (format_of kind) (Some (pos 1)) (greatest_of kind)).0);

@@ -1,6 +1,8 @@
 -- What holds of the template of every shape, where it holds of each way that templates are put together.
 use Rattle.std.proofs.Common.{◌≡◌, ℕ, zero, suc, List, [], ◌∷◌, map, Bool, true, false, refl, arith, Contains}
 use Rattle.schemars_meaning.proofs.Words.{AllByRecursion, codes, bytes_eq, not, if◌then◌else◌, Data, boolean, Text, text_items, unit_variant, Shape, Field, Flattened, Fields, Payload, Variant, no_payload, newtype_payload, tuple_payload, struct_payload, is_bare_unit, expanded_payload, expanded_variant, KeyOptions, keys, key_options, type_alone, int_document, non_zero_document, bytes_document, ArePlainVariants, AreTagged, IsPlainShape, IsTagged, Basis, Template, content, finished, asked, row, nullable, noted, KeywordTemplate, map_template, member_template, struct_template, tuple_template, payload_template, named_template, content_template, bare_units, other_items, choice_of, titled, payload_item, untagged_template, internal_item, internal_template, said, whole_template, adjacent_payload, adjacent_item, adjacent_template, values_template, template_of}
+use Rattle.schemars_text.specs.OrderedText.{is_listed}
+use Rattle.schemars_schema.specs.Acceptance.{type_names}
 use Rattle.schemars_shapes.specs.Shape as shape
 use Rattle.schemars_shapes.specs.Shape.{Tagging, numbers_of, payload_numbers}
 use Rattle.schemars_shapes.specs.declared.shape.IntKind.{IntKind}
@@ -45,7 +47,7 @@ names_of es = map (λ e. e.0) es
 
 -- It holds of the documents that templates are put together as, where it holds of their parts.
 pub record Documents (c : Claim) : Type 0 where
-  pub type_of : (name : Text) → c.holds (finished (type_alone name))
+  pub type_of : (name : Text) → is_listed name type_names ≡ true → c.holds (finished (type_alone name))
   pub int : (kind : IntKind) → c.holds (finished (int_document kind))
   pub non_zero : (kind : IntKind) → c.holds (finished (non_zero_document kind))
   pub char : c.holds (finished char_document)
@@ -131,7 +133,7 @@ module _ (basis : Basis) (law : Law basis) where
   -- ---- variants
 
   payload_holds : (tagging : Tagging) (p : Payload) → law.of_payload tagging p → claim.holds (payload_template contract p)
-  payload_holds tagging no_payload h = docs.type_of (codes "null")
+  payload_holds tagging no_payload h = docs.type_of (codes "null") refl
   payload_holds tagging (newtype_payload n) h = law.payload_rows tagging (newtype_payload n) n h (first_row n [])
   payload_holds tagging (tuple_payload ns) h = docs.tuple ns (λ m is. law.payload_rows tagging (tuple_payload ns) m h is)
   payload_holds tagging (struct_payload x) h = law.payload_struct tagging x h
@@ -186,7 +188,7 @@ module _ (basis : Basis) (law : Law basis) where
 
   content_holds : (tag : Text) (closed : Bool) (p : Payload) → law.of_payload (shape.by_tag tag closed) p
       → claim.holds (content_template contract p)
-  content_holds tag closed no_payload h = docs.type_of (codes "null")
+  content_holds tag closed no_payload h = docs.type_of (codes "null") refl
   content_holds tag closed (newtype_payload n) h = law.content_row tag closed n h
   content_holds tag closed (tuple_payload ns) h = payload_holds (shape.by_tag tag closed) (tuple_payload ns) h
   content_holds tag closed (struct_payload x) h = law.payload_struct (shape.by_tag tag closed) x h
@@ -231,12 +233,12 @@ module _ (basis : Basis) (law : Law basis) where
   -- ---- by shape
 
   pub shape_holds : (kind : Shape) → law.of_shape kind → claim.holds (template_of basis kind)
-  shape_holds shape.null h = docs.type_of (codes "null")
-  shape_holds shape.bool h = docs.type_of (codes "boolean")
+  shape_holds shape.null h = docs.type_of (codes "null") refl
+  shape_holds shape.bool h = docs.type_of (codes "boolean") refl
   shape_holds (shape.int kind) h = docs.int kind
   shape_holds (shape.non_zero kind) h = docs.non_zero kind
-  shape_holds shape.number h = docs.type_of (codes "number")
-  shape_holds shape.text h = docs.type_of (codes "string")
+  shape_holds shape.number h = docs.type_of (codes "number") refl
+  shape_holds shape.text h = docs.type_of (codes "string") refl
   shape_holds shape.char h = docs.char
   shape_holds (shape.formatted format) h = docs.formatted format
   shape_holds shape.any h = docs.truth true
