@@ -1,12 +1,11 @@
 -- What fills the templates of enums and maps is what the laws of the drafts speak of, where the answers are.
 use Rattle.std.proofs.Common.{ℕ, List, [], ◌∷◌, ◌++◌, map, Bool, true, false, codes, refl, sym, subst}
-use Rattle.schemars_headline.proofs.Words.{if◌then◌else◌, AllByRecursion, Data, string, Members, no_members, put, Text, put_all, AreNotes, Field, Fields, Flattened, Payload, Shape, Variant, KeyOptions, keys, AreNoted, Keyword, Basis, Ask, part, Template, asks_of, filled, filled_in, keyed, left, struct_template, template_of, KeywordTemplate, typed_template, object_with, values_of, all_patterns, pattern_properties_at, properties_at, other_values, values_template, internally_tagged_variant, first_all, left_all, Fit, asked_of_members}
+use Rattle.schemars_headline.proofs.Words.{AllByRecursion, Data, string, no_members, put, Text, put_all, Field, Fields, Flattened, Shape, KeyOptions, keys, AreNoted, Keyword, Basis, Ask, part, Template, asks_of, filled, filled_in, keyed, left, struct_template, template_of, KeywordTemplate, typed_template, object_with, values_of, all_patterns, pattern_properties_at, properties_at, other_values, values_template, internally_tagged_variant, first_all, left_all, Fit, asked_of_members}
 use Rattle.std.proofs.lemmas.List.Elements.{recursion_from_All}
 use Rattle.schemars_schema.proofs.Literals.{literal_is_schema}
 use Rattle.schemars_builders.specs.NullLaw.{text_items}
-use Rattle.schemars_shapes.specs.Shape.{Tagging, enum, by_tag}
-use Rattle.schemars_types.specs.Effective.{flattened_fields, effective, expanded_payload, expanded_shape, expanded_variant}
-use Rattle.schemars_documents.specs.PlainTable.{IsPlainShape, IsTagged, AreTagged, parts_in, payload_parts, variant_parts, IsNotedPayload, IsNotedShape, AreNotedVariants}
+use Rattle.schemars_types.specs.Effective.{flattened_fields, effective, expanded_shape}
+use Rattle.schemars_documents.specs.PlainTable.{IsPlainShape, parts_in, payload_parts, variant_parts, IsNotedPayload, IsNotedShape, AreNotedVariants}
 use Rattle.schemars_documents.specs.Template.{row, asks_in, first, Templates}
 use Rattle.schemars_documents.specs.OfShape.{templates_of, map_template, tuple_template, content_template, title_alone}
 use Rattle.schemars_documents.proofs.Literals.{literal_document-schema}

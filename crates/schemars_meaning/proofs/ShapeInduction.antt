@@ -36,6 +36,9 @@ of_each Holds = record {
   choice = λ t h. h;
 }
 
+pub chosen_by : (c : Claim) (t : Template) → c.holds t → c.chosen t
+chosen_by c t h = c.choice t (c.inner t h)
+
 -- the texts among options are all different, and so are the patterns
 abbrev pub AreKeysApart : KeyOptions → Type 0
 AreKeysApart (keys others texts integers ps) = AreApart texts × AreApart ps
@@ -92,8 +95,10 @@ pub record Law (basis : Basis) : Type 1 where
   pub later : (tagging : Tagging) (x : Variant) (xs : List Variant) → of_variants tagging (x ∷ xs) → of_variants tagging xs
   pub title : (name : Text) (t : Template) → claim.inside t → claim.inside (noted (title_alone name) t)
   -- of what a variant has
-  pub payload_rows : (tagging : Tagging) (p : Payload) (m : ℕ) → of_payload tagging p → Contains (payload_numbers p) m → claim.holds (row m)
-  pub payload_struct : (tagging : Tagging) (x : Fields) → of_payload tagging (struct_payload x) → claim.holds (struct_template basis.contract x)
+  pub payload_rows : (tagging : Tagging) (p : Payload) (m : ℕ) → of_payload tagging p → Contains (payload_numbers p) m
+      → claim.holds (row m)
+  pub payload_struct : (tagging : Tagging) (x : Fields) → of_payload tagging (struct_payload x)
+      → claim.holds (struct_template basis.contract x)
   pub content_row : (tag : Text) (closed : Bool) (n : ℕ) → of_payload (shape.by_tag tag closed) (newtype_payload n)
       → claim.holds (asked (content n))
   pub tag : (tag : Text) (closed : Bool) (x : Variant) (xs : List Variant) → of_variants (shape.by_tag tag closed) (x ∷ xs)
@@ -151,9 +156,6 @@ module _ (basis : Basis) (law : Law basis) where
   named_holds name (tuple_payload ns) h = member_holds true name _ (payload_holds shape.by_name (tuple_payload ns) h)
   named_holds name (struct_payload x) h = member_holds true name _ (payload_holds shape.by_name (struct_payload x) h)
 
-  chosen_by : (t : Template) → claim.holds t → claim.chosen t
-  chosen_by t h = claim.choice t (claim.inner t h)
-
   others_hold : (xs : List Variant) → law.of_variants shape.by_name xs → AllByRecursion claim.chosen (other_items contract xs)
   others_hold [] h = tt
   others_hold (x ∷ xs) h = go (is_bare_unit x) (others_hold xs (law.later shape.by_name x xs h))
@@ -172,7 +174,7 @@ module _ (basis : Basis) (law : Law basis) where
   choice_holds [] [] h = docs.truth false
   choice_holds [] (t ∷ ts) h = docs.one_of (t ∷ ts) h
   choice_holds (k ∷ ks) [] h = docs.units (k ∷ ks)
-  choice_holds (k ∷ ks) (t ∷ ts) h = docs.one_of (units_template (k ∷ ks) ∷ t ∷ ts) (chosen_by _ (docs.units (k ∷ ks)), h)
+  choice_holds (k ∷ ks) (t ∷ ts) h = docs.one_of (units_template (k ∷ ks) ∷ t ∷ ts) (chosen_by claim _ (docs.units (k ∷ ks)), h)
 
   titled_item : (titles : Bool) (name : Text) (t : Template) → claim.inside t → claim.inside (titled titles name t)
   titled_item false name t h = h
@@ -253,25 +255,27 @@ module _ (basis : Basis) (law : Law basis) where
   shape_holds (shape.tuple ns) h = docs.tuple ns (λ m is. law.rows (shape.tuple ns) m h is)
   shape_holds (shape.struct x) h = law.struct x h
   shape_holds (shape.newtype n) h = law.rows (shape.newtype n) n h (first_row n [])
-  shape_holds (shape.result a b) h = docs.one_of (member_template false (codes "Ok") (row a) ∷ member_template false (codes "Err") (row b) ∷ []) (
-    chosen_by _ (member_holds false (codes "Ok") (row a) (law.rows (shape.result a b) a h (first_row a (b ∷ [])))),
-    (chosen_by _ (member_holds false (codes "Err") (row b) (law.rows (shape.result a b) b h (second_row a b))), tt),
-  )
+  shape_holds (shape.result a b) h =
+      docs.one_of (member_template false (codes "Ok") (row a) ∷ member_template false (codes "Err") (row b) ∷ []) (
+        chosen_by claim _ (member_holds false (codes "Ok") (row a) (law.rows (shape.result a b) a h (first_row a (b ∷ [])))),
+        (chosen_by claim _ (member_holds false (codes "Err") (row b) (law.rows (shape.result a b) b h (second_row a b))), tt),
+      )
   shape_holds (shape.bound n) h =
       let own = law.rows (shape.bound n) n h (first_row n []) in
       docs.one_of (member_template false (codes "Included") (row n) ∷ member_template false (codes "Excluded") (row n)
       ∷ finished (unit_variant (codes "Unbounded")) ∷ []) (
-        chosen_by _ (member_holds false (codes "Included") (row n) own),
-        (chosen_by _ (member_holds false (codes "Excluded") (row n) own), (chosen_by _ (docs.unit (codes "Unbounded")), tt)),
+        chosen_by claim _ (member_holds false (codes "Included") (row n) own),
+        (chosen_by claim _ (member_holds false (codes "Excluded") (row n) own), (chosen_by claim _ (docs.unit (codes "Unbounded")), tt)),
       )
   shape_holds (shape.range n) h =
       let own = claim.inner (row n) (law.rows (shape.range n) n h (first_row n [])) in
       docs.maps ((codes "start", row n) ∷ (codes "end", row n) ∷ []) (codes "start" ∷ codes "end" ∷ []) false (own, (own, tt))
       (docs.apart (codes "start" ∷ codes "end" ∷ []) ((refl, tt), (tt, tt)))
-  shape_holds (shape.either a b) h = docs.one_of (member_template true (codes "Left") (row a) ∷ member_template true (codes "Right") (row b) ∷ []) (
-    chosen_by _ (member_holds true (codes "Left") (row a) (law.rows (shape.either a b) a h (first_row a (b ∷ [])))),
-    (chosen_by _ (member_holds true (codes "Right") (row b) (law.rows (shape.either a b) b h (second_row a b))), tt),
-  )
+  shape_holds (shape.either a b) h =
+      docs.one_of (member_template true (codes "Left") (row a) ∷ member_template true (codes "Right") (row b) ∷ []) (
+        chosen_by claim _ (member_holds true (codes "Left") (row a) (law.rows (shape.either a b) a h (first_row a (b ∷ [])))),
+        (chosen_by claim _ (member_holds true (codes "Right") (row b) (law.rows (shape.either a b) b h (second_row a b))), tt),
+      )
   shape_holds (shape.map_from key value) h =
       docs.values (key_options basis.rows key) value (keys_apart (or_any_text (all_options basis.rows key)))
       (law.rows (shape.map_from key value) value h (second_row key value))
