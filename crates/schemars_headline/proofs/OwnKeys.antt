@@ -1,13 +1,7 @@
 -- The document of a row has no definitions of its own.
 use Rattle.std.proofs.Common.{◌≡◌, ℕ, List, [], ◌∷◌, map, Option, Some, None, Bool, true, false, refl, subst}
-use Rattle.schemars_headline.proofs.Words.{codes, is_some, if◌then◌else◌, AllByRecursion, Data, null, boolean, string, array, object, no_items, item, Members, no_members, member, put, get_member, Text, without, is_null, members_in, put_all, put_members, AreNotes, is_null_choice, is_combined, or_null, allow_null, type_with_null, null_in_type, enum_with_null, null_in_enum, const_or_null, null_in_const, null_in_values, Shape, Entry, entry_at, annotated, with_title, with_meta_schema, root_document, reference, Basis, Template, keyed, left, filled, filled_in, KeywordTemplate, template_of, entry_template, Describes, HasPlainLiteral, IsNotedEntry, HasPlainNotes, first_all, left_all}
-use Rattle.schemars_builders.specs.AllowNull.{null_schema}
-use Rattle.schemars_documents.specs.OfShape.{templates_of, literal_document}
-use Rattle.schemars_schema.specs.Literal.{IsPlainLiteral}
-use Rattle.schemars_schema.proofs.Literals.{plain_absent}
+use Rattle.schemars_headline.proofs.Words.{HasNeither, IsOther, codes, is_some, if◌then◌else◌, AllByRecursion, Data, null, boolean, string, array, object, no_items, item, Members, no_members, member, put, get_member, Text, without, is_null, members_in, put_all, put_members, AreNotes, is_null_choice, is_combined, or_null, allow_null, type_with_null, null_in_type, enum_with_null, null_in_enum, const_or_null, null_in_const, null_in_values, Shape, Entry, entry_at, annotated, with_title, with_meta_schema, root_document, reference, Basis, Template, keyed, left, filled, filled_in, KeywordTemplate, template_of, entry_template, Describes, HasPlainLiteral, IsNotedEntry, HasPlainNotes, first_all, left_all, null_schema, templates_of, literal_document, IsPlainLiteral, plain_absent, described_holds, outer_holds}
 use Rattle.schemars_headline.proofs.Keys.{IsDefinitionsKey, annotation_other}
-use Rattle.schemars_meaning.proofs.Parts.{described_holds}
-use Rattle.schemars_meaning.proofs.ByKeyword.{HasNeither, IsOther, outer_holds}
 use Rattle.schemars_headline.proofs.Lacking.{Lacks, LacksIn, lacks_both, lacks-put, lacks_without, lacks_flattened, lacks_flattened_part, lacks_opened_inside}
 
 -- ---- literals
