@@ -1,23 +1,11 @@
 -- What holds of objects by their keywords, and of all documents that are put together of them.
 use Rattle.std.proofs.Common.{◌≡◌, ℕ, ℤ, pos, negsuc, List, [], ◌∷◌, ◌++◌, map, length, Bool, true, false, Option, Some, None, refl, arith, Contains}
-use Rattle.schemars_meaning.proofs.Words.{AllByRecursion, codes, bytes_eq, not, Data, boolean, number, string, array, Text, get_member, IsSchema, members_in, object_of, references, NoSchemas, text_items, unit_variant, Shape, Fields, Flattened, KeyOptions, keys, required_names, type_alone, int_document, non_zero_document, bytes_document, Basis, Template, Ask, part, content, asked, finished, row, list, members, nullable, KeywordTemplate, templates_of, property, map_template, fields_template, with_flattened, struct_template, tuple_template, said, values_of, all_patterns, pattern_properties_at, properties_at, values_template, template_of}
-use Rattle.std.proofs.lemmas.List.Elements.{Contains-append_right}
-use Rattle.serde_json.specs.Data.{unsigned}
-use Rattle.serde_json.specs.Find.{of_integer, is_float}
-use Rattle.serde_json.specs.Written.{has_float, items_have_float}
-use Rattle.schemars_text.specs.OrderedText.{is_listed}
-use Rattle.schemars_schema.specs.References.{Place, SchemaList, SchemasByName, place_under, found_in}
-use Rattle.schemars_builders.specs.NullLaw.{zero_schema}
+use Rattle.schemars_meaning.proofs.Words.{AllByRecursion, codes, bytes_eq, not, Data, boolean, number, string, array, Text, get_member, IsSchema, members_in, object_of, references, NoSchemas, text_items, unit_variant, Shape, Fields, Flattened, KeyOptions, keys, required_names, type_alone, int_document, non_zero_document, bytes_document, Basis, Template, Ask, part, content, asked, finished, row, list, members, nullable, KeywordTemplate, templates_of, property, map_template, fields_template, with_flattened, struct_template, tuple_template, said, values_of, all_patterns, pattern_properties_at, properties_at, values_template, template_of, Contains-append_right, unsigned, of_integer, is_float, has_float, items_have_float, is_listed, Place, SchemaList, SchemasByName, place_under, zero_schema, format_of, pattern_of, least_of, greatest_of, int_keywords, is_signed, char_document, formatted_document, empty_list_document, schema_document, with_keywords, object_with, typed_template, count_template, exactly, list_template, units_template, members_asked, required_at, closed_keyword, other_values, literal_document}
+use Rattle.schemars_schema.specs.References.{found_in}
 use Rattle.schemars_shapes.specs.Shape as shape
 use Rattle.schemars_shapes.specs.declared.shape.IntegerKeys.{IntegerKeys}
-use Rattle.schemars_shapes.specs.IntKind.{format_of}
-use Rattle.schemars_shapes.specs.IntegerKeys.{pattern_of}
 use Rattle.schemars_types.specs.declared.contract.Contract.{Contract}
 use Rattle.schemars_types.specs.declared.contract.Contract.TheVariants.{Deserialize, Serialize}
-use Rattle.schemars_types.specs.Meaning.{least_of, greatest_of}
-use Rattle.schemars_documents.specs.Documents.{int_keywords, is_signed, char_document, formatted_document, empty_list_document, schema_document}
-use Rattle.schemars_documents.specs.Template.{with_keywords}
-use Rattle.schemars_documents.specs.OfShape.{object_with, typed_template, count_template, exactly, list_template, units_template, members_asked, required_at, closed_keyword, other_values, literal_document}
 use Rattle.schemars_meaning.proofs.ReferencesKept.{IsNoKey, AreApart, apart-filter, others_apart}
 use Rattle.schemars_meaning.proofs.Parts.{either}
 use Rattle.schemars_meaning.proofs.ShapeInduction.{Claim, of_each, chosen_by, AreKeysApart, names_of, Documents, Law, shape_holds}

@@ -1,7 +1,6 @@
 -- The documents of shapes into which nothing is flattened say what the shapes mean, and null can be added to each document.
 use Rattle.std.proofs.Common.{◌≡◌, ◌⊎◌, ℕ, ◌<◌, inl, inr, List, [], ◌∷◌, ◌++◌, map, Bool, true, false, refl, sym, ◌∙◌, subst}
-use Rattle.schemars_meaning.proofs.Words.{AllByRecursion, ArePlainVariants, KeywordTemplate, Template, expanded_variant, filled_in, first, map_template, payload_parts, row, asks_in, template_of, templates_of, text_items, variant_parts, Data, depth, verdict, Text, IsJson, IsSchema, draft2020_12, Patterns, Judge, Context, judge, context2020_12, IsReady, ready-schema, key_options, Shape, Field, Flattened, Fields, VariantMatch, has_shape, Basis, IsPlainShape, parts_in, Ask, part, asks_of, filled, struct_template, codes}
-use Rattle.schemars_builders.proofs.Nulls.{AreReady, ready-law, ready-allow_null}
+use Rattle.schemars_meaning.proofs.Words.{AllByRecursion, ArePlainVariants, KeywordTemplate, Template, expanded_variant, filled_in, first, map_template, payload_parts, row, asks_in, template_of, templates_of, text_items, variant_parts, Data, depth, verdict, Text, IsJson, IsSchema, draft2020_12, Patterns, Judge, Context, judge, context2020_12, IsReady, ready-schema, key_options, Shape, Field, Flattened, Fields, VariantMatch, has_shape, Basis, IsPlainShape, parts_in, Ask, part, asks_of, filled, struct_template, codes, AreReady, ready-law, ready-allow_null, expanded_shape, title_alone, literal_is_schema, literal_judged, literal_ready, literal_document-schema}
 use Rattle.schemars_meaning.proofs.Ready.{int_ready, non_zero_ready, bytes_ready, map_ready, tuple_ready, one_of_ready, any_of_ready, units_ready}
 use Rattle.schemars_meaning.proofs.Notes.{ready-annotated}
 use Rattle.schemars_meaning.proofs.Enums.{IsNewtypeIn, title_noted}
@@ -10,13 +9,8 @@ use Rattle.schemars_meaning.proofs.Keyed.{values_ready, values_say}
 use Rattle.schemars_shapes.specs.Shape as shape
 use Rattle.schemars_types.specs.declared.contract.Contract.{Contract}
 use Rattle.schemars_meaning.proofs.ByShape.{IsDocument, tuple_fills}
-use Rattle.schemars_types.specs.Effective.{expanded_shape}
-use Rattle.schemars_documents.specs.OfShape.{title_alone}
 use Rattle.schemars_meaning.proofs.Filling.{Fit, without_end, all_filled}
 use Rattle.schemars_meaning.proofs.EachShape.{bytes_say, schema_says, null_says, bool_says, number_says, text_says, formatted_says, char_says, any_says, seq_says, set_says, array_says, up_to_says, tuple_says, int_says, non_zero_says}
-use Rattle.schemars_schema.proofs.Literals.{literal_is_schema, literal_judged}
-use Rattle.schemars_builders.proofs.LiteralNulls.{literal_ready}
-use Rattle.schemars_documents.proofs.Literals.{literal_document-schema}
 use Rattle.schemars_meaning.proofs.Choices.{result_says, bound_says, range_says, either_says}
 
 -- ---- null can be added to each document

@@ -1,15 +1,8 @@
 -- The references of the document of each shape are those of its answers.
 use Rattle.std.proofs.Common.{◌≡◌, ℕ, List, [], ◌∷◌, ◌++◌, map, Bool, false, Some, refl, sym, ap, ◌∙◌, subst, Contains, append-nil}
-use Rattle.schemars_meaning.proofs.Words.{All, AllByRecursion, codes, bytes_eq, map-append, Data, Text, NoSchemas, finished, list, IsSchema, references, Shape, Field, Flattened, Fields, Entry, Payload, Variant, no_payload, newtype_payload, tuple_payload, struct_payload, Row, is_required, flattened_fields, effective, flattened_in, part_enums, expanded_payload, expanded_variant, expanded_shape_in, required_names, AreDistinct, AreNoted, IsPlainShape, IsPlainEntry, IsPlainPayload, ArePlainVariants, payload_parts, variant_parts, parts_in, ArePlainParts, Basis, Template, Ask, members_of, asked, Templates, asks_of, filled, KeywordTemplate, templates_of, property, template_of, entry_template, fields_template, with_flattened, struct_template, content_template, AreAnswered, references_of, flipped}
-use Rattle.std.proofs.lemmas.List.Elements.{All-contains, All-contains_itself}
-use Rattle.schemars_schema.specs.References.{Place, SchemaList, SchemasByName, place_under, found_in}
-use Rattle.schemars_schema.proofs.Literals.{literal_is_schema, literal_refers_nowhere}
+use Rattle.schemars_meaning.proofs.Words.{All, AllByRecursion, codes, bytes_eq, map-append, Data, Text, NoSchemas, finished, list, IsSchema, references, Shape, Field, Flattened, Fields, Entry, Payload, Variant, no_payload, newtype_payload, tuple_payload, struct_payload, Row, is_required, flattened_fields, effective, flattened_in, part_enums, expanded_payload, expanded_variant, expanded_shape_in, required_names, AreDistinct, AreNoted, IsPlainShape, IsPlainEntry, IsPlainPayload, ArePlainVariants, payload_parts, variant_parts, parts_in, ArePlainParts, Basis, Template, Ask, members_of, asked, Templates, asks_of, filled, KeywordTemplate, templates_of, property, template_of, entry_template, fields_template, with_flattened, struct_template, content_template, AreAnswered, references_of, flipped, All-contains, All-contains_itself, Place, SchemaList, SchemasByName, place_under, literal_is_schema, literal_refers_nowhere, Tagging, AreNotedVariants, IsNotedShape, IsNotedPayload, IsNotedThroughout, with_keywords, tagged, object_with, literal_document-schema}
+use Rattle.schemars_schema.specs.References.{found_in}
 use Rattle.schemars_shapes.specs.Shape as shape
-use Rattle.schemars_shapes.specs.Shape.{Tagging}
-use Rattle.schemars_documents.specs.PlainTable.{AreNotedVariants, IsNotedShape, IsNotedPayload, IsNotedThroughout}
-use Rattle.schemars_documents.specs.Template.{with_keywords, tagged}
-use Rattle.schemars_documents.specs.OfShape.{object_with}
-use Rattle.schemars_documents.proofs.Literals.{literal_document-schema}
 use Rattle.schemars_meaning.proofs.Spread.{AnswersFields}
 use Rattle.schemars_meaning.proofs.ReferencesKept.{Among, among_left, among_right, AreApart}
 use Rattle.schemars_meaning.proofs.Schemas.{AreSchemas}

@@ -1,16 +1,9 @@
 -- What holds of the template of every shape, where it holds of each way that templates are put together.
 use Rattle.std.proofs.Common.{◌≡◌, ℕ, zero, suc, List, [], ◌∷◌, map, Bool, true, false, refl, arith, Contains}
-use Rattle.schemars_meaning.proofs.Words.{AllByRecursion, codes, bytes_eq, not, if◌then◌else◌, Data, boolean, Text, text_items, unit_variant, Shape, Field, Flattened, Fields, Payload, Variant, no_payload, newtype_payload, tuple_payload, struct_payload, is_bare_unit, expanded_payload, expanded_variant, KeyOptions, keys, key_options, type_alone, int_document, non_zero_document, bytes_document, ArePlainVariants, AreTagged, IsPlainShape, IsTagged, Basis, Template, content, finished, asked, row, nullable, noted, KeywordTemplate, map_template, member_template, struct_template, tuple_template, payload_template, named_template, content_template, bare_units, other_items, choice_of, titled, payload_item, untagged_template, internal_item, internal_template, said, whole_template, adjacent_payload, adjacent_item, adjacent_template, values_template, template_of}
-use Rattle.schemars_text.specs.OrderedText.{is_listed}
-use Rattle.schemars_schema.specs.Acceptance.{type_names}
+use Rattle.schemars_meaning.proofs.Words.{AllByRecursion, codes, bytes_eq, not, if◌then◌else◌, Data, boolean, Text, text_items, unit_variant, Shape, Field, Flattened, Fields, Payload, Variant, no_payload, newtype_payload, tuple_payload, struct_payload, is_bare_unit, expanded_payload, expanded_variant, KeyOptions, keys, key_options, type_alone, int_document, non_zero_document, bytes_document, ArePlainVariants, AreTagged, IsPlainShape, IsTagged, Basis, Template, content, finished, asked, row, nullable, noted, KeywordTemplate, map_template, member_template, struct_template, tuple_template, payload_template, named_template, content_template, bare_units, other_items, choice_of, titled, payload_item, untagged_template, internal_item, internal_template, said, whole_template, adjacent_payload, adjacent_item, adjacent_template, values_template, template_of, is_listed, type_names, Tagging, numbers_of, payload_numbers, expanded_shape, or_any_text, all_options, distinct_options, once, char_document, formatted_document, empty_list_document, schema_document, exactly, list_template, set_template, up_to_template, units_template, one_of_template, any_of_template, title_alone, literal_document}
 use Rattle.schemars_shapes.specs.Shape as shape
-use Rattle.schemars_shapes.specs.Shape.{Tagging, numbers_of, payload_numbers}
 use Rattle.schemars_shapes.specs.declared.shape.IntKind.{IntKind}
 use Rattle.schemars_types.specs.declared.contract.Contract.{Contract}
-use Rattle.schemars_types.specs.Effective.{expanded_shape}
-use Rattle.schemars_types.specs.KeyOptions.{or_any_text, all_options, distinct_options, once}
-use Rattle.schemars_documents.specs.Documents.{char_document, formatted_document, empty_list_document, schema_document}
-use Rattle.schemars_documents.specs.OfShape.{exactly, list_template, set_template, up_to_template, units_template, one_of_template, any_of_template, title_alone, literal_document}
 use Rattle.schemars_meaning.proofs.ReferencesKept.{AreApart, apart-filter, others_apart}
 
 -- ---- what is shown
