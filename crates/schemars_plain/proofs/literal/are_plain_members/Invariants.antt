@@ -1,0 +1,8 @@
+-- The members that are left decide.
+use Rattle.std.specs.Prelude.{◌↔◌}
+use Rattle.serde_json.specs.View.{members_view}
+use Rattle.schemars_schema.specs.Literal.{ArePlainMembers}
+use Rattle.schemars_plain.proofs.literal.are_plain_members.Given as goal
+
+abbrev pub invariant-loop-key : goal.invariant-loop-key
+invariant-loop-key l = ArePlainMembers (members_view l.key-iterator) ↔ ArePlainMembers (members_view l.initial.key-iterator)
