@@ -1,13 +1,14 @@
 -- Names and flattened rows under a contract.
-use Rattle.std.proofs.Common.{◌≡◌, ℕ, List, [], ◌∷◌, ◌++◌, refl, sym, ap, ◌∙◌, map, subst, ◌<◌, length, inl, inr}
+use Rattle.std.proofs.Common.{◌≡◌, ℕ, List, [], ◌∷◌, ◌++◌, refl, sym, ap, ◌∙◌, map, subst, ◌<◌, ◌+◌, ◌-◌, length, get_or, take, drop, inl, inr}
 use Rattle.std.specs.Prelude.{◌↔◌, option_and_then}
+use Rattle.std.proofs.lemmas.List.{drop_more, take_rest}
 use Rattle.std.proofs.lemmas.Option.{slice_get_cases}
 use Rattle.schemars_schema.specs.Json.{Text}
-use Rattle.schemars_shapes.specs.Shape.{Flattened, Variant}
+use Rattle.schemars_shapes.specs.Shape.{Field, Flattened, Variant}
 use Rattle.schemars_types.specs.Rows.{Row, entry_at}
 use Rattle.schemars_types.specs.Effective.{flattened_in, part_enums, expanded_variant, enum_at}
 use Rattle.schemars_types.specs.declared.contract.Contract.{Contract}
-use Rattle.schemars_documents.specs.PlainTable.{ArePartsUnder, IsEntryUnder, IsPlainUnder}
+use Rattle.schemars_documents.specs.PlainTable.{AreNoNames, AreApartFrom, AreApart, ArePartsUnder, IsEntryUnder, IsPlainUnder}
 
 -- ---- names
 
@@ -20,6 +21,13 @@ variants_said rows (x ∷ xs) = ap (λ ks. x.name ∷ ks) (variants_said rows xs
 pub enums_said : (names : ℕ → List Text) (ns : List ℕ) → map names ns ≡ map (λ p. names p.ty) (map enum_at ns)
 enums_said names [] = refl
 enums_said names (n ∷ ns) = ap (λ ks. names n ∷ ks) (enums_said names ns)
+
+-- one list is asked for itself, and for those after it
+pub next_apart : {X : Type 0} (fs : List Field) (xs : List X) (names : X → List Text) (i : ℕ) (x : X) → i < length xs → x ≡ get_or xs i x
+    → AreApart fs (map names (drop i xs))
+    ↔ (AreNoNames fs (names x) × AreApartFrom (names x) (map names (take (length xs - (i + 1)) (drop (i + 1) xs)))
+    × AreApart fs (map names (drop (i + 1) xs)))
+next_apart fs xs names i x below is = rw (take_rest xs (i + 1), drop_more xs i x below, sym is) (λ h. h, λ h. h)
 
 -- ---- flattened rows
 
