@@ -52,12 +52,3 @@ first_parts rows (p ∷ ps) qs h = (h.0, first_parts rows ps qs h.1)
 pub rest_parts : (rows : List Row) (ps qs : List Flattened) → ArePlainParts rows (ps ++ qs) → ArePlainParts rows qs
 rest_parts rows [] qs h = h
 rest_parts rows (p ∷ ps) qs h = rest_parts rows ps qs h.1
-
--- ---- tables
-
--- the rows of the table are all that can fail
-pub all_plain : (rows : List Row) → ((k : ℕ) → k < length rows → IsPlainEntry rows (entry_at rows k)) → IsPlainTable rows
-all_plain rows plain n = elim (slice_get_cases rows n).1 [
-  | inl found ↦ plain n found.1
-  | inr past ↦ subst (λ o. IsPlainEntry rows (option_and_then (λ r. r.entry) o)) (sym past.1) tt
-]

@@ -45,13 +45,3 @@ pub rest_parts : (contract : Contract) (rows : List Row) (ps qs : List Flattened
     → ArePartsUnder contract rows (ps ++ qs) → ArePartsUnder contract rows qs
 rest_parts contract rows [] qs h = h
 rest_parts contract rows (p ∷ ps) qs h = rest_parts contract rows ps qs h.1
-
--- ---- tables
-
--- the rows of the table are all that can fail
-pub all_under : (contract : Contract) (rows : List Row)
-    → ((k : ℕ) → k < length rows → IsEntryUnder contract rows (entry_at rows k)) → IsPlainUnder contract rows
-all_under contract rows plain n = elim (slice_get_cases rows n).1 [
-  | inl found ↦ plain n found.1
-  | inr past ↦ subst (λ o. IsEntryUnder contract rows (option_and_then (λ r. r.entry) o)) (sym past.1) tt
-]

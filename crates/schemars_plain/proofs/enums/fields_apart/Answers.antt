@@ -1,4 +1,4 @@
-use Rattle.std.proofs.Common.{◌≡◌, ◌∙◌, ◌++◌, ap, map, sym, subst}
+use Rattle.std.proofs.Common.{◌∙◌, ◌++◌, ap, map, sym, subst}
 use Rattle.std.specs.Prelude.{option_map}
 use Rattle.schemars_shapes.specs.Shape.{field_of, fields_of, flattened_of}
 use Rattle.schemars_types.specs.Effective.{effective, flattened_in, flattened_enums, part_enums}
