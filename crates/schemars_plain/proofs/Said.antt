@@ -3,9 +3,8 @@ use Rattle.std.proofs.Common.{◌≡◌, ℕ, suc, List, [], ◌∷◌, ◌++◌
 use Rattle.std.specs.Prelude.{is_some, if◌then◌else◌, bytes_eq}
 use Rattle.std.proofs.lemmas.List.{map-append, drop_more}
 use Rattle.std.specs.Option.{option_map_or}
-use Rattle.schemars_shapes.specs.Shape.{Shape, Field, Flattened, Fields, Entry, Required, flattened_of}
+use Rattle.schemars_shapes.specs.Shape.{Field, Flattened, Fields, Entry, Required, flattened_of}
 use Rattle.schemars_shapes.specs.declared.shape.Flattened as src
-use Rattle.schemars_shapes.specs.Shape as shape
 use Rattle.schemars_types.specs.Rows.{Row, entry_at}
 use Rattle.schemars_types.specs.Edges.{option_at}
 use Rattle.schemars_types.specs.Effective.{without_options, fields_within, effective, flattened_fields, part_fields, required_only_if, shape_fields}

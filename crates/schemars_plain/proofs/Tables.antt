@@ -1,12 +1,11 @@
 -- Flattened rows, and the rows of a table.
-use Rattle.std.proofs.Common.{◌≡◌, ℕ, List, [], ◌∷◌, ◌++◌, Some, Bool, true, false, true≢false, refl, sym, ap, ◌∙◌, map, subst, ◌<◌, length, inl, inr}
-use Rattle.std.specs.Prelude.{◌↔◌, IsTrue, not, option_and_then}
-use Rattle.std.proofs.lemmas.Option.{slice_get_cases}
+use Rattle.std.proofs.Common.{◌≡◌, List, [], ◌∷◌, ◌++◌, Some, Bool, true, false, true≢false, refl, sym, ap, ◌∙◌, map}
+use Rattle.std.specs.Prelude.{◌↔◌, IsTrue, not}
 use Rattle.schemars_schema.specs.Json.{Text}
 use Rattle.schemars_shapes.specs.Shape.{Fields, Flattened, Variant, Entry, struct}
-use Rattle.schemars_types.specs.Rows.{Row, entry_at}
+use Rattle.schemars_types.specs.Rows.{Row}
 use Rattle.schemars_types.specs.Effective.{flattened_in, part_enums, expanded_variant}
-use Rattle.schemars_documents.specs.PlainTable.{IsNoVariant, AreDistinctVariants, IsOpenStruct, ArePlainParts, IsPlainEntry, IsPlainTable}
+use Rattle.schemars_documents.specs.PlainTable.{IsNoVariant, AreDistinctVariants, IsOpenStruct, ArePlainParts}
 
 -- ---- variants
 

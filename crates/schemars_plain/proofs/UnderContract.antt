@@ -1,14 +1,13 @@
 -- Names and flattened rows under a contract.
-use Rattle.std.proofs.Common.{◌≡◌, ℕ, List, [], ◌∷◌, ◌++◌, refl, sym, ap, ◌∙◌, map, subst, ◌<◌, ◌+◌, ◌-◌, length, get_or, take, drop, inl, inr}
-use Rattle.std.specs.Prelude.{◌↔◌, option_and_then}
+use Rattle.std.proofs.Common.{◌≡◌, ℕ, List, [], ◌∷◌, ◌++◌, refl, sym, ap, map, ◌<◌, ◌+◌, ◌-◌, length, get_or, take, drop}
+use Rattle.std.specs.Prelude.{◌↔◌}
 use Rattle.std.proofs.lemmas.List.{drop_more, take_rest}
-use Rattle.std.proofs.lemmas.Option.{slice_get_cases}
 use Rattle.schemars_schema.specs.Json.{Text}
 use Rattle.schemars_shapes.specs.Shape.{Field, Flattened, Variant}
-use Rattle.schemars_types.specs.Rows.{Row, entry_at}
+use Rattle.schemars_types.specs.Rows.{Row}
 use Rattle.schemars_types.specs.Effective.{flattened_in, part_enums, expanded_variant, enum_at}
 use Rattle.schemars_types.specs.declared.contract.Contract.{Contract}
-use Rattle.schemars_documents.specs.PlainTable.{AreNoNames, AreApartFrom, AreApart, ArePartsUnder, IsEntryUnder, IsPlainUnder}
+use Rattle.schemars_documents.specs.PlainTable.{AreNoNames, AreApartFrom, AreApart, ArePartsUnder}
 
 -- ---- names
 

@@ -22,12 +22,7 @@ pub fn are_plain(alloc: Global, types: &Types, fields: &Fields) -> Result<bool, 
 }
 
 /// Whether none of the fields, its own or flattened, has this name.
-pub fn lacks(
-    alloc: Global,
-    types: &Types,
-    fields: &Fields,
-    name: &str,
-) -> Result<bool, AllocError>
+pub fn lacks(alloc: Global, types: &Types, fields: &Fields, name: &str) -> Result<bool, AllocError>
     ensures { IfOk result (λ b. IsTrue b
         ↔ IsNoName name.now (effective (flattened_in types.now) (fields_of fields.now))) }
 {
