@@ -8,6 +8,9 @@ branches  a chain of N structs, each with a branch of N structs that ends in the
 mixed     the types of an API, at least N: structs with notes, enums of each kind, maps, lists, tuples, flattened structs
 flattened sixteen rows at a time, at least N: a chain of eight structs, each flattened into the one
           before it, and a struct into which six structs and an enum are flattened
+wide      a struct of N fields, each with two notes
+variants  an enum of N variants with a tag inside
+notes     a struct with N notes, and a field with N notes
 """
 import json
 import sys
@@ -168,8 +171,23 @@ def flattened(n):
     return rows
 
 
+def wide(n):
+    said = [(f"f{i}", 1, {"description": f"Field {i}.", "deprecated": True}) for i in range(n)]
+    return [{"id": "Wide", "name": "Wide", "shape": fields(*said)}, BOOL]
+
+
+def variants(n):
+    each = [{"name": f"v{i}", "payload": fields(("x", 1)), "notes": {"description": f"Variant {i}."}} for i in range(n)]
+    return [{"id": "Event", "name": "Event", "shape": {"internal": {"tag": "type", "variants": each}}}, BOOL]
+
+
+def notes(n):
+    said = {f"x-note{i}": i for i in range(n)}
+    return [{"id": "Noted", "name": "Noted", "shape": fields(("x", 1, said)), "notes": said}, BOOL]
+
+
 KINDS = {"tree": tree, "names": names, "chain": chain, "branches": branches, "mixed": mixed,
-         "flattened": flattened}
+         "flattened": flattened, "wide": wide, "variants": variants, "notes": notes}
 
 
 def main():

@@ -5,7 +5,6 @@ mod error;
 mod fields;
 mod input;
 mod listing;
-mod locate;
 mod members;
 mod sample;
 mod shapes;
@@ -16,6 +15,6 @@ mod variants;
 
 pub use error::InputError;
 pub use input::read_input;
-pub use locate::{InputFault, find_fault};
+pub use members::{kind_in, text_in};
 pub use sample::{SampleError, read_sample};
 pub use text::{TextError, read_table};

@@ -12,7 +12,8 @@ use Rattle.schemars_generate.specs.declared.error.GenerateError.TheVariants.{Out
 use Rattle.schemars_generate.specs.Refusals.{code_of, error_of, HasFault}
 use Rattle.schemagen_run.specs.declared.fault.Fault.{Fault}
 use Rattle.schemagen_run.specs.declared.fault.Fault.TheVariants.{Refused, Usage}
-use Rattle.schemagen_run.specs.declared.fault.TheConstants.{OUT_OF_MEMORY, DEFINITIONS_PATH, NOT_JSON, BAD_TABLE, WRITE}
+use Rattle.schemars_generate.specs.declared.error.TheConstants.{OUT_OF_MEMORY, DEFINITIONS_PATH}
+use Rattle.schemagen_run.specs.declared.fault.TheConstants.{NOT_JSON, BAD_TABLE, WRITE}
 use Rattle.schemagen_run.specs.Fault.{IsReadFault, IsTableFault, IsLineFault, IsOutside}
 use Rattle.schemagen_input.specs.Input.{input_of}
 use Rattle.schemagen_run.specs.declared.words.Asked.{Asked}

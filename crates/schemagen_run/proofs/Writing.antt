@@ -16,7 +16,8 @@ use Rattle.schemars_text.proofs.Begun.{begun_longer, begun_after}
 use Rattle.schemagen_run.specs.declared.words.Asked.{Asked}
 use Rattle.schemagen_run.specs.declared.fault.Fault.{Fault}
 use Rattle.schemagen_run.specs.declared.fault.Fault.TheVariants.{Refused}
-use Rattle.schemagen_run.specs.declared.fault.TheConstants.{OUT_OF_MEMORY, WRITE, DEFINITIONS_PATH}
+use Rattle.schemars_generate.specs.declared.error.TheConstants.{OUT_OF_MEMORY, DEFINITIONS_PATH}
+use Rattle.schemagen_run.specs.declared.fault.TheConstants.{WRITE}
 use Rattle.schemagen_run.specs.Fault.{IsTableFault, IsTypesFault, IsOutside, fault_of_writing}
 use Rattle.schemagen_run.specs.Run.{GivesAll, IsTableText, IsFaultyTable, IsUnplaced, IsLineRefusal}
 use Rattle.schemagen_run.specs.Writing.{WritesLine}

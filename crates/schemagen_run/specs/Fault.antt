@@ -4,7 +4,8 @@ use Rattle.schemars_text.specs.declared.error.OrderedError.{OrderedError}
 use Rattle.schemars_text.specs.declared.error.OrderedError.TheVariants as ordered
 use Rattle.schemagen_run.specs.declared.fault.Fault.{Fault}
 use Rattle.schemagen_run.specs.declared.fault.Fault.TheVariants.{Usage, Refused}
-use Rattle.schemagen_run.specs.declared.fault.TheConstants.{OUT_OF_MEMORY, UNDEFINED_TYPE, REPEATED_NAME, DIRECT_CYCLE, EMPTY_CYCLE, DEFINITIONS_PATH, NOT_JSON, BAD_TABLE, NOT_WHOLE, READ, WRITE}
+use Rattle.schemars_generate.specs.declared.error.TheConstants.{OUT_OF_MEMORY, UNDEFINED_TYPE, REPEATED_NAME, DIRECT_CYCLE, EMPTY_CYCLE, DEFINITIONS_PATH}
+use Rattle.schemagen_run.specs.declared.fault.TheConstants.{NOT_JSON, BAD_TABLE, NOT_WHOLE, READ, WRITE}
 
 abbrev pub status_of : Fault → ℕ
 status_of Usage = 2

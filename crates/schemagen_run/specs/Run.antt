@@ -34,7 +34,7 @@ use Rattle.schemagen_run.specs.declared.words.Dialect.TheVariants.{Draft2020_12,
 use Rattle.schemagen_run.specs.Words.{AskFor, AskForExample}
 use Rattle.schemagen_run.specs.declared.fault.Fault.{Fault}
 use Rattle.schemagen_run.specs.declared.fault.Fault.TheVariants.{Refused}
-use Rattle.schemagen_run.specs.declared.fault.TheConstants.{OUT_OF_MEMORY, DEFINITIONS_PATH}
+use Rattle.schemars_generate.specs.declared.error.TheConstants.{OUT_OF_MEMORY, DEFINITIONS_PATH}
 use Rattle.schemagen_run.specs.Fault.{IsLineFault}
 use Rattle.schemagen_input.specs.SampleInput.{sample_input}
 pub use Rattle.schemagen_input.specs.Texts.{IsTextOf, IsNoJson, IsBadTable, IsTableText, IsAcceptedText}

@@ -1,34 +1,12 @@
 use schemars::GenerateError;
 use schemars::schema::OrderedError;
+use schemars_generate::error::error_name;
+pub use schemars_generate::error::{
+    ALREADY_DEFINED, DEFINITIONS_PATH, DIRECT_CYCLE, EMPTY_CYCLE, NOT_AN_EXTENSION, OUT_OF_MEMORY,
+    OWN_TRANSFORM, REPEATED_NAME, TRANSFORM, UNDEFINED_TYPE, UNKNOWN_TYPE,
+};
 use std::alloc::AllocError;
 use std::fmt;
-
-/// Memory ran out.
-pub const OUT_OF_MEMORY: u32 = 1;
-
-/// A row was reserved and never defined.
-pub const UNDEFINED_TYPE: u32 = 2;
-
-/// A row's list of fields has a name twice.
-pub const REPEATED_NAME: u32 = 3;
-
-/// A row is on a cycle of rows that are written in place.
-pub const DIRECT_CYCLE: u32 = 4;
-
-/// A row is on a cycle of rows that have the values of the next.
-pub const EMPTY_CYCLE: u32 = 5;
-
-/// A row has another entry already.
-pub const ALREADY_DEFINED: u32 = 6;
-
-/// A table does not begin with the rows of another.
-pub const NOT_AN_EXTENSION: u32 = 7;
-
-/// A table has no row of a number.
-pub const UNKNOWN_TYPE: u32 = 8;
-
-/// Definitions cannot be placed.
-pub const DEFINITIONS_PATH: u32 = 9;
 
 /// What was read is not JSON.
 pub const NOT_JSON: u32 = 20;
@@ -72,7 +50,7 @@ impl Fault {
 impl From<AllocError> for Fault {
     ghost use Rattle.std.specs.Prelude.{◌≡◌};
     ghost use Rattle.schemagen_run.specs.declared.fault.Fault.TheVariants.{Refused};
-    ghost use Rattle.schemagen_run.specs.declared.fault.TheConstants.{OUT_OF_MEMORY};
+    ghost use Rattle.schemars_generate.specs.declared.error.TheConstants.{OUT_OF_MEMORY};
 
     ghost from_gives = { λ _ e. e ≡ Refused OUT_OF_MEMORY };
 
@@ -107,23 +85,15 @@ impl From<OrderedError> for Fault {
     }
 }
 
+// The name of the refusal of this number.
 fn name_of(code: u32) -> &'static str {
     match code {
-        OUT_OF_MEMORY => "OutOfMemory",
-        UNDEFINED_TYPE => "UndefinedType",
-        REPEATED_NAME => "RepeatedName",
-        DIRECT_CYCLE => "DirectCycle",
-        EMPTY_CYCLE => "EmptyCycle",
-        ALREADY_DEFINED => "AlreadyDefined",
-        NOT_AN_EXTENSION => "NotAnExtension",
-        UNKNOWN_TYPE => "UnknownType",
-        DEFINITIONS_PATH => "DefinitionsPath",
         NOT_JSON => "NotJson",
         BAD_TABLE => "BadTable",
         NOT_WHOLE => "NotWhole",
         READ => "Read",
         WRITE => "Write",
-        _ => "Refused",
+        _ => error_name(code).unwrap_or("Refused"),
     }
 }
 

@@ -1,7 +1,8 @@
 //! Why a text is refused.
 use crate::findings::{Finding, Kind, add, add_at_row};
 use json::Scratch;
-use schemagen_input::{find_fault, read_input};
+use schemagen_faults::find_fault;
+use schemagen_input::read_input;
 use schemagen_json::{BorrowedValue, ParseError};
 use schemars_types::{Types, TypesError};
 use serde_json::Value;

@@ -4,7 +4,8 @@ use Rattle.schemars_types.specs.declared.contract.Contract.{Contract}
 use Rattle.schemars_types.specs.declared.contract.Contract.TheVariants.{Deserialize, Serialize}
 use Rattle.schemagen_run.specs.declared.fault.Fault.{Fault}
 use Rattle.schemagen_run.specs.declared.fault.Fault.TheVariants.{Usage, Refused}
-use Rattle.schemagen_run.specs.declared.fault.TheConstants.{DEFINITIONS_PATH, READ}
+use Rattle.schemars_generate.specs.declared.error.TheConstants.{DEFINITIONS_PATH}
+use Rattle.schemagen_run.specs.declared.fault.TheConstants.{READ}
 use Rattle.schemagen_run.specs.Fault.{IsFault, IsReadFault, IsLineFault, IsTableFault, IsOutside}
 use Rattle.schemagen_run.specs.Words.{IsDialect, AreFlagsFor, AskForTypes, AskForSample}
 use Rattle.schemagen_run.proofs.Asking.{names_2020_12, names_2019_09, names_draft_07, names_openapi3, ask_for_types, ask_for_sample}

@@ -4,7 +4,8 @@ use Rattle.std.specs.declared.alloc.Global.{Global}
 use Rattle.schemars_schema.specs.Json.{Text}
 use Rattle.schemagen_run.specs.declared.fault.Fault.{Fault}
 use Rattle.schemagen_run.specs.declared.fault.Fault.TheVariants.{Usage, Refused}
-use Rattle.schemagen_run.specs.declared.fault.TheConstants.{OUT_OF_MEMORY, DEFINITIONS_PATH, NOT_JSON, BAD_TABLE, NOT_WHOLE, WRITE}
+use Rattle.schemars_generate.specs.declared.error.TheConstants.{OUT_OF_MEMORY, DEFINITIONS_PATH}
+use Rattle.schemagen_run.specs.declared.fault.TheConstants.{NOT_JSON, BAD_TABLE, NOT_WHOLE, WRITE}
 use Rattle.schemagen_run.specs.Fault.{IsTableFault}
 use Rattle.schemagen_run.specs.Run.{IsLineFor, IsUnplacedFor}
 use Rattle.schemalint_run.specs.declared.judging.Verdict.{Verdict}

@@ -1,6 +1,7 @@
 -- Tables of plain parts.
 -- This file is trusted: the theorem is stated in its words.
 use Rattle.std.specs.Prelude.{◌≡◌, ℕ, List, [], ◌∷◌, ◌++◌, map, Option, Some, None, Bool, true, false, not, is_some, ◌&&◌, bytes_eq}
+use Rattle.std.specs.List.{AllByRecursion}
 use Rattle.schemars_schema.specs.Json.{Text}
 use Rattle.schemars_text.specs.OrderedText.{is_listed}
 use Rattle.schemars_schema.specs.Annotations.{AreNotes}
@@ -17,8 +18,7 @@ use Rattle.schemars_types.specs.Meaning.{is_required}
 
 -- no field has this name
 abbrev pub IsNoName : Text → List Field → Type 0
-IsNoName k [] = Unit {0}
-IsNoName k (x ∷ xs) = (bytes_eq x.name k ≡ false) × IsNoName k xs
+IsNoName k = AllByRecursion (λ x. bytes_eq x.name k ≡ false)
 
 -- the names of the fields are all different
 abbrev pub AreDistinct : List Field → Type 0
@@ -27,15 +27,13 @@ AreDistinct (x ∷ xs) = IsNoName x.name xs × AreDistinct xs
 
 -- the notes of each field are annotations
 abbrev pub AreNoted : List Field → Type 0
-AreNoted [] = Unit {0}
-AreNoted (x ∷ xs) = AreNotes x.notes × AreNoted xs
+AreNoted = AllByRecursion (λ x. AreNotes x.notes)
 
 -- ---- variants
 
 -- no variant has this name
 abbrev pub IsNoVariant : Text → List Variant → Type 0
-IsNoVariant k [] = Unit {0}
-IsNoVariant k (x ∷ xs) = (bytes_eq x.name k ≡ false) × IsNoVariant k xs
+IsNoVariant k = AllByRecursion (λ x. bytes_eq x.name k ≡ false)
 
 -- the names of the variants are all different
 abbrev pub AreDistinctVariants : List Variant → Type 0
@@ -59,8 +57,7 @@ IsTagged tag (tuple_payload ns) = ⊥
 IsTagged tag (struct_payload x) = IsNoName tag x.list
 
 abbrev pub AreTagged : Text → List Variant → Type 0
-AreTagged tag [] = Unit {0}
-AreTagged tag (x ∷ xs) = IsTagged tag x.payload × AreTagged tag xs
+AreTagged tag = AllByRecursion (λ x. IsTagged tag x.payload)
 
 -- ---- flattened rows
 
@@ -88,8 +85,7 @@ abbrev pub IsPlainPart : List Row → Flattened → Type 0
 IsPlainPart rows p = IsOpenStruct (entry_at rows p.ty) × (p.required.deserialize ≡ true) × (p.required.serialize ≡ true)
 
 abbrev pub ArePlainParts : List Row → List Flattened → Type 0
-ArePlainParts rows [] = Unit {0}
-ArePlainParts rows (p ∷ ps) = IsPlainPart rows p × ArePlainParts rows ps
+ArePlainParts rows = AllByRecursion (IsPlainPart rows)
 
 -- ---- shapes
 
@@ -132,17 +128,14 @@ enum_names_at rows n = elim (entry_at rows n) [ None ↦ [] | Some e ↦ enum_na
 
 -- none of these names is a field's
 abbrev pub AreNoNames : List Field → List Text → Type 0
-AreNoNames list [] = Unit {0}
-AreNoNames list (k ∷ ks) = IsNoName k list × AreNoNames list ks
+AreNoNames list = AllByRecursion (λ k. IsNoName k list)
 
 -- none of the second is one of the first
 abbrev pub AreOthers : List Text → List Text → Type 0
-AreOthers ks [] = Unit {0}
-AreOthers ks (l ∷ ls) = (is_listed l ks ≡ false) × AreOthers ks ls
+AreOthers ks = AllByRecursion (λ l. is_listed l ks ≡ false)
 
 abbrev pub AreApartFrom : List Text → List (List Text) → Type 0
-AreApartFrom ks [] = Unit {0}
-AreApartFrom ks (ls ∷ rest) = AreOthers ks ls × AreApartFrom ks rest
+AreApartFrom ks = AllByRecursion (AreOthers ks)
 
 -- the names of the fields and of each other part are all different
 abbrev pub AreApart : List Field → List (List Text) → Type 0
@@ -163,8 +156,7 @@ PayloadHasNamesApart names tags (struct_payload x) = HasNamesApart names tags x
 PayloadHasNamesApart names tags _ = Unit {0}
 
 abbrev pub VariantsHaveNamesApart : (ℕ → List Text) → List (List Text) → List Variant → Type 0
-VariantsHaveNamesApart names tags [] = Unit {0}
-VariantsHaveNamesApart names tags (x ∷ xs) = PayloadHasNamesApart names tags x.payload × VariantsHaveNamesApart names tags xs
+VariantsHaveNamesApart names tags = AllByRecursion (λ x. PayloadHasNamesApart names tags x.payload)
 
 -- of a shape into which enums alone are flattened
 abbrev pub ShapeHasNamesApart : (ℕ → List Text) → Shape → Type 0
@@ -182,8 +174,7 @@ IsBare x = elim x.payload [
 ]
 
 abbrev pub HasBareUnits : List Variant → Type 0
-HasBareUnits [] = Unit {0}
-HasBareUnits (x ∷ xs) = IsBare x × HasBareUnits xs
+HasBareUnits = AllByRecursion IsBare
 
 abbrev pub HasVariant : List Variant → Type 0
 HasVariant [] = ⊥
@@ -194,8 +185,7 @@ abbrev pub HasNoEnums : List Row → List Flattened → Type 0
 HasNoEnums rows ps = flattened_enums (part_enums rows) ps ≡ []
 
 abbrev pub VariantsHaveNoEnums : List Row → List Variant → Type 0
-VariantsHaveNoEnums rows [] = Unit {0}
-VariantsHaveNoEnums rows (x ∷ xs) = HasNoEnums rows (payload_parts x.payload) × VariantsHaveNoEnums rows xs
+VariantsHaveNoEnums rows = AllByRecursion (λ x. HasNoEnums rows (payload_parts x.payload))
 
 -- an open struct, or an enum that has to be there
 abbrev pub IsPartShape : List Row → Bool → Shape → Type 0
@@ -217,8 +207,7 @@ abbrev pub IsPartUnder : Contract → List Row → Flattened → Type 0
 IsPartUnder contract rows p = IsPartEntry rows (may_miss rows contract p) (entry_at rows (without_options rows p.ty))
 
 abbrev pub ArePartsUnder : Contract → List Row → List Flattened → Type 0
-ArePartsUnder contract rows [] = Unit {0}
-ArePartsUnder contract rows (p ∷ ps) = IsPartUnder contract rows p × ArePartsUnder contract rows ps
+ArePartsUnder contract rows = AllByRecursion (IsPartUnder contract rows)
 
 abbrev pub IsEntryUnder : Contract → List Row → Option Entry → Type 0
 IsEntryUnder contract rows None = Unit {0}

@@ -1,24 +1,11 @@
 -- A table that a type has joined, what documents made in it mean, and why a type does not join.
 use Rattle.std.proofs.Common.{◌≡◌, ◌⊎◌, ◌<◌, inl, inr, ℕ, suc, List, [], ◌∷◌, take, length, Option, Some, None, IsSome, refl, ap, sym, ◌∙◌, subst, arith}
-use Rattle.schemars_generate.proofs.Words.{HasOwnDefinitions, Data, Row, IsAccepted, IsChecked, TransformStep, dialect_of, RootHeadline, IsDraftPath, State, Settings, stripped, more_types_own, IsJoined, IsTypeRefusal, with_rows, Transforms, IsTransformed}
-use Rattle.schemars_shapes.specs.Shape.{Entry}
-use Rattle.schemars_types.specs.Rows.{entry_at}
-use Rattle.schemars_types.specs.Faults.{Refusal}
+use Rattle.schemars_generate.proofs.Words.{HasOwnDefinitions, Data, Row, IsAccepted, IsChecked, TransformStep, dialect_of, RootHeadline, IsDraftPath, State, Settings, stripped, more_types_own, IsJoined, IsTypeRefusal, with_rows, Transforms, IsTransformed, Entry, entry_at, Refusal, entry_under, TypeRow, IsIn, IsAdded, KeepsTo, RefusesType, Keeps, AllContinue, Continues, Draft, DraftHeadlines, Headline, IsSubschemaFor, Generator, state, IsRegistered, IsSubschemaOfType, IsRootOfType, IsRootInTable, transforms_for, error_of, IsUntransformedCall}
 use Rattle.schemars_types.specs.declared.error.TypesError.{TypesError}
 use Rattle.schemars_types.specs.declared.error.TypesError.TheVariants as fault
-use Rattle.schemars_impls.specs.Describes.{entry_under}
-use Rattle.schemars_impls.specs.Dictionary.{TypeRow, IsIn, IsAdded, KeepsTo, RefusesType}
-use Rattle.schemars_impls.specs.Keeps.{Keeps, AllContinue, Continues}
-use Rattle.schemars_headline.specs.Drafts.{Draft, DraftHeadlines}
-use Rattle.schemars_headline.specs.Headline.{Headline}
-use Rattle.schemars_generate.specs.Answers.{IsSubschemaFor}
-use Rattle.schemars_generate.specs.Generator.{Generator, state}
-use Rattle.schemars_generate.specs.ByType.{IsRegistered, MeansTypeIn, MeansType, IsSubschemaOfType, IsRootOfType, IsRootInTable}
-use Rattle.schemars_generate.specs.Settings.{transforms_for}
-use Rattle.schemars_generate.specs.Refusals.{error_of}
+use Rattle.schemars_generate.specs.ByType.{MeansTypeIn, MeansType}
 use Rattle.schemars_generate.specs.declared.error.GenerateError.{GenerateError}
 use Rattle.schemars_generate.specs.declared.error.GenerateError.TheVariants.{OutOfMemory}
-use Rattle.schemars_generate.specs.Through.{IsUntransformedCall}
 use Rattle.schemars_generate.proofs.BuiltIns.{promised}
 
 -- ---- the table

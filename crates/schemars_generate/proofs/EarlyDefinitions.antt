@@ -1,18 +1,8 @@
 -- Definitions that the transforms of OpenAPI change one by one.
 use Rattle.std.proofs.Common.{◌≡◌, List, true, false, inr, Ok, refl, ap, ◌∙◌, subst}
-use Rattle.schemars_generate.proofs.Words.{Data, Members, no_members, TransformStep, ApplyInOrder, Transforms}
-use Rattle.serde_json.specs.Data.{null, boolean, object, member}
-use Rattle.schemars_walk.specs.Walk.{AtSchema}
+use Rattle.schemars_generate.proofs.Words.{Data, Members, no_members, TransformStep, ApplyInOrder, Transforms, null, boolean, object, member, AtSchema, for_openapi3, are_local, made_by, value_made_by, each_made_by, some_own, makes_in_order, each_made, transforms_openapi3, AreThrough}
 use Rattle.schemars_walk.specs.Rewritten.{forms}
-use Rattle.schemars_laws.specs.Laws.{for_openapi3}
-use Rattle.schemars_transform.specs.Apart.{are_local}
-use Rattle.schemars_transform.specs.BuiltIn.{made_by, value_made_by, each_made_by}
-use Rattle.schemars_transform.specs.Member.{some_own}
 use Rattle.schemars_transform.specs.declared.gen_transform.GenTransform.{GenTransform}
-use Rattle.schemars_transform.proofs.Taken.{makes_in_order}
-use Rattle.schemars_definitions.specs.Whole.{each_made}
-use Rattle.schemars_generate.specs.Settings.{transforms_openapi3}
-use Rattle.schemars_generate.specs.Through.{AreThrough}
 
 pub local_openapi3 : (O : Type 0) → are_local {O = O} transforms_openapi3 ≡ true
 local_openapi3 O = refl

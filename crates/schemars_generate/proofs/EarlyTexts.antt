@@ -1,29 +1,8 @@
 -- Definitions that the transforms of a draft change one by one, and what is left of the document.
 use Rattle.std.proofs.Common.{◌≡◌, List, ◌∷◌, true, false, Some, None, refl, sym, ap, ◌∙◌, subst}
-use Rattle.serde_json.specs.Data.{Data, null, boolean, number, string, array, object, Members, no_members, member, put}
-use Rattle.serde_json.specs.Find.{get, get_member}
-use Rattle.serde_json.proofs.Views.{get_member-put, get_member-put_other}
-use Rattle.schemars_text.specs.OrderedText.{is_listed}
-use Rattle.schemars_text.proofs.Members.{differ}
-use Rattle.schemars_schema.specs.Json.{Text}
-use Rattle.schemars_schema.specs.SchemaData.{members_in, inserted}
-use Rattle.schemars_schema.specs.Edits.{replaced}
-use Rattle.schemars_schema.proofs.Placings.{placed_at-defs, placed_at-definitions}
+use Rattle.schemars_generate.proofs.Words.{Data, null, boolean, number, string, array, object, Members, no_members, member, put, get, get_member, get_member-put, get_member-put_other, is_listed, differ, Text, members_in, inserted, replaced, placed_at-defs, placed_at-definitions, are_local, made_by, value_made_by, each_made_by, some_own, IsApart, defs_apart, definitions_apart, made_in_parts, parted, HasNoDefinitions, HasPlaceAt, definition_keys, each_made, with_defs_at, with_names, at_each_key, replaced-put, Draft, Draft2020_12, Draft2019_09, Draft07, made_for, with_definitions, key_for, transforms_for}
 use Rattle.schemars_walk.specs.Rewritten.{forms}
-use Rattle.schemars_transform.specs.Apart.{are_local}
-use Rattle.schemars_transform.specs.BuiltIn.{made_by, value_made_by, each_made_by}
-use Rattle.schemars_transform.specs.Member.{some_own}
 use Rattle.schemars_transform.specs.declared.gen_transform.GenTransform.{GenTransform}
-use Rattle.schemars_transform.proofs.Turns.{IsApart, defs_apart, definitions_apart}
-use Rattle.schemars_transform.proofs.Parted.{made_in_parts, parted}
-use Rattle.schemars_definitions.specs.Joined.{HasNoDefinitions, HasPlaceAt, definition_keys}
-use Rattle.schemars_definitions.specs.Whole.{each_made, with_defs_at, with_names}
-use Rattle.schemars_definitions.proofs.JoinedTexts.{at_each_key}
-use Rattle.schemars_definitions.proofs.Members.{replaced-put}
-use Rattle.schemars_headline.specs.Drafts.{Draft, Draft2020_12, Draft2019_09, Draft07, made_for}
-use Rattle.schemars_headline.specs.Headline.{with_definitions}
-use Rattle.schemars_generate.specs.RootText.{key_for}
-use Rattle.schemars_generate.specs.Settings.{transforms_for}
 
 -- ---- the transforms of a draft
 

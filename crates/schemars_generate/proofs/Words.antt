@@ -1,25 +1,76 @@
 -- Words that many proofs of this crate name.
+pub use Rattle.schemars_build.proofs.Placing.{Always, filled-wider}
 pub use Rattle.schemars_build.specs.Naming.{IsOneToOne}
-pub use Rattle.schemars_build.specs.Registry.{Registry, Step, idle_registry}
+pub use Rattle.schemars_build.specs.Parts.{AreNeededFor, IsAnswer, IsFilledOf, IsSaid, IsSubschema}
+pub use Rattle.schemars_build.specs.Registry.{Plan, Refers, Registry, Step, basis_of_plan, idle_registry, rolled_back}
+pub use Rattle.schemars_definitions.proofs.JoinedTexts.{at_each_key}
+pub use Rattle.schemars_definitions.proofs.Members.{replaced-put}
+pub use Rattle.schemars_definitions.specs.Joined.{HasNoDefinitions, HasPlaceAt, definition_keys}
 pub use Rattle.schemars_definitions.specs.Keys.{HasKeysOnce}
-pub use Rattle.schemars_documents.specs.Template.{part}
-pub use Rattle.schemars_generate.specs.Answers.{IsAnswerFor, KeepsDefinitions}
-pub use Rattle.schemars_generate.specs.ByType.{IsJoined, IsRootOfTypeRefusal, IsTypeRefusal, with_rows}
-pub use Rattle.schemars_generate.specs.Generator.{Transforms, settings_of, state, state_of}
-pub use Rattle.schemars_generate.specs.Samples.{IsSampleRefusal, IsSampleRoot}
-pub use Rattle.schemars_generate.specs.Through.{AreTransformed, IsRefused, IsRefusedThrough, IsRootRefusal, IsTakeRefusal, IsThrough, IsTransformed, IsUntransformed}
-pub use Rattle.schemars_headline.proofs.Calls.{err_told}
+pub use Rattle.schemars_definitions.specs.Whole.{each_made, with_defs_at, with_names}
+pub use Rattle.schemars_documents.specs.Describes.{without_options}
+pub use Rattle.schemars_documents.specs.Template.{Ask, content, members_of, part}
+pub use Rattle.schemars_generate.specs.Answers.{IsAnswerFor, IsSubschemaFor, KeepsDefinitions}
+pub use Rattle.schemars_generate.specs.ByType.{IsJoined, IsRegistered, IsRootInTable, IsRootOfType, IsRootOfTypeRefusal, IsSubschemaOfType, IsTypeRefusal, with_rows}
+pub use Rattle.schemars_generate.specs.DefinitionsText.{IsDefinitionsRefusal, IsDefinitionsText}
+pub use Rattle.schemars_generate.specs.Generator.{Generator, Transforms, held_transforms, settings_of, state, state_of, transforms_of}
+pub use Rattle.schemars_generate.specs.Refusals.{error_of, told}
+pub use Rattle.schemars_generate.specs.RootText.{IsRootText, IsTextOf, key_for}
+pub use Rattle.schemars_generate.specs.Samples.{IsSampleRefusal, IsSampleRefused, IsSampleRefusedThrough, IsSampleRoot}
+pub use Rattle.schemars_generate.specs.Settings.{transforms_for, transforms_openapi3}
+pub use Rattle.schemars_generate.specs.Through.{AreThrough, AreTransformed, AreTurnedDown, IsRefused, IsRefusedThrough, IsRootRefusal, IsTakeRefusal, IsThrough, IsTransformed, IsTurnedDown, IsUntransformed, IsUntransformedCall}
+pub use Rattle.schemars_headline.proofs.Calls.{err_told, own_are_whole, part_kept, part_own, reached_kept, reference_of_part, root_of, step_kept}
+pub use Rattle.schemars_headline.proofs.Floats.{IsWhole, whole_allow_null, whole_items, whole_members_in, whole_with_meta_schema}
+pub use Rattle.schemars_headline.proofs.Inlined.{part_inlined}
+pub use Rattle.schemars_headline.proofs.InlinedDrafts.{answer_needs_none}
 pub use Rattle.schemars_headline.proofs.Larger.{more_types_own}
-pub use Rattle.schemars_headline.specs.Drafts.{dialect_of}
-pub use Rattle.schemars_headline.specs.Headline.{IsDraftPath, RootHeadline, with_definitions}
-pub use Rattle.schemars_headline.specs.State.{HasOwnDefinitions, Settings, State, path_of, state_plan, stripped}
-pub use Rattle.schemars_sample.specs.Example.{Example, example_of}
-pub use Rattle.schemars_sample.specs.SampleSchema.{sample_root}
+pub use Rattle.schemars_headline.proofs.NamedKeys.{noted_name_keys}
+pub use Rattle.schemars_headline.proofs.Roots.{subschema_headline, subschema_or_null}
+pub use Rattle.schemars_headline.proofs.Taken.{openapi_headline}
+pub use Rattle.schemars_headline.proofs.WholeTransforms.{whole_by, whole_each_by}
+pub use Rattle.schemars_headline.specs.Calls.{IsPartOf, IsReferenceOf}
+pub use Rattle.schemars_headline.specs.Drafts.{Draft, Draft07, Draft2019_09, Draft2020_12, DraftHeadlines, dialect_of, made_for}
+pub use Rattle.schemars_headline.specs.Headline.{Headline, IsDraftPath, IsInlined, IsTitledRoot, RootHeadline, with_definitions}
+pub use Rattle.schemars_headline.specs.Inlined.{NeedsNoDefinitions}
+pub use Rattle.schemars_headline.specs.State.{HasOwnDefinitions, Settings, State, path_of, registry_of, state_plan, stripped}
+pub use Rattle.schemars_headline.specs.Taken.{HasSameKeys, OpenApiHeadline, TakenHeadline}
+pub use Rattle.schemars_impls.specs.Describes.{entry_under}
+pub use Rattle.schemars_impls.specs.Dictionary.{IsAdded, IsIn, KeepsTo, RefusesType, TypeRow}
+pub use Rattle.schemars_impls.specs.Keeps.{AllContinue, Continues, Keeps}
+pub use Rattle.schemars_laws.specs.Laws.{for_openapi3}
+pub use Rattle.schemars_laws.specs.Paths.{each_changed}
+pub use Rattle.schemars_meaning.proofs.Mapping.{answered_map}
+pub use Rattle.schemars_sample.proofs.Choices.{one_beside-holds, shared_by-holds}
+pub use Rattle.schemars_sample.specs.Example.{Entries, Example, Examples, bytes, character, collected_map, decimal, entry, example, example_of, newtype_struct, newtype_variant, no_entries, no_examples, no_value, seq, some_value, struct, struct_variant, text, truth, tuple, tuple_variant, unit_struct, unit_variant, whole}
+pub use Rattle.schemars_sample.specs.SampleJson.{HasWholeJson, sample_json}
+pub use Rattle.schemars_sample.specs.SampleSchema.{choice_among, entry_schemas, item_schemas, one_beside, sample_root, sample_schema, shared_by, titled_schema, value_schemas, with_example, with_name}
+pub use Rattle.schemars_schema.proofs.Contents.{members_have_float-put}
+pub use Rattle.schemars_schema.proofs.Placings.{placed_at-definitions, placed_at-defs}
+pub use Rattle.schemars_schema.specs.Edits.{replaced}
 pub use Rattle.schemars_schema.specs.Json.{Text}
-pub use Rattle.schemars_transform.specs.Member.{ApplyInOrder}
-pub use Rattle.schemars_types.specs.Faults.{IsAccepted, IsChecked}
-pub use Rattle.schemars_types.specs.Rows.{Row}
-pub use Rattle.schemars_walk.specs.Walk.{TransformStep}
-pub use Rattle.serde_json.specs.Data.{Data, Members, no_members, object}
+pub use Rattle.schemars_schema.specs.References.{references}
+pub use Rattle.schemars_schema.specs.SchemaData.{inserted, members_in}
+pub use Rattle.schemars_shapes.specs.Shape.{Entry}
+pub use Rattle.schemars_text.proofs.Members.{differ}
+pub use Rattle.schemars_text.specs.OrderedText.{is_listed}
+pub use Rattle.schemars_transform.proofs.Laws.{built_ins_make, each_wants_memory}
+pub use Rattle.schemars_transform.proofs.Parted.{made_in_parts, parted}
+pub use Rattle.schemars_transform.proofs.Taken.{makes_in_order}
+pub use Rattle.schemars_transform.proofs.Turns.{IsApart, definitions_apart, defs_apart}
+pub use Rattle.schemars_transform.specs.Apart.{are_local}
+pub use Rattle.schemars_transform.specs.BuiltIn.{IsMadeBy, each_made_by, made_by, value_made_by}
+pub use Rattle.schemars_transform.specs.Member.{ApplyInOrder, some_own}
+pub use Rattle.schemars_types.specs.Faults.{IsAccepted, IsChecked, Refusal}
+pub use Rattle.schemars_types.specs.Rows.{Row, entry_at}
+pub use Rattle.schemars_walk.specs.Walk.{AtSchema, TransformStep}
+pub use Rattle.serde_json.proofs.Views.{get_member-put, get_member-put_other}
+pub use Rattle.serde_json.specs.Data.{Data, Members, array, boolean, item, member, no_items, no_members, null, number, object, put, string}
+pub use Rattle.serde_json.specs.Find.{get, get_member}
 pub use Rattle.serde_json.specs.View.{members_view}
+pub use Rattle.serde_json.specs.Written.{has_float, members_have_float}
 pub use Rattle.std.proofs.lemmas.Result.{IfErr-weaker, IfOk-weaker}
+pub use Rattle.std.specs.Cmp.Lexicographic.{slice_cmp}
+pub use Rattle.std.specs.List.{AllByRecursion}
+pub use Rattle.std.specs.Option.{IfSome}
+pub use Rattle.std.specs.Ordering.{match_ordering}
+pub use Rattle.std.specs.Prelude.{IfErr, IfOk, codes, is_some}

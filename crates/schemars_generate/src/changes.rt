@@ -3,8 +3,8 @@ ghost use Rattle.std.specs.Prelude.{◌≡◌, false, OnOk};
 ghost use Rattle.schemars_transform.specs.BuiltIn.{made_by};
 ghost use Rattle.schemars_transform.specs.Member.{some_own};
 ghost use Rattle.schemars_transform.specs.Needs.{needs_of};
+ghost use Rattle.schemars_generate.specs.Settings.{transforms07, transforms2019_09, transforms_openapi3};
 
-use crate::settings::SchemaSettings;
 use schemars_definitions::Change;
 use schemars_schema::Schema;
 use schemars_transform::{
@@ -29,10 +29,7 @@ impl Change for Changes2019_09 {
     }
 
     fn leaves(&self, needs: Needs) -> bool {
-        let transforms: [GenTransform<NoTransform>; 1] = [GenTransform::ReplacePrefixItems(
-            ReplacePrefixItems,
-        )];
-        are_idle(&transforms, needs)
+        are_idle(&draft2019_09_transforms(), needs)
     }
 
     fn change(
@@ -41,8 +38,7 @@ impl Change for Changes2019_09 {
         schema: &mut Schema,
         needs: Needs,
     ) -> Result<(), AllocError> {
-        let settings: SchemaSettings<NoTransform> = SchemaSettings::draft2019_09(alloc)?;
-        let SchemaSettings { mut transforms, .. } = settings;
+        let mut transforms = Vec::from_array(alloc, draft2019_09_transforms())?;
         apply_where_needed(alloc, &mut transforms, schema, needs)
     }
 }
@@ -61,12 +57,7 @@ impl Change for Changes07 {
     }
 
     fn leaves(&self, needs: Needs) -> bool {
-        let transforms: [GenTransform<NoTransform>; 3] = [
-            GenTransform::ReplaceUnevaluatedProperties(ReplaceUnevaluatedProperties),
-            GenTransform::RemoveRefSiblings(RemoveRefSiblings),
-            GenTransform::ReplacePrefixItems(ReplacePrefixItems),
-        ];
-        are_idle(&transforms, needs)
+        are_idle(&draft07_transforms(), needs)
     }
 
     fn change(
@@ -75,8 +66,7 @@ impl Change for Changes07 {
         schema: &mut Schema,
         needs: Needs,
     ) -> Result<(), AllocError> {
-        let settings: SchemaSettings<NoTransform> = SchemaSettings::draft07(alloc)?;
-        let SchemaSettings { mut transforms, .. } = settings;
+        let mut transforms = Vec::from_array(alloc, draft07_transforms())?;
         apply_where_needed(alloc, &mut transforms, schema, needs)
     }
 }
@@ -95,19 +85,7 @@ impl Change for ChangesOpenApi3 {
     }
 
     fn leaves(&self, needs: Needs) -> bool {
-        let bools = ReplaceBoolSchemas {
-            skip_additional_properties: true,
-        };
-        let transforms: [GenTransform<NoTransform>; 7] = [
-            GenTransform::ReplaceUnevaluatedProperties(ReplaceUnevaluatedProperties),
-            GenTransform::ReplaceBoolSchemas(bools),
-            GenTransform::AddNullable(AddNullable::default()),
-            GenTransform::RemoveRefSiblings(RemoveRefSiblings),
-            GenTransform::SetSingleExample(SetSingleExample),
-            GenTransform::ReplaceConstValue(ReplaceConstValue),
-            GenTransform::ReplacePrefixItems(ReplacePrefixItems),
-        ];
-        are_idle(&transforms, needs)
+        are_idle(&openapi3_transforms(), needs)
     }
 
     fn change(
@@ -116,10 +94,45 @@ impl Change for ChangesOpenApi3 {
         schema: &mut Schema,
         needs: Needs,
     ) -> Result<(), AllocError> {
-        let settings: SchemaSettings<NoTransform> = SchemaSettings::openapi3(alloc)?;
-        let SchemaSettings { mut transforms, .. } = settings;
+        let mut transforms = Vec::from_array(alloc, openapi3_transforms())?;
         apply_where_needed(alloc, &mut transforms, schema, needs)
     }
+}
+
+// The transforms of 2019-09, in order.
+fn draft2019_09_transforms() -> [GenTransform<NoTransform>; 1]
+    ensures { result ≡ transforms2019_09 }
+{
+    [GenTransform::ReplacePrefixItems(ReplacePrefixItems)]
+}
+
+// The transforms of Draft 7, in order.
+fn draft07_transforms() -> [GenTransform<NoTransform>; 3]
+    ensures { result ≡ transforms07 }
+{
+    [
+        GenTransform::ReplaceUnevaluatedProperties(ReplaceUnevaluatedProperties),
+        GenTransform::RemoveRefSiblings(RemoveRefSiblings),
+        GenTransform::ReplacePrefixItems(ReplacePrefixItems),
+    ]
+}
+
+// The transforms of OpenAPI, in order.
+fn openapi3_transforms() -> [GenTransform<NoTransform>; 7]
+    ensures { result ≡ transforms_openapi3 }
+{
+    let bools = ReplaceBoolSchemas {
+        skip_additional_properties: true,
+    };
+    [
+        GenTransform::ReplaceUnevaluatedProperties(ReplaceUnevaluatedProperties),
+        GenTransform::ReplaceBoolSchemas(bools),
+        GenTransform::AddNullable(AddNullable::default()),
+        GenTransform::RemoveRefSiblings(RemoveRefSiblings),
+        GenTransform::SetSingleExample(SetSingleExample),
+        GenTransform::ReplaceConstValue(ReplaceConstValue),
+        GenTransform::ReplacePrefixItems(ReplacePrefixItems),
+    ]
 }
 
 // Applies built-in transforms to a schema, one after another. They fail only if out of memory.

@@ -1,24 +1,7 @@
 -- Which changes leave a schema object one that the laws of the drafts speak of.
 use Rattle.std.proofs.Common.{◌≡◌, ◌≢◌, ◌⊎◌, inl, inr, List, [], ◌∷◌, Option, Some, None, Bool, true, false, codes, refl, sym, ap, ◌∙◌, subst, true≢false}
-use Rattle.std.specs.Prelude.{◌++◌, not, is_some}
-use Rattle.std.proofs.lemmas.Slice.Eq.{bytes_eq-Decides}
-use Rattle.std.proofs.lemmas.Bool.{and_parts}
-use Rattle.schemars_headline.proofs.Words.{bytes_eq, if◌then◌else◌, ◌||◌, ◌&&◌, Data, null, boolean, number, string, array, object, Items, no_items, item, Members, no_members, member, put, get_member, get_member-put, get_member-put_other, Text, is_listed, IsSchema, members_in, put_members, AreNotes, without, replaced, holds_text, NoSchemas, place_under, draft2020_12, is_null, differ, is_null_choice, is_combined, or_null, allow_null, type_with_null, null_in_type, enum_with_null, null_in_enum, const_or_null, null_in_const, null_in_values, annotated, Everywhere, demanded, IsOnce, IsSchemaList, HasPlainItems, IsTextWith, Stands, IsForOpenApi, AreSomeTypes, absent-once, weaker}
-use Rattle.schemars_schema.specs.Annotations.{is_annotation}
-use Rattle.schemars_schema.specs.Edits.{with_item}
-use Rattle.schemars_schema.specs.References.{with_schema, with_list, keywords_with_names}
-use Rattle.schemars_schema.proofs.Literals.{not_among}
-use Rattle.schemars_schema.proofs.Objects.{annotation-not_listed}
-use Rattle.schemars_text.proofs.Members.{unequal}
-use Rattle.schemars_meaning.proofs.MapDocument.{noted_by, AllNotes}
+use Rattle.schemars_headline.proofs.Words.{◌++◌, not, is_some, bytes_eq-Decides, and_parts, bytes_eq, if◌then◌else◌, ◌||◌, ◌&&◌, Data, null, boolean, number, string, array, object, Items, no_items, item, Members, no_members, member, put, get_member, get_member-put, get_member-put_other, Text, is_listed, IsSchema, members_in, put_members, AreNotes, without, replaced, holds_text, NoSchemas, place_under, draft2020_12, is_null, differ, is_null_choice, is_combined, or_null, allow_null, type_with_null, null_in_type, enum_with_null, null_in_enum, const_or_null, null_in_const, null_in_values, annotated, Everywhere, demanded, IsOnce, IsSchemaList, HasPlainItems, IsTextWith, Stands, IsForOpenApi, AreSomeTypes, absent-once, weaker, is_annotation, with_item, with_schema, with_list, keywords_with_names, not_among, annotation-not_listed, unequal, noted_by, AllNotes, IsNoObject, HasNoObjects, HasPlainUnevaluated, AreTexts, is_null_alone, HasNone, of_draft06, of_draft2019_09, IsConstAlone, HasNoUnevaluated, HasSomeTypes, without-put, alike-put, alike-replaced, once-put, type-alike, values-alike, const-alike, stands-alike, without-other, Alike, items-alike, without-swap, all-none, none-at, none-alike, none-plain, asked-without, asked-put, asked-replaced}
 use Rattle.schemars_laws.specs.Everywhere.{asked, asked_of_keywords}
-use Rattle.schemars_laws.specs.Names.{IsNoObject, HasNoObjects, HasPlainUnevaluated}
-use Rattle.schemars_laws.specs.Classes.{AreTexts, is_null_alone, HasNone, of_draft06, of_draft2019_09, IsConstAlone, HasNoUnevaluated}
-use Rattle.schemars_laws.specs.Stages.{HasSomeTypes}
-use Rattle.schemars_laws.proofs.Editing.{without-put, alike-put, alike-replaced, once-put, type-alike, values-alike, const-alike, stands-alike}
-use Rattle.schemars_laws.proofs.Looked.{without-other}
-use Rattle.schemars_laws.proofs.Plain.{Alike, items-alike, without-swap, all-none, none-at, none-alike, none-plain}
-use Rattle.schemars_laws.proofs.Preserved.{asked-without, asked-put, asked-replaced}
 
 -- ---- keywords
 

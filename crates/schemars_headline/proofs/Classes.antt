@@ -1,104 +1,12 @@
 -- In a plain table each document of a row is one that the laws of the drafts speak of.
 use Rattle.std.proofs.Common.{◌≡◌, ℕ, zero, suc, inl, inr, List, [], ◌∷◌, ◌++◌, map, Option, Some, None, Bool, true, false, codes, refl, sym, ◌∙◌, subst}
-use Rattle.schemars_headline.proofs.Words.{is_some, if◌then◌else◌, option_map_or, Data, Members, Text, get_member, Everywhere, IsName, HasPlainItems, weaker, text-alone, Stands, IsForOpenApi, draft2020_12, AreNotes, Shape, Field, Fields, Flattened, Entry, Row, entry_at, option_at, key_options, AreNoted, IsPlainTable, IsNotedThroughout, HasPlainNotesThroughout, Basis, Ask, part, asks_of, filled, struct_template, template_of, IsOwnDocument, IsWritten, Fit, plain_rows}
-use Rattle.schemars_laws.specs.Names.{Named}
-use Rattle.schemars_laws.specs.Classes.{IsDraft07}
-use Rattle.schemars_laws.proofs.Plain.{none-plain}
-use Rattle.schemars_laws.proofs.Steps.{text-named}
-use Rattle.schemars_schema.proofs.Literals.{literal_is_schema}
-use Rattle.schemars_builders.specs.Variants.{unit_variant}
+use Rattle.schemars_headline.proofs.Words.{is_some, if◌then◌else◌, option_map_or, Data, Members, Text, get_member, Everywhere, IsName, HasPlainItems, weaker, text-alone, Stands, IsForOpenApi, draft2020_12, AreNotes, Shape, Field, Fields, Flattened, Entry, Row, entry_at, option_at, key_options, AreNoted, IsPlainTable, IsNotedThroughout, HasPlainNotesThroughout, Basis, Ask, part, asks_of, filled, struct_template, template_of, IsOwnDocument, IsWritten, Fit, plain_rows, Named, IsDraft07, none-plain, text-named, Required, effective, shape_fields, required_only_if, part_fields, flattened_in, part_enums, expanded_shape, expanded_shape_in, IsPlainShape, ArePlainParts, parts_in, IsPlainEntry, IsNotedShape, Fills, IsAnswered, parts_apart, AnswersFields, struct_fills, described_fields}
 use Rattle.schemars_shapes.specs.Shape as shape
-use Rattle.schemars_shapes.specs.Shape.{Required}
-use Rattle.schemars_types.specs.Effective.{effective, shape_fields, fields_within, without_options, required_only_if, part_fields, flattened_in, part_enums, expanded_shape, expanded_shape_in}
-use Rattle.schemars_documents.specs.PlainTable.{IsPlainShape, ArePlainParts, parts_in, IsPlainEntry, IsNotedShape}
-use Rattle.schemars_documents.specs.Describes.{Fills, IsAnswered, Describes}
-use Rattle.schemars_documents.proofs.Literals.{literal_document-schema}
-use Rattle.schemars_documents.proofs.OpenStructs.{parts_apart}
-use Rattle.schemars_meaning.proofs.Spread.{AnswersFields}
-use Rattle.schemars_meaning.proofs.Flattened.{struct_fills}
-use Rattle.schemars_meaning.proofs.ByShape.{IsDocument, others_fill, member_document}
-use Rattle.schemars_meaning.proofs.FieldsDescribed.{described_fields}
+use Rattle.schemars_types.specs.Effective.{fields_within, without_options}
+use Rattle.schemars_documents.specs.Describes.{Describes}
 use Rattle.schemars_headline.proofs.Changes.{Demand, IsDraft2019_09, IsGood, good_truth, good-annotated, good-allow_null}
-use Rattle.schemars_headline.proofs.Documents.{type-good, int-good, non_zero-good, char-good, formatted-good, bytes-good, schema_itself-good, reference-good, empty_list-good, seq-good, set-good, array-good, up_to-good, tuple-good, parts-good, fields-good, one_of-good, member-good, map-good, unit-good, literal-good}
-use Rattle.schemars_headline.proofs.Filled.{noted-effective, external-makes, untagged-makes, internal-makes, adjacent-makes, values-make}
-
--- all shapes but structs
-abbrev IsNoStruct : Shape → Type 0
-IsNoStruct (shape.struct x) = ⊥
-IsNoStruct kind = Unit {0}
-
--- `Under` says what may be flattened, so that the documents of structs are of the class
-module _ (R : Demand) (A : Ask → Data → Type 0) (basis : Basis) (Under : List Flattened → Type 0)
-    (apart : (ps qs : List Flattened) → Under (ps ++ qs) → Under ps × Under qs)
-    (structs : (y : Fields) → AreNoted y.list → Under y.flatten → (us : List Data)
-    → Fit A (asks_of (struct_template basis.contract y)) us → IsGood R (filled (struct_template basis.contract y) us))
-    (parts : (j : ℕ) (t : Data) → A (part j) t → IsGood R t) where
-  abbrev no_fields : Flattened → List Field
-  no_fields p = []
-
-  other-good : (kind : Shape) (s : Data) (others : Flattened → List Field) (enums : Flattened → List ℕ) → IsNoStruct kind
-      → IsPlainShape (expanded_shape others enums kind) → IsNotedShape kind → Under (parts_in kind) → IsDocument A no_fields basis kind s
-      → IsGood R s
-  other-good shape.null s others enums other p own flat is = rw is (type-good R (codes "null"))
-  other-good shape.bool s others enums other p own flat is = rw is (type-good R (codes "boolean"))
-  other-good (shape.int k) s others enums other p own flat is = rw is (int-good R k)
-  other-good (shape.non_zero k) s others enums other p own flat is = rw is (non_zero-good R k)
-  other-good shape.number s others enums other p own flat is = rw is (type-good R (codes "number"))
-  other-good shape.text s others enums other p own flat is = rw is (type-good R (codes "string"))
-  other-good shape.char s others enums other p own flat is = rw is (char-good R)
-  other-good (shape.formatted f) s others enums other p own flat is = rw is (formatted-good R f)
-  other-good shape.any s others enums other p own flat is = rw is (good_truth R true)
-  other-good shape.bytes s others enums other p own flat is = rw is (bytes-good R basis.contract)
-  other-good shape.schema_itself s others enums other p own flat is = rw is (schema_itself-good R)
-  other-good (shape.option n) s others enums other p own flat is = rw is.2 (good-allow_null R is.0 (parts n is.0 is.1))
-  other-good (shape.seq n) s others enums other p own flat is = rw is.2 (seq-good R is.0 (parts n is.0 is.1))
-  other-good (shape.set n) s others enums other p own flat is = rw is.2 (set-good R is.0 (parts n is.0 is.1))
-  other-good (shape.array n zero) s others enums other p own flat is = rw is (empty_list-good R)
-  other-good (shape.array n (suc len)) s others enums other p own flat is = rw is.2 (array-good R (suc len) is.0 (parts n is.0 is.1))
-  other-good (shape.up_to n cap) s others enums other p own flat is = rw is.2 (up_to-good R cap is.0 (parts n is.0 is.1))
-  other-good (shape.tuple ns) s others enums other p own flat is =
-      rw is.2 (tuple-good R is.0 (parts-good R (λ j. A (part j)) parts ns is.0 is.1))
-  other-good (shape.struct x) s others enums other p own flat is = absurd other
-  other-good (shape.newtype n) s others enums other p own flat is = parts n s is
-  other-good (shape.result a b) s others enums other p own flat is =
-      rw is.4 (one_of-good R (member_document false (codes "Ok") is.0 ∷ member_document false (codes "Err") is.1 ∷ []) (
-        member-good R false (codes "Ok") is.0
-            (parts a is.0 is.2),
-        (member-good R false (codes "Err") is.1 (parts b is.1 is.3), tt),
-      ))
-  other-good (shape.bound n) s others enums other p own flat is =
-      rw is.4 (one_of-good R (member_document false (codes "Included") is.0 ∷ member_document false (codes "Excluded") is.1
-      ∷ unit_variant (codes "Unbounded") ∷ []) (
-        member-good R false (codes "Included") is.0 (parts n is.0 is.2),
-        (member-good R false (codes "Excluded") is.1 (parts n is.1 is.3), (unit-good R (codes "Unbounded"), tt)),
-      ))
-  other-good (shape.range n) s others enums other p own flat is =
-      rw is.4 (map-good R ((codes "start", is.0) ∷ (codes "end", is.1) ∷ []) (codes "start" ∷ codes "end" ∷ []) false
-      (parts n is.0 is.2, (parts n is.1 is.3, tt)))
-  other-good (shape.either a b) s others enums other p own flat is =
-      rw is.4 (one_of-good R (member_document true (codes "Left") is.0 ∷ member_document true (codes "Right") is.1 ∷ []) (
-        member-good R true (codes "Left") is.0 (parts a is.0 is.2),
-        (member-good R true (codes "Right") is.1 (parts b is.1 is.3), tt),
-      ))
-  other-good (shape.map_from from value) s others enums other p own flat is =
-      rw is.is (values-make R A parts (key_options basis.rows from) value is.parts is.answered)
-  other-good (shape.enum shape.by_name xs) s others enums other p own flat is =
-      rw is.is (external-makes R A basis Under apart structs parts xs own flat is.parts is.answered)
-  other-good (shape.enum shape.by_nothing xs) s others enums other p own flat is =
-      rw is.is (untagged-makes R A basis Under apart structs parts xs own flat is.parts is.answered)
-  other-good (shape.enum (shape.by_tag tag closed) xs) s others enums other p own flat is =
-      rw is.is (internal-makes R A basis Under apart structs parts others enums tag closed xs p.2 own flat is.parts is.answered)
-  other-good (shape.enum (shape.by_tag_and_content tag key closed) xs) s others enums other p own flat is =
-      rw is.is (adjacent-makes R A basis Under apart structs parts tag key closed xs own flat is.parts is.answered)
-  other-good (shape.literal d) s others enums other p own flat is =
-      rw (is ∙ literal_document-schema d (literal_is_schema d p)) (literal-good R d p)
-
-  shape-good : (kind : Shape) (s : Data) (others : Flattened → List Field) (enums : Flattened → List ℕ)
-      → IsPlainShape (expanded_shape others enums kind) → IsNotedShape kind → Under (parts_in kind) → Fills A (template_of basis kind) s
-      → IsGood R s
-  shape-good (shape.struct x) s others enums p own flat h = subst (IsGood R) (sym h.is) (structs x own flat h.parts h.answered)
-  shape-good kind s others enums p own flat h =
-      other-good kind s others enums tt p own flat (others_fill A no_fields basis kind s h.parts tt h.answered h.is)
+use Rattle.schemars_headline.proofs.Documents.{reference-good, fields-good}
+use Rattle.schemars_headline.proofs.Filled.{noted-effective, shape-makes}
 
 -- ---- fields
 
@@ -164,10 +72,9 @@ module _ (R : Demand) (basis : Basis) (Refers : ℕ → Text → Type 0) (names 
     own-good d parts None entry t h = absurd h
     own-good d parts (Some e) entry t h =
         let told = entry e refl in
-        let bare = filled (template_of basis e.shape) h.parts in
-        subst (IsGood R) (sym h.is) (good-annotated R e.notes bare told.0
-        (shape-good R (Answer d) basis Under apart (structs d parts) parts e.shape bare (flattened_in basis.rows) (part_enums basis.rows)
-        told.1 told.2 told.3 (record { parts = h.parts; answered = h.answered; is = refl })))
+        subst (IsGood R) (sym h.is) (good-annotated R e.notes (filled (template_of basis e.shape) h.parts) told.0
+        (shape-makes R (Answer d) basis Under apart (structs d parts) parts (flattened_in basis.rows) (part_enums basis.rows) e.shape
+        (told.1, told.2, told.3) h.parts h.answered))
 
     written-by : (d : ℕ) → ((j : ℕ) (t : Data) → Describes basis Refers d j t → IsGood R t) → PartsGood d
     written-by d own j t (inl h) = subst (IsGood R) (sym h.2) (reference-good R h.0 (names j h.0 h.1))

@@ -1,21 +1,9 @@
 -- What fills the templates of enums and maps is what the laws of the drafts speak of, where the answers are.
 use Rattle.std.proofs.Common.{ℕ, List, [], ◌∷◌, ◌++◌, map, Bool, true, false, codes, refl, sym, subst}
-use Rattle.schemars_headline.proofs.Words.{if◌then◌else◌, Data, string, Members, no_members, put, Text, put_all, AreNotes, Field, Fields, Flattened, Payload, Variant, struct_payload, KeyOptions, keys, AreNoted, Keyword, Basis, Ask, part, members_of, content, Template, noted, asks_of, filled, filled_in, keyed, left, bare_units, other_items, choice_of, struct_template, KeywordTemplate, typed_template, object_with, values_of, all_patterns, pattern_properties_at, properties_at, other_values, values_template, first_all, left_all, Fit, asked_of_members}
-use Rattle.schemars_builders.specs.Variants.{unit_variant}
-use Rattle.schemars_shapes.specs.Shape.{no_payload, newtype_payload, tuple_payload}
-use Rattle.schemars_shapes.specs.Units.{is_bare_unit}
-use Rattle.schemars_types.specs.declared.contract.Contract.{Contract}
-use Rattle.schemars_types.specs.Effective.{flattened_fields, effective, expanded_payload, expanded_variant}
-use Rattle.schemars_documents.specs.PlainTable.{IsTagged, AreTagged, payload_parts, variant_parts, IsNotedPayload, AreNotedVariants}
-use Rattle.schemars_documents.specs.Template.{tagged, row, asks_in, Templates}
-use Rattle.schemars_documents.specs.OfShape.{templates_of, one_of_template, any_of_template, payload_template, named_template, member_template, units_template, external_template, title_alone, titled, payload_item, untagged_template, content_template, internal_item, internal_template, said, whole_template, adjacent_payload, adjacent_item, adjacent_template}
-use Rattle.schemars_meaning.proofs.Filling.{without_end, parted}
-use Rattle.schemars_meaning.proofs.MapDocument.{map_document}
-use Rattle.schemars_meaning.proofs.ByShape.{tuple_fills}
-use Rattle.schemars_meaning.proofs.Enums.{title_noted}
+use Rattle.schemars_headline.proofs.Words.{if◌then◌else◌, AllByRecursion, Data, string, Members, no_members, put, Text, put_all, AreNotes, Field, Fields, Flattened, Payload, Shape, Variant, KeyOptions, keys, AreNoted, Keyword, Basis, Ask, part, Template, asks_of, filled, filled_in, keyed, left, struct_template, template_of, KeywordTemplate, typed_template, object_with, values_of, all_patterns, pattern_properties_at, properties_at, other_values, values_template, internally_tagged_variant, first_all, left_all, Fit, asked_of_members, recursion_from_All, literal_is_schema, text_items, Tagging, enum, by_tag, flattened_fields, effective, expanded_payload, expanded_shape, expanded_variant, IsPlainShape, IsTagged, AreTagged, parts_in, payload_parts, variant_parts, IsNotedPayload, IsNotedShape, AreNotedVariants, row, asks_in, first, Templates, templates_of, map_template, tuple_template, content_template, title_alone, literal_document-schema, without_end, parted, tuple_fills, title_noted, values_ask, of_each, AreKeysApart, Documents, Law, IsBeside, AreBeside, beside_halves, plain_variants, shape_holds, values_all}
 use Rattle.schemars_laws.specs.Everywhere.{asked}
-use Rattle.schemars_headline.proofs.Changes.{Demand, Class, AreGood, are-put, IsGood, good, good_truth, good-annotated}
-use Rattle.schemars_headline.proofs.Documents.{AllGood, are-typed, type-good, tuple-good, parts-good, tagged-good, unit-good, units-good, one_of-good, any_of-good, member-good, map-good, AllNamed, asked-all}
+use Rattle.schemars_headline.proofs.Changes.{Demand, Class, AreGood, are-put, IsGood, good, good_truth, good-annotated, good-allow_null}
+use Rattle.schemars_headline.proofs.Documents.{AllGood, are-typed, type-good, int-good, non_zero-good, char-good, formatted-good, bytes-good, schema_itself-good, empty_list-good, seq-good, set-good, array-good, up_to-good, tuple-good, parts-good, tagged-good, unit-good, units-good, one_of-good, any_of-good, map-good, AllNamed, asked-all, literal-good}
 
 noted-append : (xs ys : List Field) → AreNoted xs → AreNoted ys → AreNoted (xs ++ ys)
 noted-append [] ys a b = b
@@ -29,197 +17,18 @@ module _ (has : Flattened → List Field) (noted_rows : (p : Flattened) → AreN
   pub noted-effective : (x : Fields) → AreNoted x.list → AreNoted (effective has x)
   noted-effective x own = noted-append x.list (flattened_fields has x.flatten) own (noted-flattened x.flatten)
 
--- `Under` says what may be flattened, so that the documents of structs are ones
-module _ (R : Demand) (A : Ask → Data → Type 0) (basis : Basis) (Under : List Flattened → Type 0)
-    (apart : (ps qs : List Flattened) → Under (ps ++ qs) → Under ps × Under qs)
-    (structs : (y : Fields) → AreNoted y.list → Under y.flatten → (us : List Data)
-    → Fit A (asks_of (struct_template basis.contract y)) us → IsGood R (filled (struct_template basis.contract y) us))
-    (parts : (j : ℕ) (t : Data) → A (part j) t → IsGood R t) where
-  abbrev contract : Contract
-  contract = basis.contract
-
-  abbrev W : ℕ → Data → Type 0
-  W j = A (part j)
-
-  -- whatever fills it
-  abbrev Makes : Template → Type 0
-  Makes t = (us : List Data) → Fit A (asks_of t) us → IsGood R (filled t us)
-
-  abbrev AllMake : List Template → Type 0
-  AllMake [] = Unit {0}
-  AllMake (t ∷ ts) = Makes t × AllMake ts
-
-  all-filled : (ts : List Template) → AllMake ts → (us : List Data) → Fit A (asks_in (templates_of ts)) us
-      → AllGood R (filled_in (templates_of ts) us)
-  all-filled [] make us fit = tt
-  all-filled (t ∷ ts) make us fit =
-      let p = parted A t (asks_in (templates_of ts)) us fit in (
-        subst (IsGood R) (sym p.4) (make.0 p.0 p.2),
-        subst (λ ws. AllGood R (filled_in (templates_of ts) ws)) (sym p.5) (all-filled ts make.1 p.1 p.3),
-      )
-
-  one-makes : (ts : List Template) → AllMake ts → Makes (one_of_template ts)
-  one-makes ts make us fit =
-      one_of-good R (filled_in (templates_of ts) us) (all-filled ts make us (without_end A (asks_in (templates_of ts)) us fit))
-
-  any-makes : (ts : List Template) → AllMake ts → Makes (any_of_template ts)
-  any-makes ts make us fit =
-      any_of-good R (filled_in (templates_of ts) us) (all-filled ts make us (without_end A (asks_in (templates_of ts)) us fit))
-
-  noted-makes : (notes : Members) (t : Template) → AreNotes notes → Makes t → Makes (noted notes t)
-  noted-makes notes t plain make us fit = good-annotated R notes (filled t us) plain (make us fit)
-
-  payload-makes : (p : Payload) → IsNotedPayload p → Under (payload_parts p)
-      → Makes (payload_template contract p)
-  payload-makes no_payload own flat us fit = type-good R (codes "null")
-  payload-makes (newtype_payload n) own flat [] fit = absurd fit
-  payload-makes (newtype_payload n) own flat (t ∷ us) fit = parts n t fit.0
-  payload-makes (tuple_payload ns) own flat us fit =
-      let d = tuple_fills A ns us fit in subst (IsGood R) (sym d.2) (tuple-good R d.0 (parts-good R W parts ns d.0 d.1))
-  payload-makes (struct_payload x) own flat us fit = structs x own flat us fit
-
-  -- ---- by names outside
-
-  member-makes : (name : Text) (t : Template) → Makes t → Makes (member_template true name t)
-  member-makes name t make us fit =
-      member-good R true name (filled t us)
-      (make us (without_end A (asks_of t) us (without_end A (asks_of t ++ []) us fit)))
-
-  named-makes : (name : Text) (p : Payload) → IsNotedPayload p → Under (payload_parts p)
-      → Makes (named_template contract name p)
-  named-makes name no_payload own flat us fit = unit-good R name
-  named-makes name (newtype_payload n) own flat us fit =
-      member-makes name (payload_template contract (newtype_payload n)) (payload-makes (newtype_payload n) own flat) us fit
-  named-makes name (tuple_payload ns) own flat us fit =
-      member-makes name (payload_template contract (tuple_payload ns)) (payload-makes (tuple_payload ns) own flat) us fit
-  named-makes name (struct_payload x) own flat us fit =
-      member-makes name (payload_template contract (struct_payload x)) (payload-makes (struct_payload x) own flat) us fit
-
-  others-make : (xs : List Variant) → AreNotedVariants xs → Under (variant_parts xs)
-      → AllMake (other_items contract xs)
-  others-make [] own flat = tt
-  others-make (x ∷ xs) own flat = go (is_bare_unit x) (others-make xs own.2 flats.1)
-    where
-      flats : Under (payload_parts x.payload) × Under (variant_parts xs)
-      flats = apart (payload_parts x.payload) (variant_parts xs) flat
-
-      go : (b : Bool) → AllMake (other_items contract xs)
-          → AllMake (if b then other_items contract xs else noted x.notes (named_template contract x.name x.payload)
-          ∷ other_items contract xs)
-      go true later = later
-      go false later = (
-        noted-makes x.notes (named_template contract x.name x.payload) own.0
-            (named-makes x.name x.payload own.1 flats.0),
-        later,
-      )
-
-  choice-makes : (ks : List Text) (ts : List Template) → AllMake ts → Makes (choice_of ks ts)
-  choice-makes [] [] make us fit = good_truth R false
-  choice-makes [] (t ∷ ts) make us fit = one-makes (t ∷ ts) make us fit
-  choice-makes (k ∷ ks) [] make us fit = units-good R (k ∷ ks)
-  choice-makes (k ∷ ks) (t ∷ ts) make us fit =
-      one-makes (units_template (k ∷ ks) ∷ t ∷ ts) (λ us fit. units-good R (k ∷ ks), make) us fit
-
-  pub external-makes : (xs : List Variant) → AreNotedVariants xs → Under (variant_parts xs)
-      → Makes (external_template contract xs)
-  external-makes xs own flat us fit =
-      choice-makes (bare_units xs) (other_items contract xs) (others-make xs own flat) us fit
-
-  -- ---- without a tag
-
-  titled-makes : (titles : Bool) (name : Text) (t : Template) → Makes t → Makes (titled titles name t)
-  titled-makes false name t make us fit = make us fit
-  titled-makes true name t make us fit = noted-makes (title_alone name) t (title_noted name) make us fit
-
-  payloads-make : (xs : List Variant) → AreNotedVariants xs → Under (variant_parts xs)
-      → AllMake (map (payload_item contract basis.titles) xs)
-  payloads-make [] own flat = tt
-  payloads-make (x ∷ xs) own flat =
-      let flats = apart (payload_parts x.payload) (variant_parts xs) flat in (
-        noted-makes x.notes (titled basis.titles x.name (payload_template contract x.payload)) own.0
-            (titled-makes basis.titles x.name (payload_template contract x.payload) (payload-makes x.payload own.1 flats.0)),
-        payloads-make xs own.2 flats.1,
-      )
-
-  pub untagged-makes : (xs : List Variant) → AreNotedVariants xs → Under (variant_parts xs)
-      → Makes (untagged_template contract basis.titles xs)
-  untagged-makes [] own flat us fit = good_truth R false
-  untagged-makes (x ∷ xs) own flat us fit =
-      any-makes (map (payload_item contract basis.titles) (x ∷ xs)) (payloads-make (x ∷ xs) own flat) us fit
-
-  -- ---- with a tag inside
-
-  module _ (others : Flattened → List Field) (enums : Flattened → List ℕ) (tag : Text) (closed : Bool) where
-    tag-makes : (name : Text) (p : Payload) → IsTagged tag (expanded_payload others enums p) → IsNotedPayload p
-        → Under (payload_parts p) → Makes (tagged tag name closed (content_template contract p))
-    tag-makes name no_payload is own flat us fit = tagged-good R tag name closed _ (type-good R (codes "null"))
-    tag-makes name (newtype_payload n) is own flat us fit = absurd is
-    tag-makes name (tuple_payload ns) is own flat us fit = absurd is
-    tag-makes name (struct_payload x) is own flat us fit = tagged-good R tag name closed _ (structs x own flat us fit)
-
-    internals-make : (xs : List Variant) → AreTagged tag (map (expanded_variant others enums) xs) → AreNotedVariants xs
-        → Under (variant_parts xs) → AllMake (map (internal_item contract tag closed) xs)
-    internals-make [] are own flat = tt
-    internals-make (x ∷ xs) are own flat =
-        let flats = apart (payload_parts x.payload) (variant_parts xs) flat in (
-          noted-makes x.notes (tagged tag x.name closed (content_template contract x.payload)) own.0
-              (tag-makes x.name x.payload are.0 own.1 flats.0),
-          internals-make xs are.1 own.2 flats.1,
-        )
-
-    pub internal-makes : (xs : List Variant) → AreTagged tag (map (expanded_variant others enums) xs) → AreNotedVariants xs
-        → Under (variant_parts xs) → Makes (internal_template contract tag closed xs)
-    internal-makes [] are own flat us fit = good_truth R false
-    internal-makes (x ∷ xs) are own flat us fit =
-        one-makes (map (internal_item contract tag closed) (x ∷ xs)) (internals-make (x ∷ xs) are own flat) us fit
-
-  -- ---- the name under one key, and the rest under another
-
-  module _ (tag key : Text) where
-    alone-makes : (closed : Bool) (name : Text) → Makes (whole_template (said tag (unit_variant name) ∷ []) closed)
-    alone-makes false name us fit = member-good R false tag (unit_variant name) (unit-good R name)
-    alone-makes true name us fit = member-good R true tag (unit_variant name) (unit-good R name)
-
-    both-good : (closed : Bool) (name : Text) (t : Template) → Makes t → (us : List Data) → Fit A ((asks_of t ++ []) ++ []) us
-        → IsGood R (map_document ((tag, unit_variant name) ∷ (key, filled t us) ∷ []) (tag ∷ key ∷ []) closed)
-    both-good closed name t make us fit =
-        map-good R ((tag, unit_variant name) ∷ (key, filled t us) ∷ []) (tag ∷ key ∷ []) closed
-        (unit-good R name, (make us (without_end A (asks_of t) us (without_end A (asks_of t ++ []) us fit)), tt))
-
-    both-make : (closed : Bool) (name : Text) (t : Template) → Makes t
-        → Makes (whole_template (said tag (unit_variant name) ∷ (key, t) ∷ []) closed)
-    both-make false name t make us fit = both-good false name t make us fit
-    both-make true name t make us fit = both-good true name t make us fit
-
-    variant-makes : (closed : Bool) (name : Text) (p : Payload) → IsNotedPayload p → Under (payload_parts p)
-        → Makes (whole_template (said tag (unit_variant name) ∷ adjacent_payload contract key p) closed)
-    variant-makes closed name no_payload own flat us fit = alone-makes closed name us fit
-    variant-makes closed name (newtype_payload n) own flat us fit =
-        both-make closed name (payload_template contract (newtype_payload n)) (payload-makes (newtype_payload n) own flat) us fit
-    variant-makes closed name (tuple_payload ns) own flat us fit =
-        both-make closed name (payload_template contract (tuple_payload ns)) (payload-makes (tuple_payload ns) own flat) us fit
-    variant-makes closed name (struct_payload x) own flat us fit =
-        both-make closed name (payload_template contract (struct_payload x)) (payload-makes (struct_payload x) own flat) us fit
-
-    adjacents-make : (closed : Bool) (xs : List Variant) → AreNotedVariants xs → Under (variant_parts xs)
-        → AllMake (map (adjacent_item contract tag key closed) xs)
-    adjacents-make closed [] own flat = tt
-    adjacents-make closed (x ∷ xs) own flat =
-        let flats = apart (payload_parts x.payload) (variant_parts xs) flat in (
-          noted-makes x.notes (whole_template (said tag (unit_variant x.name) ∷ adjacent_payload contract key x.payload) closed)
-              own.0 (variant-makes closed x.name x.payload own.1 flats.0),
-          adjacents-make closed xs own.2 flats.1,
-        )
-
-    pub adjacent-makes : (closed : Bool) (xs : List Variant) → AreNotedVariants xs → Under (variant_parts xs)
-        → Makes (adjacent_template contract tag key closed xs)
-    adjacent-makes closed [] own flat us fit = good_truth R false
-    adjacent-makes closed (x ∷ xs) own flat us fit =
-        one-makes (map (adjacent_item contract tag key closed) (x ∷ xs)) (adjacents-make closed (x ∷ xs) own flat) us fit
-
 -- ---- maps
 
+-- the values of members under their names
+abbrev named : List KeywordTemplate → List Data → List Keyword
+named es us = keyed (map (λ e. e.0) es) (filled_in (templates_of (map (λ e. e.1) es)) us)
+
 module _ (R : Demand) where
+  named-good : (ks : List Text) (ds : List Data) → AllGood R ds → AllNamed R (keyed ks ds)
+  named-good [] ds all = tt
+  named-good (k ∷ ks) [] all = tt
+  named-good (k ∷ ks) (d ∷ ds) all = (all.0, named-good ks ds all.1)
+
   abbrev rows_at : ℕ → List Text → Templates
   rows_at value ks = templates_of (map (λ (e : KeywordTemplate). e.1) (values_of value ks))
 
@@ -274,60 +83,133 @@ module _ (R : Demand) where
   values-good (keys others texts integers ps) value us all =
       keyed-good (other_values others value) value texts (all_patterns integers ps) us (other-good others value us all) all
 
--- rows alone are asked for the values of a map
-abbrev AreParts : List Ask → Type 0
-AreParts [] = Unit {0}
-AreParts (part n ∷ asks) = AreParts asks
-AreParts (members_of n required ∷ asks) = ⊥
-AreParts (content n ∷ asks) = ⊥
+-- ---- shapes
 
-parts-append : (cs ds : List Ask) → AreParts cs → AreParts ds → AreParts (cs ++ ds)
-parts-append [] ds a b = b
-parts-append (part n ∷ cs) ds a b = parts-append cs ds a b
-parts-append (members_of n required ∷ cs) ds a b = absurd a
-parts-append (content n ∷ cs) ds a b = absurd a
+-- `Under` says what may be flattened, so that the documents of structs are of the class
+module _ (R : Demand) (A : Ask → Data → Type 0) (basis : Basis) (Under : List Flattened → Type 0)
+    (apart : (ps qs : List Flattened) → Under (ps ++ qs) → Under ps × Under qs)
+    (structs : (y : Fields) → AreNoted y.list → Under y.flatten → (us : List Data)
+    → Fit A (asks_of (struct_template basis.contract y)) us → IsGood R (filled (struct_template basis.contract y) us))
+    (parts : (j : ℕ) (t : Data) → A (part j) t → IsGood R t) where
+  -- whatever fills it
+  abbrev pub Makes : Template → Type 0
+  Makes t = (us : List Data) → Fit A (asks_of t) us → IsGood R (filled t us)
 
-abbrev row_asks : ℕ → List Text → List Ask
-row_asks value ks = asks_in (templates_of (map (λ (e : KeywordTemplate). e.1) (values_of value ks)))
+  all-filled : (ts : List Template) → AllByRecursion Makes ts → (us : List Data) → Fit A (asks_in (templates_of ts)) us
+      → AllGood R (filled_in (templates_of ts) us)
+  all-filled [] make us fit = tt
+  all-filled (t ∷ ts) make us fit =
+      let p = parted A t (asks_in (templates_of ts)) us fit in (
+        subst (IsGood R) (sym p.4) (make.0 p.0 p.2),
+        subst (λ ws. AllGood R (filled_in (templates_of ts) ws)) (sym p.5) (all-filled ts make.1 p.1 p.3),
+      )
 
-parts-rows : (value : ℕ) (ks : List Text) → AreParts (row_asks value ks)
-parts-rows value [] = tt
-parts-rows value (k ∷ ks) = parts-rows value ks
+  all-last : (ts : List Template) → AllByRecursion Makes ts → (us : List Data) → Fit A (asks_in (templates_of ts) ++ []) us
+      → AllGood R (filled_in (templates_of ts) us)
+  all-last ts make us fit = all-filled ts make us (without_end A (asks_in (templates_of ts)) us fit)
 
-parts-last : (value : ℕ) (ks : List Text) → AreParts (row_asks value ks ++ [])
-parts-last value ks = parts-append (row_asks value ks) [] (parts-rows value ks) tt
+  map-makes : (es : List KeywordTemplate) (ks : List Text) (closed : Bool) → AllByRecursion (λ e. Makes e.1) es
+      → Makes (map_template es (text_items ks) closed)
+  map-makes es ks closed make us = go es ks closed (λ us fit.
+      named-good R (map (λ e. e.0) es) _ (all-last (map (λ e. e.1) es) (values_all Makes es make) us fit)) us
+    where
+      go : (es : List KeywordTemplate) (ks : List Text) (closed : Bool)
+          → ((us : List Data) → Fit A (asks_in (templates_of (map (λ e. e.1) es)) ++ []) us → AllNamed R (named es us))
+          → (us : List Data) → Fit A (asks_of (map_template es (text_items ks) closed)) us
+          → IsGood R (filled (map_template es (text_items ks) closed) us)
+      go [] [] false all us fit = map-good R [] [] false tt
+      go [] [] true all us fit = map-good R [] [] true tt
+      go [] (k ∷ ks) false all us fit = map-good R [] (k ∷ ks) false tt
+      go [] (k ∷ ks) true all us fit = map-good R [] (k ∷ ks) true tt
+      go (e ∷ es) [] false all us fit = map-good R (named (e ∷ es) us) [] false (all us fit)
+      go (e ∷ es) [] true all us fit = map-good R (named (e ∷ es) us) [] true (all us fit)
+      go (e ∷ es) (k ∷ ks) false all us fit = map-good R (named (e ∷ es) us) (k ∷ ks) false (all us fit)
+      go (e ∷ es) (k ∷ ks) true all us fit = map-good R (named (e ∷ es) us) (k ∷ ks) true (all us fit)
 
-parts-keyed : (other : Template) (value : ℕ) (texts qs : List Text) → AreParts (asks_of other)
-    → AreParts (asks_of (object_with (typed_template (codes "object") ∷ (codes "additionalProperties", other)
-    ∷ (pattern_properties_at (values_of value qs) ++ properties_at (values_of value texts)))))
-parts-keyed other value [] [] are = parts-append (asks_of other) [] are tt
-parts-keyed other value (t ∷ texts) [] are =
-    parts-append (asks_of other) (row_asks value (t ∷ texts) ++ []) are (parts-last value (t ∷ texts))
-parts-keyed other value [] (q ∷ qs) are = parts-append (asks_of other) (row_asks value (q ∷ qs) ++ []) are
-    (parts-last value (q ∷ qs))
-parts-keyed other value (t ∷ texts) (q ∷ qs) are =
-    parts-append (asks_of other) (row_asks value (q ∷ qs) ++ (row_asks value (t ∷ texts) ++ [])) are
-    (parts-append (row_asks value (q ∷ qs)) (row_asks value (t ∷ texts) ++ []) (parts-rows value (q ∷ qs))
-    (parts-last value (t ∷ texts)))
+  -- rows alone are asked for the values of a map
+  answered : (asks : List Ask) (us : List Data) → AllByRecursion (λ a. (t : Data) → A a t → IsGood R t) asks → Fit A asks us → AllGood R us
+  answered [] us all fit = subst (AllGood R) (sym fit) tt
+  answered (a ∷ asks) [] all fit = absurd fit
+  answered (a ∷ asks) (u ∷ us) all fit = (all.0 u fit.0, answered asks us all.1 fit.1)
 
-parts-other : (others : Bool) (value : ℕ) → AreParts (asks_of (other_values others value))
-parts-other true value = tt
-parts-other false value = tt
+  values-make : (options : KeyOptions) (value : ℕ) → AreKeysApart options → Makes (values_template options value)
+  values-make options value apart us fit =
+      let P : Ask → Type 0 = λ a. (t : Data) → A a t → IsGood R t in
+      let asks : List Ask = asks_of (values_template options value) in
+      values-good R options value us (answered asks us (recursion_from_All P asks (values_ask P options value apart (parts value))) fit)
 
-parts-values : (options : KeyOptions) (value : ℕ) → AreParts (asks_of (values_template options value))
-parts-values (keys others texts integers ps) value =
-    parts-keyed (other_values others value) value texts (all_patterns integers ps) (parts-other others value)
+  row-makes : (n : ℕ) → Makes (row n)
+  row-makes n [] fit = absurd fit
+  row-makes n (t ∷ us) fit = parts n t fit.0
 
-module _ (R : Demand) (A : Ask → Data → Type 0) (parts : (j : ℕ) (t : Data) → A (part j) t → IsGood R t) where
-  parts-answered : (asks : List Ask) (us : List Data) → AreParts asks → Fit A asks us → AllGood R us
-  parts-answered [] us are fit = subst (AllGood R) (sym fit) tt
-  parts-answered (part n ∷ asks) [] are fit = absurd fit
-  parts-answered (part n ∷ asks) (u ∷ us) are fit = (parts n u fit.0, parts-answered asks us are fit.1)
-  parts-answered (members_of n required ∷ asks) us are fit = absurd are
-  parts-answered (content n ∷ asks) us are fit = absurd are
+  tuple-makes : (ns : List ℕ) → Makes (tuple_template ns)
+  tuple-makes ns us fit =
+      let d = tuple_fills A ns us fit in
+      subst (IsGood R) (sym d.2) (tuple-good R d.0 (parts-good R (λ j. A (part j)) parts ns d.0 d.1))
 
-  pub values-make : (options : KeyOptions) (value : ℕ) (us : List Data) → Fit A (asks_of (values_template options value)) us
-      → IsGood R (filled (values_template options value) us)
-  values-make options value us fit =
-      values-good R options value us
-      (parts-answered (asks_of (values_template options value)) us (parts-values options value) fit)
+  documents : Documents (of_each Makes)
+  documents = record {
+    type_of = λ name us fit. type-good R name;
+    int = λ kind us fit. int-good R kind;
+    non_zero = λ kind us fit. non_zero-good R kind;
+    char = λ us fit. char-good R;
+    formatted = λ format us fit. formatted-good R format;
+    truth = λ b us fit. good_truth R b;
+    bytes = λ contract us fit. bytes-good R contract;
+    schema_itself = λ us fit. schema_itself-good R;
+    empty_list = λ us fit. empty_list-good R;
+    unit = λ name us fit. unit-good R name;
+    units = λ ks us fit. units-good R ks;
+    seq = λ n make us fit. seq-good R (first us) (make us fit);
+    set = λ n make us fit. set-good R (first us) (make us fit);
+    array = λ n len make us fit. array-good R len (first us) (make us fit);
+    up_to = λ n most make us fit. up_to-good R most (first us) (make us fit);
+    tuple = λ ns make. tuple-makes ns;
+    one_of = λ ts make us fit. one_of-good R (filled_in (templates_of ts) us) (all-last ts make us fit);
+    any_of = λ ts make us fit. any_of-good R (filled_in (templates_of ts) us) (all-last ts make us fit);
+    maps = λ es ks closed make apart. map-makes es ks closed make;
+    values = λ options value apart make. values-make options value apart;
+    apart = λ ks h. tt;
+  }
+
+  module _ (others : Flattened → List Field) (enums : Flattened → List ℕ) where
+    abbrev pub OfShape : Shape → Type 0
+    OfShape kind = IsPlainShape (expanded_shape others enums kind) × IsNotedShape kind × Under (parts_in kind)
+
+    good_law : Law basis
+    good_law = record {
+      claim = of_each Makes;
+      documents = documents;
+      of_shape = OfShape;
+      of_variants = λ tagging xs. AreBeside others enums tagging xs × AreNotedVariants xs × Under (variant_parts xs);
+      of_payload = λ tagging p. IsBeside others enums tagging p × IsNotedPayload p × Under (payload_parts p);
+      rows = λ kind m h is. row-makes m;
+      option = λ n make us fit. good-allow_null R (first us) (make us fit);
+      struct = λ x h. structs x h.1 h.2;
+      variants = λ tagging xs h. ((plain_variants others enums tagging xs h.0).1, h.1, h.2);
+      literal = λ d h us fit. rw (literal_document-schema d (literal_is_schema d h.0)) (literal-good R d h.0);
+      payload = λ tagging x xs h. (
+        (beside_halves others enums tagging x xs h.0).0,
+        h.1.1,
+        (apart (payload_parts x.payload) (variant_parts xs) h.2).0,
+      );
+      notes = λ tagging x xs h t make us fit. good-annotated R x.notes (filled t us) h.1.0 (make us fit);
+      later = λ tagging x xs h. (
+        (beside_halves others enums tagging x xs h.0).1,
+        h.1.2,
+        (apart (payload_parts x.payload) (variant_parts xs) h.2).1,
+      );
+      title = λ name t make us fit. good-annotated R (title_alone name) (filled t us) (title_noted name) (make us fit);
+      payload_rows = λ tagging p m h is. row-makes m;
+      payload_struct = λ tagging x h. structs x h.1 h.2;
+      content_row = λ tag closed n h. absurd h.0;
+      tag = λ tag closed x xs h make us fit.
+          let bare = filled (content_template basis.contract x.payload) us in
+          good-annotated R x.notes (internally_tagged_variant tag x.name closed bare) h.1.0
+          (tagged-good R tag x.name closed bare (make us fit));
+      beside = λ tag key closed p h. tt;
+    }
+
+    pub shape-makes : (kind : Shape) → OfShape kind → Makes (template_of basis kind)
+    unfolding good_law
+    shape-makes kind h = shape_holds basis good_law kind h

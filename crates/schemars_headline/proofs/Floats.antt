@@ -1,32 +1,13 @@
 -- A document has no float but those of its notes.
 use Rattle.std.proofs.Common.{◌≡◌, ℕ, zero, suc, ℤ, pos, negsuc, List, [], ◌∷◌, ◌++◌, map, Option, Some, None, Bool, true, false, refl, subst, Ordering, Less, Equal, Greater, nat_cmp}
-use Rattle.schemars_headline.proofs.Words.{codes, is_some, if◌then◌else◌, ◌&&◌, ◌||◌, bytes_eq, option_and_then, match_ordering, slice_cmp, AllByRecursion, Data, null, boolean, number, string, array, object, Items, no_items, item, Members, no_members, member, put, get_member, items_of, has_float, members_have_float, Text, put_members, members_in, put_all, object_of, is_null_choice, is_combined, or_null, allow_null, type_with_null, null_in_type, enum_with_null, null_in_enum, const_or_null, null_in_const, null_in_values, is_null, zero_schema, closed_where, has_null_type, internally_tagged_variant, format_of, Shape, Entry, Field, Flattened, Fields, Payload, Variant, struct_payload, entry_at, least_of, greatest_of, KeyOptions, keys, key_options, annotated, with_title, with_meta_schema, root_document, int_keywords, is_signed, required_names, Basis, Template, noted, left, keyed, filled, filled_in, object_with, typed_template, values_of, all_patterns, pattern_properties_at, other_values, properties_at, KeywordTemplate, with_flattened, struct_template, bare_units, other_items, choice_of, values_template, template_of, entry_template, IsWritten, Describes, without, replaced, holds_text, with_member, with_first, placed_at, Plan, Registry, basis_of_plan, with_definitions, HasKeysOnce, either, left_all, first_all}
-use Rattle.std.specs.Prelude.{option_map}
-use Rattle.serde_json.specs.Find.{of_integer, is_float}
-use Rattle.serde_json.specs.Written.{items_have_float}
-use Rattle.schemars_schema.specs.SchemaData.{is_schema}
-use Rattle.schemars_schema.proofs.Contents.{members_have_float-put}
-use Rattle.schemars_builders.specs.AllowNull.{holds_null}
-use Rattle.schemars_builders.specs.NullLaw.{text_items}
+use Rattle.schemars_headline.proofs.Words.{codes, is_some, if◌then◌else◌, ◌&&◌, ◌||◌, bytes_eq, option_and_then, match_ordering, slice_cmp, AllByRecursion, Data, null, boolean, number, string, array, object, Items, no_items, item, Members, no_members, member, put, get_member, items_of, has_float, members_have_float, Text, put_members, members_in, put_all, object_of, is_null_choice, is_combined, or_null, allow_null, type_with_null, null_in_type, enum_with_null, null_in_enum, const_or_null, null_in_const, null_in_values, is_null, zero_schema, closed_where, has_null_type, internally_tagged_variant, format_of, Shape, Entry, Field, Flattened, Fields, Payload, Variant, struct_payload, entry_at, least_of, greatest_of, KeyOptions, keys, key_options, annotated, with_title, with_meta_schema, root_document, int_keywords, is_signed, required_names, Basis, Template, noted, left, keyed, filled, filled_in, object_with, typed_template, values_of, all_patterns, pattern_properties_at, other_values, properties_at, KeywordTemplate, with_flattened, struct_template, bare_units, other_items, choice_of, values_template, template_of, entry_template, IsWritten, Describes, without, replaced, holds_text, with_member, with_first, placed_at, Plan, Registry, basis_of_plan, with_definitions, HasKeysOnce, either, left_all, first_all, option_map, of_integer, is_float, items_have_float, is_schema, members_have_float-put, holds_null, text_items, unit_variant, no_payload, newtype_payload, tuple_payload, bytes_document, first, templates_of, property, members_asked, content_template, title_alone, flattened-whole, flattened_part-whole, opened_inside-whole, fields_have_float, payload_has_float, variants_have_float, shape_has_float, EntryHasNoFloat, HasNoFloat, with_item, changed_at, placed, tokens_of, is_bare_unit, described_holds, written_holds, of_each, Law, shape_holds, Keywords, by_value, by_keyword, each, struct_holds, or_parts}
 use Rattle.schemars_builders.specs.Properties as properties
-use Rattle.schemars_builders.specs.Variants.{unit_variant}
 use Rattle.schemars_shapes.specs.Shape as shape
-use Rattle.schemars_shapes.specs.Shape.{no_payload, newtype_payload, tuple_payload}
 use Rattle.schemars_types.specs.declared.contract.Contract.{Contract}
 use Rattle.schemars_types.specs.declared.contract.Contract.TheVariants.{Deserialize, Serialize}
-use Rattle.schemars_documents.specs.Documents.{bytes_document}
-use Rattle.schemars_documents.specs.Template.{finished, asked, row, list, members, nullable, with_keywords, tagged, Templates, no_templates, template}
-use Rattle.schemars_documents.specs.OfShape.{templates_of, property, map_template, tuple_template, content_template, payload_template, named_template, payload_item, titled, untagged_template, internal_item, internal_template, said, adjacent_payload, adjacent_item, adjacent_template}
-use Rattle.schemars_flatten.proofs.Floats.{flattened-whole, flattened_part-whole, opened_inside-whole}
-use Rattle.schemars_shapes.specs.Decimals.{fields_have_float, payload_has_float, variants_have_float, shape_has_float}
-use Rattle.schemars_documents.specs.PlainTable.{EntryHasNoFloat, HasNoFloat}
-use Rattle.schemars_schema.specs.Edits.{with_item, changed_at}
-use Rattle.schemars_schema.specs.Placing.{placed, tokens_of}
-use Rattle.schemars_shapes.specs.Units.{is_bare_unit}
+use Rattle.schemars_documents.specs.Template.{asked}
 use Rattle.schemars_headline.proofs.Standing.{MayRefer, AllStand}
 use Rattle.schemars_headline.proofs.Keys.{AllMembers, all_members}
-use Rattle.schemars_meaning.proofs.Parts.{described_holds, written_holds}
-use Rattle.std.proofs.lemmas.Bool.{or_parts}
 
 abbrev pub IsWhole : Data → Type 0
 IsWhole s = has_float s ≡ false
@@ -210,109 +191,35 @@ whole_tagged_variant tag name closed s h =
 
 -- ---- filled templates
 
--- neither its finished JSON nor its notes have a float
-abbrev mutual
-  SaysWhole : Template → Type 0
-  SaysWhole (finished d) = IsWhole d
-  SaysWhole (asked a) = Unit {0}
-  SaysWhole (list es) = SayWhole es
-  SaysWhole (members ks es) = SayWhole es
-  SaysWhole (nullable t) = SaysWhole t
-  SaysWhole (noted notes t) = (members_have_float notes ≡ false) × SaysWhole t
-  SaysWhole (with_keywords t u) = SaysWhole t × SaysWhole u
-  SaysWhole (tagged tag name closed t) = SaysWhole t
+-- whatever fills it has no float
+abbrev Fills : Template → Type 0
+Fills t = (ts : List Data) → AllByRecursion IsWhole ts → IsWhole (filled t ts)
 
-  SayWhole : Templates → Type 0
-  SayWhole no_templates = Unit {0}
-  SayWhole (template t es) = SaysWhole t × SayWhole es
+fills_in : (us : List Template) → AllByRecursion Fills us → (ts : List Data) → AllByRecursion IsWhole ts
+    → AllByRecursion IsWhole (filled_in (templates_of us) ts)
+fills_in [] all ts h = tt
+fills_in (u ∷ us) all ts h = (all.0 ts h, fills_in us all.1 (left u ts) (left_all IsWhole u ts h))
 
-mutual
-  whole_filled : (t : Template) (ts : List Data) → SaysWhole t → AllByRecursion IsWhole ts → IsWhole (filled t ts)
-  whole_filled (finished d) ts is h = is
-  whole_filled (asked a) ts is h = first_all IsWhole refl ts h
-  whole_filled (list es) ts is h = whole_items (filled_in es ts) (whole_filled_in es ts is h)
-  whole_filled (members ks es) ts is h = whole_keyed ks (filled_in es ts) no_members (whole_filled_in es ts is h) refl
-  whole_filled (nullable t) ts is h = whole_allow_null (filled t ts) (whole_filled t ts is h)
-  whole_filled (noted notes t) ts is h = whole_annotated notes (filled t ts) is.0 (whole_filled t ts is.1 h)
-  whole_filled (with_keywords t u) ts is h = flattened-whole (filled t ts) (filled u (left t ts)) (whole_filled t ts is.0 h)
-      (whole_filled u (left t ts) is.1 (left_all IsWhole t ts h))
-  whole_filled (tagged tag name closed t) ts is h = whole_tagged_variant tag name closed (filled t ts) (whole_filled t ts is h)
+first_whole : (ts : List Data) → AllByRecursion IsWhole ts → IsWhole (first ts)
+first_whole ts h = first_all IsWhole refl ts h
 
-  whole_filled_in : (es : Templates) (ts : List Data) → SayWhole es → AllByRecursion IsWhole ts → AllByRecursion IsWhole (filled_in es ts)
-  whole_filled_in no_templates ts is h = tt
-  whole_filled_in (template t es) ts is h = (whole_filled t ts is.0 h, whole_filled_in es (left t ts) is.1 (left_all IsWhole t ts h))
+keywords : Keywords (of_each Fills)
+keywords =
+    by_value Fills (λ d whole ts h. whole)
+    (λ us all ts h. whole_items (filled_in (templates_of us) ts) (fills_in us all ts h))
+    (λ ks us all ts h. whole_keyed ks (filled_in (templates_of us) ts) no_members (fills_in us all ts h) refl)
 
--- ---- each shape
+properties_whole : (xs : List Field) → fields_have_float xs ≡ false → AllByRecursion (λ e. Fills e.1) (map property xs)
+properties_whole [] n = tt
+properties_whole (x ∷ xs) n =
+    let parts = or_parts (members_have_float x.notes) (fields_have_float xs) n in
+    (λ ts h. whole_annotated x.notes (first ts) parts.0 (first_whole ts h), properties_whole xs parts.1)
 
-pub bound_whole : (z : ℤ) → is_float (of_integer z) ≡ false
-bound_whole (pos n) = refl
-bound_whole (negsuc n) = refl
-
--- whatever the bounds are
-int_whole : (format : Text) (least greatest : Option ℤ) → IsWhole (object_of (int_keywords format least greatest))
-    × IsWhole (object_of (int_keywords format least greatest ++ (codes "not", zero_schema) ∷ []))
-int_whole format None None = (refl, refl)
-int_whole format None (Some g) = rw (bound_whole g) (refl, refl)
-int_whole format (Some l) None = rw (bound_whole l) (refl, refl)
-int_whole format (Some l) (Some g) = rw (bound_whole l, bound_whole g) (refl, refl)
-
-bytes_whole : (contract : Contract) → IsWhole (bytes_document contract)
-bytes_whole Deserialize = refl
-bytes_whole Serialize = refl
-
-rows_whole : (ns : List ℕ) → SayWhole (templates_of (map row ns))
-rows_whole [] = tt
-rows_whole (n ∷ ns) = (tt, rows_whole ns)
-
-properties_whole : (xs : List Field) → fields_have_float xs ≡ false → SayWhole (templates_of (map (λ e. e.1) (map property xs)))
-properties_whole [] h = tt
-properties_whole (x ∷ xs) h =
-    let parts = or_parts (members_have_float x.notes) (fields_have_float xs) h in
-    ((parts.0, tt), properties_whole xs parts.1)
-
-texts_whole : (ns : List Text) → items_have_float (text_items ns) ≡ false
-texts_whole [] = refl
-texts_whole (n ∷ ns) = texts_whole ns
-
-map_whole : (es : List KeywordTemplate) (required : Items) (closed : Bool) → SayWhole (templates_of (map (λ e. e.1) es))
-    → items_have_float required ≡ false → SaysWhole (map_template es required closed)
-map_whole [] no_items false h g = (refl, tt)
-map_whole [] no_items true h g = (refl, (refl, tt))
-map_whole [] (item d ds) false h g = (refl, (g, tt))
-map_whole [] (item d ds) true h g = (refl, (g, (refl, tt)))
-map_whole (e ∷ es) no_items false h g = (refl, (h, tt))
-map_whole (e ∷ es) no_items true h g = (refl, (h, (refl, tt)))
-map_whole (e ∷ es) (item d ds) false h g = (refl, (h, (g, tt)))
-map_whole (e ∷ es) (item d ds) true h g = (refl, (h, (g, (refl, tt))))
-
-tuple_whole : (ns : List ℕ) → SaysWhole (tuple_template ns)
-tuple_whole [] = refl
-tuple_whole (n ∷ ns) = search (rows_whole ns)
-
-flattened_template : (contract : Contract) (ps : List Flattened) (t : Template) → SaysWhole t → SaysWhole (with_flattened contract ps t)
-flattened_template contract [] t h = h
-flattened_template contract (p ∷ ps) t h = flattened_template contract ps _ (h, tt)
-
-struct_whole : (contract : Contract) (x : Fields) → fields_have_float x.list ≡ false → SaysWhole (struct_template contract x)
+struct_whole : (contract : Contract) (x : Fields) → fields_have_float x.list ≡ false → Fills (struct_template contract x)
 struct_whole contract x n =
-    flattened_template contract x.flatten _
-    (map_whole (map property x.list) (text_items (required_names contract x.list)) x.closed (properties_whole x.list n)
-    (texts_whole (required_names contract x.list)))
-
--- ---- enums
-
-payload_whole : (contract : Contract) (p : Payload) → payload_has_float p ≡ false → SaysWhole (payload_template contract p)
-payload_whole contract no_payload n = refl
-payload_whole contract (newtype_payload j) n = tt
-payload_whole contract (tuple_payload js) n = tuple_whole js
-payload_whole contract (struct_payload x) n = struct_whole contract x n
-
--- under its name alone
-named_whole : (contract : Contract) (name : Text) (p : Payload) → payload_has_float p ≡ false → SaysWhole (named_template contract name p)
-named_whole contract name no_payload n = refl
-named_whole contract name (newtype_payload j) n = search
-named_whole contract name (tuple_payload js) n = search (tuple_whole js)
-named_whole contract name (struct_payload x) n = search (struct_whole contract x n)
+    struct_holds (of_each Fills) keywords contract
+    (λ t u all more ts h. flattened-whole (filled t ts) (filled u (left t ts)) (all ts h) (more (left t ts) (left_all IsWhole t ts h))) x
+    (properties_whole x.list n) tt (each (λ p. Fills (asked (members_asked contract p))) (λ p. first_whole) x.flatten)
 
 -- what holds of variants without decimals holds of the first one and of those after it
 variants_whole : (x : Variant) (xs : List Variant) → variants_have_float (x ∷ xs) ≡ false
@@ -322,121 +229,37 @@ variants_whole x xs h =
     let own = or_parts (members_have_float x.notes) (payload_has_float x.payload) parts.0 in
     (own.0, own.1, parts.1)
 
-others_whole : (contract : Contract) (xs : List Variant) → variants_have_float xs ≡ false
-    → SayWhole (templates_of (other_items contract xs))
-others_whole contract [] n = tt
-others_whole contract (x ∷ xs) h = go (is_bare_unit x) (others_whole contract xs n.2)
-  where
-    n : (members_have_float x.notes ≡ false) × (payload_has_float x.payload ≡ false) × (variants_have_float xs ≡ false)
-    n = variants_whole x xs h
-
-    go : (b : Bool) → SayWhole (templates_of (other_items contract xs)) → SayWhole (templates_of
-        (if b then other_items contract xs else noted x.notes (named_template contract x.name x.payload) ∷ other_items contract xs))
-    go true later = later
-    go false later = ((n.0, named_whole contract x.name x.payload n.1), later)
-
-choice_whole : (ks : List Text) (ts : List Template) → SayWhole (templates_of ts) → SaysWhole (choice_of ks ts)
-choice_whole [] [] n = refl
-choice_whole [] (t ∷ ts) n = (n, tt)
-choice_whole (k ∷ ks) [] n = (refl, (texts_whole (k ∷ ks), tt))
-choice_whole (k ∷ ks) (t ∷ ts) n = (((refl, (texts_whole (k ∷ ks), tt)), n), tt)
-
-titled_whole : (titles : Bool) (name : Text) (t : Template) → SaysWhole t → SaysWhole (titled titles name t)
-titled_whole false name t h = h
-titled_whole true name t h = (refl, h)
-
-items_whole : (contract : Contract) (titles : Bool) (xs : List Variant) → variants_have_float xs ≡ false
-    → SayWhole (templates_of (map (payload_item contract titles) xs))
-items_whole contract titles [] n = tt
-items_whole contract titles (x ∷ xs) h =
-    let n = variants_whole x xs h in
-    let one = titled_whole titles x.name (payload_template contract x.payload) (payload_whole contract x.payload n.1) in
-    ((n.0, one), items_whole contract titles xs n.2)
-
-untagged_whole : (contract : Contract) (titles : Bool) (xs : List Variant) → variants_have_float xs ≡ false
-    → SaysWhole (untagged_template contract titles xs)
-untagged_whole contract titles [] n = refl
-untagged_whole contract titles (x ∷ xs) n = (items_whole contract titles (x ∷ xs) n, tt)
-
-content_whole : (contract : Contract) (p : Payload) → payload_has_float p ≡ false → SaysWhole (content_template contract p)
-content_whole contract no_payload n = refl
-content_whole contract (newtype_payload j) n = tt
-content_whole contract (tuple_payload js) n = tuple_whole js
-content_whole contract (struct_payload x) n = struct_whole contract x n
-
-internals_whole : (contract : Contract) (tag : Text) (closed : Bool) (xs : List Variant) → variants_have_float xs ≡ false
-    → SayWhole (templates_of (map (internal_item contract tag closed) xs))
-internals_whole contract tag closed [] n = tt
-internals_whole contract tag closed (x ∷ xs) h =
-    let n = variants_whole x xs h in ((n.0, content_whole contract x.payload n.1), internals_whole contract tag closed xs n.2)
-
-internal_whole : (contract : Contract) (tag : Text) (closed : Bool) (xs : List Variant) → variants_have_float xs ≡ false
-    → SaysWhole (internal_template contract tag closed xs)
-internal_whole contract tag closed [] n = refl
-internal_whole contract tag closed (x ∷ xs) n = (internals_whole contract tag closed (x ∷ xs) n, tt)
-
--- beside the name
-beside_whole : (contract : Contract) (key : Text) (p : Payload) → payload_has_float p ≡ false
-    → SayWhole (templates_of (map (λ e. e.1) (adjacent_payload contract key p)))
-beside_whole contract key no_payload n = tt
-beside_whole contract key (newtype_payload j) n = (tt, tt)
-beside_whole contract key (tuple_payload js) n = (tuple_whole js, tt)
-beside_whole contract key (struct_payload x) n = (struct_whole contract x n, tt)
-
-adjacents_whole : (contract : Contract) (tag key : Text) (closed : Bool) (xs : List Variant) → variants_have_float xs ≡ false
-    → SayWhole (templates_of (map (adjacent_item contract tag key closed) xs))
-adjacents_whole contract tag key closed [] n = tt
-adjacents_whole contract tag key closed (x ∷ xs) h =
-    let n = variants_whole x xs h in
-    let es : List KeywordTemplate = said tag (unit_variant x.name) ∷ adjacent_payload contract key x.payload in
-    let keys : List Text = map (λ e. e.0) es in
-    let one = map_whole es (text_items keys) closed (refl, beside_whole contract key x.payload n.1) (texts_whole keys) in
-    ((n.0, one), adjacents_whole contract tag key closed xs n.2)
-
-adjacent_whole : (contract : Contract) (tag key : Text) (closed : Bool) (xs : List Variant) → variants_have_float xs ≡ false
-    → SaysWhole (adjacent_template contract tag key closed xs)
-adjacent_whole contract tag key closed [] n = refl
-adjacent_whole contract tag key closed (x ∷ xs) n = (adjacents_whole contract tag key closed (x ∷ xs) n, tt)
-
 -- ---- by shape
 
-texts_whole_at : (value : ℕ) (texts : List Text)
-    → SayWhole (templates_of (map (λ (e : KeywordTemplate). e.1) (map (λ (t : Text). (t, row value)) texts)))
-texts_whole_at value [] = tt
-texts_whole_at value (t ∷ texts) = (tt, texts_whole_at value texts)
+whole_law : (basis : Basis) → Law basis
+whole_law basis = record {
+  claim = of_each Fills;
+  documents = by_keyword (of_each Fills) keywords;
+  of_shape = λ kind. shape_has_float kind ≡ false;
+  of_variants = λ tagging xs. variants_have_float xs ≡ false;
+  of_payload = λ tagging p. payload_has_float p ≡ false;
+  rows = λ kind m n is. first_whole;
+  option = λ m all ts h. whole_allow_null (first ts) (all ts h);
+  struct = λ x n. struct_whole basis.contract x n;
+  variants = λ tagging xs n. n;
+  literal = λ d n ts h. either IsWhole (is_schema d) d (boolean true) n refl;
+  payload = λ tagging x xs n. (variants_whole x xs n).1;
+  notes = λ tagging x xs n t all ts h. whole_annotated x.notes (filled t ts) (variants_whole x xs n).0 (all ts h);
+  later = λ tagging x xs n. (variants_whole x xs n).2;
+  title = λ name t all ts h. whole_annotated (title_alone name) (filled t ts) refl (all ts h);
+  payload_rows = λ tagging p m n is. first_whole;
+  payload_struct = λ tagging x n. struct_whole basis.contract x n;
+  content_row = λ tag closed m n. first_whole;
+  tag = λ tag closed x xs n all ts h.
+      let bare = filled (content_template basis.contract x.payload) ts in
+      whole_annotated x.notes (internally_tagged_variant tag x.name closed bare) (variants_whole x xs n).0
+      (whole_tagged_variant tag x.name closed bare (all ts h));
+  beside = λ tag key closed p n. tt;
+}
 
-other_whole : (others : Bool) (value : ℕ) → SaysWhole (other_values others value)
-other_whole true value = tt
-other_whole false value = refl
-
-keyed_whole : (other : Template) (texts qs : List Text) (value : ℕ) → SaysWhole other
-    → SaysWhole (object_with (typed_template (codes "object") ∷ (codes "additionalProperties", other)
-    ∷ (pattern_properties_at (values_of value qs) ++ properties_at (values_of value texts))))
-keyed_whole other [] [] value h = search h
-keyed_whole other (t ∷ texts) [] value h = search (h, texts_whole_at value (t ∷ texts))
-keyed_whole other [] (q ∷ qs) value h = search (h, texts_whole_at value (q ∷ qs))
-keyed_whole other (t ∷ texts) (q ∷ qs) value h = search (h, texts_whole_at value (t ∷ texts), texts_whole_at value (q ∷ qs))
-
-values_whole : (options : KeyOptions) (value : ℕ) → SaysWhole (values_template options value)
-values_whole (keys others texts integers ps) value =
-    keyed_whole (other_values others value) texts (all_patterns integers ps) value (other_whole others value)
-
-shape_whole : (basis : Basis) (kind : Shape) → shape_has_float kind ≡ false → SaysWhole (template_of basis kind)
-shape_whole basis (shape.int k) n = (int_whole (format_of k) (least_of k) (greatest_of k)).0
-shape_whole basis (shape.non_zero k) n = either IsWhole (is_signed k) _ _
-    (int_whole (format_of k) (least_of k) (greatest_of k)).1 (int_whole (format_of k) (Some (pos 1)) (greatest_of k)).0
-shape_whole basis shape.bytes n = bytes_whole basis.contract
-shape_whole basis (shape.array j zero) n = refl
-shape_whole basis (shape.array j (suc len)) n = search
-shape_whole basis (shape.tuple js) n = tuple_whole js
-shape_whole basis (shape.struct x) n = struct_whole basis.contract x n
-shape_whole basis (shape.map_from key value) n = values_whole (key_options basis.rows key) value
-shape_whole basis (shape.enum shape.by_name xs) n = choice_whole (bare_units xs) (other_items basis.contract xs) (others_whole basis.contract xs n)
-shape_whole basis (shape.enum shape.by_nothing xs) n = untagged_whole basis.contract basis.titles xs n
-shape_whole basis (shape.enum (shape.by_tag tag closed) xs) n = internal_whole basis.contract tag closed xs n
-shape_whole basis (shape.enum (shape.by_tag_and_content tag key closed) xs) n = adjacent_whole basis.contract tag key closed xs n
-shape_whole basis (shape.literal d) n = either IsWhole (is_schema d) d (boolean true) n refl
-shape_whole basis _ n = search
+shape_whole : (basis : Basis) (kind : Shape) → shape_has_float kind ≡ false → Fills (template_of basis kind)
+unfolding whole_law
+shape_whole basis kind n = shape_holds basis (whole_law basis) kind n
 
 -- ---- the document of a row
 
@@ -445,7 +268,7 @@ module _ (basis : Basis) (Refers : ℕ → Text → Type 0) (none : HasNoFloat b
       → IsWhole (filled (entry_template basis e) ts)
   fills n e at ts h =
       let here = or_parts (members_have_float e.notes) (shape_has_float e.shape) (subst EntryHasNoFloat at (none n)) in
-      whole_filled (entry_template basis e) ts (here.0, shape_whole basis e.shape here.1) h
+      whole_annotated e.notes (filled (template_of basis e.shape) ts) here.0 (shape_whole basis e.shape here.1 ts h)
 
   pub described_whole : (d n : ℕ) (s : Data) → Describes basis Refers d n s → has_float s ≡ false
   described_whole = described_holds IsWhole flattened_part-whole opened_inside-whole basis Refers (λ j r h. refl) fills

@@ -1,19 +1,7 @@
 -- Where rows are inlined and no row refers to itself, root documents have no references, whatever the draft, and no definitions are
 -- needed.
 use Rattle.std.proofs.Common.{◌≡◌, inl, inr, ℕ, List, [], ◌∷◌, ◌++◌, Bool, true, false, Some, None, refl, sym, ap, ◌∙◌, subst}
-use Rattle.schemars_headline.proofs.Words.{if◌then◌else◌, Data, no_members, get_member, Text, members_in, references, Everywhere, for_draft07, for_draft2019_09, flattened_part, name_at, IsPlainTable, root_document, Ask, part, members_of, content, Plan, Registry, Refers, basis_of_plan, IsReached, State, state_plan, registry_of, IsRootOf, Draft07, Draft2019_09, Draft2020_12}
-use Rattle.std.specs.List.{All}
-use Rattle.std.proofs.lemmas.List.Elements.{All-nil, All-head}
-use Rattle.schemars_flatten.specs.Opening.{opened_inside}
-use Rattle.schemars_flatten.proofs.References.{flattened_part-refers, opened_inside-refers}
-use Rattle.schemars_documents.specs.Describes.{without_options, are_optional}
-use Rattle.schemars_build.specs.Placed.{IsFilled}
-use Rattle.schemars_build.specs.Parts.{IsSaid, IsFilledOf, AreNeededFor}
-use Rattle.schemars_build.specs.Reached.{AreReached}
-use Rattle.schemars_headline.specs.State.{after_root}
-use Rattle.schemars_headline.specs.Headline.{HasNoCycle}
-use Rattle.schemars_headline.specs.Drafts.{Draft, made_for}
-use Rattle.schemars_headline.specs.Inlined.{InlinesAll, IsInlinedFor, NeedsNoDefinitions}
+use Rattle.schemars_headline.proofs.Words.{if◌then◌else◌, Data, no_members, get_member, Text, members_in, references, Everywhere, for_draft07, for_draft2019_09, flattened_part, name_at, IsPlainTable, root_document, Ask, part, members_of, content, Plan, Registry, Refers, basis_of_plan, IsReached, State, state_plan, registry_of, IsRootOf, Draft07, Draft2019_09, Draft2020_12, All, All-nil, All-head, opened_inside, flattened_part-refers, opened_inside-refers, without_options, are_optional, IsFilled, IsSaid, IsFilledOf, AreNeededFor, AreReached, after_root, HasNoCycle, Draft, made_for, InlinesAll, IsInlinedFor, NeedsNoDefinitions}
 use Rattle.schemars_headline.proofs.Changes.{Demand, without_rest, Class, good, for_openapi, for_items}
 use Rattle.schemars_headline.proofs.Classes.{described-good}
 use Rattle.schemars_headline.proofs.RootClass.{root-are}

@@ -1,16 +1,9 @@
 -- Schemas without a key of definitions: it does not come in where they are put together or opened.
 use Rattle.std.proofs.Common.{◌≡◌, inl, inr, Option, Some, None, Bool, true, false, Ordering, Less, Equal, Greater, nat_cmp, refl, ◌∙◌}
-use Rattle.schemars_headline.proofs.Words.{◌||◌, ◌&&◌, codes, is_some, if◌then◌else◌, bytes_eq, match_ordering, slice_cmp, exact_bytes, Data, null, boolean, number, string, array, object, Items, no_items, Members, no_members, member, put, get_member, get_member-put_other, Text, without, replaced, with_member, with_first, members_in, closed_where, has_null_type, internally_tagged_variant, flattened, form_at, flattened_part}
-use Rattle.std.proofs.lemmas.Cmp.{nat_list_cmp_total, tied_itself}
-use Rattle.serde_json.specs.Find.{get}
-use Rattle.schemars_schema.specs.Edits.{removed, changed_at, on_list}
-use Rattle.schemars_builders.specs.Variants.{unit_variant}
-use Rattle.schemars_builders.specs.Properties.{tagged}
+use Rattle.schemars_headline.proofs.Words.{◌||◌, ◌&&◌, codes, is_some, if◌then◌else◌, bytes_eq, match_ordering, slice_cmp, exact_bytes, Data, null, boolean, number, string, array, object, Items, no_items, Members, no_members, member, put, get_member, get_member-put_other, Text, without, replaced, with_member, with_first, members_in, closed_where, has_null_type, internally_tagged_variant, flattened, form_at, flattened_part, nat_list_cmp_total, tied_itself, get, removed, changed_at, on_list, unit_variant, tagged, contains_key, has_subschema, moved, moved_beside, opened_schema, united, with_united, both_choices, with_choice, is_choice, with_keyword, closes_by, opened_at, opened_here, same_object_place, opening, opened, opened_inside, units_of, with_items, with_units, first_as_objects, list_changed_at, units_as_objects, with_empty_object, one_or_anything, choice_or_anything, optional_where}
 use Rattle.schemars_flatten.specs.Flatten as flatten
-use Rattle.schemars_flatten.specs.Flatten.{contains_key, has_subschema, moved, moved_beside, opened_schema, united, with_united, both_choices, with_choice, is_choice, with_keyword, with_keywords}
+use Rattle.schemars_flatten.specs.Flatten.{with_keywords}
 use Rattle.schemars_walk.specs.Rewritten.{forms, in_keywords}
-use Rattle.schemars_flatten.specs.Opening.{closes_by, opened_at, opened_here, same_object_place, opening, opened, opened_inside}
-use Rattle.schemars_flatten.specs.Parts.{units_of, with_items, with_units, first_as_objects, list_changed_at, units_as_objects, with_empty_object, one_or_anything, choice_or_anything, optional_where}
 use Rattle.schemars_headline.proofs.Keys.{IsDefinitionsKey, IsOther, other_apart}
 
 abbrev pub HasNeither : Data → Type 0
@@ -245,26 +238,3 @@ module _ (key : Text) (is_key : IsDefinitionsKey key) where
   pub lacks_flattened_part : (b : Bool) (s : Data) → LacksIn s → LacksIn (flattened_part b s)
   lacks_flattened_part b s h =
       lacks_opened (optional_where b (units_as_objects s)) (lacks_optional b (units_as_objects s) (lacks_units s h))
-
-  -- ---- tags
-
-  lacks_tagged : (tag name : Text) (ms : Members) → Lacks ms → Lacks (tagged tag name ms)
-  lacks_tagged tag name ms h =
-      let typed = put (codes "type") (string (codes "object")) ms in
-      let with_tag = changed_at (codes "properties") (with_member tag (unit_variant name)) (object no_members) typed in
-      lacks_changed_at (codes "required") (with_first (string tag)) (array no_items) with_tag refl
-      (lacks_changed_at (codes "properties") (with_member tag (unit_variant name)) (object no_members) typed refl
-      (lacks-put (codes "type") (string (codes "object")) ms refl h))
-
-  lacks_closed : (closed : Bool) (ms : Members) → Lacks ms → Lacks (closed_where closed ms)
-  lacks_closed false ms h = h
-  lacks_closed true ms h = go (is_some (get_member (codes "additionalProperties") ms))
-    where
-      go : (b : Bool) → Lacks (if b then ms else put (codes "additionalProperties") (boolean false) ms)
-      go true = h
-      go false = lacks-put (codes "additionalProperties") (boolean false) ms refl h
-
-  pub lacks_tagged_variant : (tag name : Text) (closed : Bool) (s : Data) → LacksIn s
-      → LacksIn (internally_tagged_variant tag name closed s)
-  lacks_tagged_variant tag name closed s h = lacks_closed (closed && has_null_type s) (tagged tag name (members_in s))
-      (lacks_tagged tag name (members_in s) h)

@@ -1,72 +1,13 @@
 -- The document of a row has no definitions of its own.
 use Rattle.std.proofs.Common.{◌≡◌, ℕ, zero, suc, ℤ, List, [], ◌∷◌, ◌++◌, map, Option, Some, None, Bool, true, false, refl, subst, pos}
-use Rattle.schemars_headline.proofs.Words.{codes, is_some, if◌then◌else◌, AllByRecursion, Data, null, boolean, string, array, object, Items, no_items, item, Members, no_members, member, put, get_member, Text, without, is_null, members_in, object_of, put_all, put_members, AreNotes, is_null_choice, is_combined, or_null, allow_null, type_with_null, null_in_type, enum_with_null, null_in_enum, const_or_null, null_in_const, null_in_values, zero_schema, format_of, Shape, Flattened, Entry, entry_at, least_of, greatest_of, annotated, with_title, with_meta_schema, root_document, int_keywords, is_signed, required_names, reference, KeyOptions, keys, key_options, Basis, Template, noted, keyed, left, filled, filled_in, KeywordTemplate, with_flattened, bare_units, other_items, choice_of, values_template, template_of, entry_template, typed_template, object_with, values_of, all_patterns, pattern_properties_at, other_values, properties_at, Describes, HasPlainLiteral, IsNotedEntry, HasPlainNotes, either, first_all, left_all}
-use Rattle.schemars_builders.specs.AllowNull.{null_schema}
-use Rattle.schemars_builders.specs.NullLaw.{text_items}
+use Rattle.schemars_headline.proofs.Words.{codes, is_some, if◌then◌else◌, AllByRecursion, Data, null, boolean, string, array, object, Items, no_items, item, Members, no_members, member, put, get_member, Text, without, is_null, members_in, object_of, put_all, put_members, AreNotes, is_null_choice, is_combined, or_null, allow_null, type_with_null, null_in_type, enum_with_null, null_in_enum, const_or_null, null_in_const, null_in_values, zero_schema, format_of, Shape, Flattened, Entry, entry_at, least_of, greatest_of, annotated, with_title, with_meta_schema, root_document, int_keywords, is_signed, required_names, reference, KeyOptions, keys, key_options, Basis, Template, noted, keyed, left, filled, filled_in, KeywordTemplate, with_flattened, bare_units, other_items, choice_of, values_template, template_of, entry_template, typed_template, object_with, values_of, all_patterns, pattern_properties_at, other_values, properties_at, Describes, HasPlainLiteral, IsNotedEntry, HasPlainNotes, either, first_all, left_all, null_schema, text_items, finished, list, members, nullable, with_keywords, templates_of, literal_document, IsPlainLiteral, plain_absent, described_holds, outer_holds}
 use Rattle.schemars_shapes.specs.Shape as shape
 use Rattle.schemars_types.specs.declared.contract.Contract.{Contract}
-use Rattle.schemars_documents.specs.Template.{finished, asked, list, members, nullable, with_keywords, tagged}
-use Rattle.schemars_documents.specs.OfShape.{property, map_template, literal_document}
-use Rattle.schemars_schema.specs.Literal.{IsPlainLiteral}
-use Rattle.schemars_schema.proofs.Literals.{plain_absent}
+use Rattle.schemars_documents.specs.Template.{asked, tagged}
 use Rattle.schemars_headline.proofs.Keys.{IsDefinitionsKey, IsOther, annotation_other}
-use Rattle.schemars_meaning.proofs.Parts.{described_holds}
-use Rattle.schemars_headline.proofs.Lacking.{HasNeither, Lacks, LacksIn, lacks_both, lacks-put, lacks_without, lacks_flattened, lacks_flattened_part, lacks_opened_inside, lacks_tagged_variant}
+use Rattle.schemars_headline.proofs.Lacking.{HasNeither, Lacks, LacksIn, lacks_both, lacks-put, lacks_without, lacks_flattened, lacks_flattened_part, lacks_opened_inside}
 
--- ---- the keys of a template
-
--- none of its own keys is one of the two
-abbrev SaysOther : Template → Type 0
-SaysOther (finished d) = HasNeither d
-SaysOther (asked a) = Unit {0}
-SaysOther (list es) = Unit {0}
-SaysOther (members ks es) = AllByRecursion IsOther ks
-SaysOther (nullable t) = SaysOther t
-SaysOther (noted notes t) = AreNotes notes × SaysOther t
-SaysOther (with_keywords t u) = SaysOther t × SaysOther u
-SaysOther (tagged tag name closed t) = SaysOther t
-
--- ---- each shape
-
--- whatever the bounds are
-int_other : (format : Text) (least greatest : Option ℤ) → HasNeither (object_of (int_keywords format least greatest))
-    × HasNeither (object_of (int_keywords format least greatest ++ (codes "not", zero_schema) ∷ []))
-int_other format None None = ((refl, refl), (refl, refl))
-int_other format None (Some g) = ((refl, refl), (refl, refl))
-int_other format (Some l) None = ((refl, refl), (refl, refl))
-int_other format (Some l) (Some g) = ((refl, refl), (refl, refl))
-
-map_other : (es : List KeywordTemplate) (required : Items) (closed : Bool) → SaysOther (map_template es required closed)
-map_other [] no_items false = search
-map_other [] no_items true = search
-map_other [] (item d ds) false = search
-map_other [] (item d ds) true = search
-map_other (e ∷ es) no_items false = search
-map_other (e ∷ es) no_items true = search
-map_other (e ∷ es) (item d ds) false = search
-map_other (e ∷ es) (item d ds) true = search
-
-flattened_other : (contract : Contract) (ps : List Flattened) (t : Template) → SaysOther t → SaysOther (with_flattened contract ps t)
-flattened_other contract [] t h = h
-flattened_other contract (p ∷ ps) t h = flattened_other contract ps _ (h, tt)
-
-choice_other : (ks : List Text) (ts : List Template) → SaysOther (choice_of ks ts)
-choice_other [] [] = (refl, refl)
-choice_other [] (t ∷ ts) = search
-choice_other (k ∷ ks) [] = search
-choice_other (k ∷ ks) (t ∷ ts) = search
-
-keyed_other : (other : Template) (texts qs : List Text) (value : ℕ)
-    → SaysOther (object_with (typed_template (codes "object") ∷ (codes "additionalProperties", other)
-    ∷ (pattern_properties_at (values_of value qs) ++ properties_at (values_of value texts))))
-keyed_other other [] [] value = search
-keyed_other other (t ∷ texts) [] value = search
-keyed_other other [] (q ∷ qs) value = search
-keyed_other other (t ∷ texts) (q ∷ qs) value = search
-
-values_other : (options : KeyOptions) (value : ℕ) → SaysOther (values_template options value)
-values_other (keys others texts integers ps) value =
-    keyed_other (other_values others value) texts (all_patterns integers ps) value
+-- ---- literals
 
 literal_other : (d : Data) → IsPlainLiteral d → HasNeither (literal_document d)
 literal_other (boolean true) plain = (refl, refl)
@@ -78,28 +19,6 @@ literal_other (object ms) plain = (
 literal_other null plain = absurd plain
 literal_other _ plain = absurd plain
 
-shape_other : (basis : Basis) (kind : Shape) → HasPlainLiteral kind → SaysOther (template_of basis kind)
-shape_other basis (shape.int k) p = (int_other (format_of k) (least_of k) (greatest_of k)).0
-shape_other basis (shape.non_zero k) p = either HasNeither (is_signed k) _ _
-    (int_other (format_of k) (least_of k) (greatest_of k)).1 (int_other (format_of k) (Some (pos 1)) (greatest_of k)).0
-shape_other basis (shape.array n zero) p = (refl, refl)
-shape_other basis (shape.array n (suc len)) p = search
-shape_other basis (shape.tuple []) p = (refl, refl)
-shape_other basis (shape.tuple (n ∷ ns)) p = search
-shape_other basis (shape.struct x) p =
-    flattened_other basis.contract x.flatten _
-    (map_other (map property x.list) (text_items (required_names basis.contract x.list)) x.closed)
-shape_other basis (shape.map_from key value) p = values_other (key_options basis.rows key) value
-shape_other basis (shape.enum shape.by_name xs) p = choice_other (bare_units xs) (other_items basis.contract xs)
-shape_other basis (shape.enum shape.by_nothing []) p = (refl, refl)
-shape_other basis (shape.enum shape.by_nothing (x ∷ xs)) p = search
-shape_other basis (shape.enum (shape.by_tag tag closed) []) p = (refl, refl)
-shape_other basis (shape.enum (shape.by_tag tag closed) (x ∷ xs)) p = search
-shape_other basis (shape.enum (shape.by_tag_and_content tag key closed) []) p = (refl, refl)
-shape_other basis (shape.enum (shape.by_tag_and_content tag key closed) (x ∷ xs)) p = search
-shape_other basis (shape.literal d) p = literal_other d p
-shape_other basis _ p = search
-
 module _ (key : Text) (is_key : IsDefinitionsKey key) where
   abbrev Lack : Members → Type 0
   Lack ms = Lacks key is_key ms
@@ -107,11 +26,12 @@ module _ (key : Text) (is_key : IsDefinitionsKey key) where
   abbrev In : Data → Type 0
   In s = LacksIn key is_key s
 
-  lacks-keyed : (ks : List Text) (ds : List Data) (ms : Members) → AllByRecursion IsOther ks → Lack ms
-      → Lack (put_all (keyed ks ds) ms)
+  lacks-keyed : (es : List KeywordTemplate) (ds : List Data) (ms : Members) → AllByRecursion (λ e. IsOther e.0) es → Lack ms
+      → Lack (put_all (keyed (map (λ e. e.0) es) ds) ms)
   lacks-keyed [] ds ms others h = h
-  lacks-keyed (k ∷ ks) [] ms others h = h
-  lacks-keyed (k ∷ ks) (d ∷ ds) ms others h = lacks-keyed ks ds (put k d ms) others.1 (lacks-put key is_key k d ms others.0 h)
+  lacks-keyed (e ∷ es) [] ms others h = h
+  lacks-keyed (e ∷ es) (d ∷ ds) ms others h =
+      lacks-keyed es ds (put e.0 d ms) others.1 (lacks-put key is_key e.0 d ms others.0 h)
 
   lacks-put_members : (notes ms : Members) → AreNotes notes → Lack ms → Lack (put_members notes ms)
   lacks-put_members no_members ms are h = h
@@ -158,16 +78,20 @@ module _ (key : Text) (is_key : IsDefinitionsKey key) where
   lacks_allow_null null h = refl
   lacks_allow_null _ h = refl
 
-  lacks_filled : (t : Template) (ts : List Data) → SaysOther t → AllByRecursion In ts → In (filled t ts)
-  lacks_filled (finished d) ts is h = lacks_both key is_key d is
-  lacks_filled (asked a) ts is h = first_all In refl ts h
-  lacks_filled (list es) ts is h = refl
-  lacks_filled (members ks es) ts is h = lacks-keyed ks (filled_in es ts) no_members is refl
-  lacks_filled (nullable t) ts is h = lacks_allow_null (filled t ts) (lacks_filled t ts is h)
-  lacks_filled (noted notes t) ts is h = lacks_annotated notes (filled t ts) is.0 (lacks_filled t ts is.1 h)
-  lacks_filled (with_keywords t u) ts is h = lacks_flattened key is_key (filled t ts) (filled u (left t ts)) (lacks_filled t ts is.0 h)
-      (lacks_filled u (left t ts) is.1 (left_all In t ts h))
-  lacks_filled (tagged tag name closed t) ts is h = lacks_tagged_variant key is_key tag name closed (filled t ts) (lacks_filled t ts is h)
+  -- whatever fills it
+  abbrev Fills : Template → Type 0
+  Fills t = (ts : List Data) → AllByRecursion In ts → In (filled t ts)
+
+  shape_lacks : (basis : Basis) (kind : Shape) → HasPlainLiteral kind → Fills (template_of basis kind)
+  shape_lacks basis kind plain =
+      outer_holds basis Fills HasPlainLiteral
+      (λ d own ts h. lacks_both key is_key d own.2)
+      (λ es others ts h. lacks-keyed es (filled_in (templates_of (map (λ e. e.1) es)) ts) no_members others refl)
+      (λ a ts h. first_all In refl ts h)
+      (λ t all ts h. lacks_allow_null (filled t ts) (all ts h))
+      (λ t u all more ts h. lacks_flattened key is_key (filled t ts) (filled u (left t ts)) (all ts h)
+      (more (left t ts) (left_all In t ts h)))
+      (λ d plain ts h. lacks_both key is_key (literal_document d) (literal_other d plain)) kind plain
 
   -- ---- the document of a row
 
@@ -176,7 +100,7 @@ module _ (key : Text) (is_key : IsDefinitionsKey key) where
         → In (filled (entry_template basis e) ts)
     fills n e at ts h =
         let here : IsNotedEntry (Some e) = subst IsNotedEntry at (plain n) in
-        lacks_filled (entry_template basis e) ts (here.0, shape_other basis e.shape here.1) h
+        lacks_annotated e.notes (filled (template_of basis e.shape) ts) here.0 (shape_lacks basis e.shape here.1 ts h)
 
     described_lacks : (d n : ℕ) (t : Data) → Describes basis Refers d n t → In t
     described_lacks = described_holds In (lacks_flattened_part key is_key) (lacks_opened_inside key is_key) basis Refers

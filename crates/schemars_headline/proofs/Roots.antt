@@ -1,19 +1,10 @@
 -- Root documents mean their types, and so do subschemas beside their definitions.
 use Rattle.std.proofs.Common.{[], ◌≡◌, inl, inr, ℕ, List, Option, Some, None, Bool, true, refl, sym, ap, ◌∙◌, subst, arith}
-use Rattle.schemars_headline.proofs.Words.{is_some, Data, object, Members, get_member, Text, IsSchema, members_in, resolved, references, resolves, Dialect, Patterns, Judge, judge, draft2020_12, follow, IsSilent, context2020_12, Entry, Shape, Field, Flattened, Row, name_at, entry_at, IsChecked, root_document, IsWritten, Describes, HasPlainLiteral, IsPlainUnder, IsPlainTable, IsNotedEntry, HasPlainNotes, HasPlainNotesThroughout, plain_under, IsOneToOne, Plan, Registry, Refers, basis_of_plan, allow_null, State, state_plan, registry_of, HasOwnDefinitions, IsRootOf, MeansItsType, IsDraftPath, with_definitions, HasKeysOnce, describes-wider, IsSubschema, document_describes, described, under_rows}
-use Rattle.schemars_schema.proofs.Objects.{judge-put}
-use Rattle.schemars_builders.specs.NullLaw.{IsDraft, AcceptsNullToo}
-use Rattle.schemars_types.specs.Effective.{expanded_shape, flattened_in, part_enums}
+use Rattle.schemars_headline.proofs.Words.{is_some, Data, object, Members, get_member, Text, IsSchema, members_in, resolved, references, resolves, Dialect, Patterns, Judge, judge, draft2020_12, follow, IsSilent, context2020_12, Entry, Shape, Field, Flattened, Row, name_at, entry_at, IsChecked, root_document, IsWritten, Describes, HasPlainLiteral, IsPlainUnder, IsPlainTable, IsNotedEntry, HasPlainNotes, HasPlainNotesThroughout, plain_under, IsOneToOne, Plan, Registry, Refers, basis_of_plan, allow_null, State, state_plan, registry_of, HasOwnDefinitions, IsRootOf, MeansItsType, IsDraftPath, with_definitions, HasKeysOnce, describes-wider, IsSubschema, document_describes, described, under_rows, judge-put, IsDraft, AcceptsNullToo, expanded_shape, flattened_in, part_enums, IsPlainShape, IsEntryUnder, written_or_null, MeansItsTypeIn, SubschemaHeadline, judge-root, written_map, placed_written}
 use Rattle.schemars_types.specs.declared.contract.Contract.{Contract}
 use Rattle.schemars_shapes.specs.Shape as shape
-use Rattle.schemars_documents.specs.PlainTable.{IsPlainShape, IsEntryUnder}
-use Rattle.schemars_meaning.proofs.FieldsDescribed.{written_or_null}
-use Rattle.schemars_headline.specs.Headline.{MeansItsTypeIn, SubschemaHeadline}
-use Rattle.schemars_meaning.proofs.Notes.{judge-root}
 use Rattle.schemars_headline.proofs.Keys.{all_members, IsDefinitionsKey}
 use Rattle.schemars_headline.proofs.OwnKeys.{no_definitions_in}
-use Rattle.schemars_meaning.proofs.Mapping.{written_map}
-use Rattle.schemars_build.proofs.Placing.{placed_written}
 use Rattle.schemars_headline.proofs.Resolving.{all_pass-resolve, Resolve, AllResolve, described_resolved, written_resolved, root_resolved, placed_resolved}
 use Rattle.schemars_headline.proofs.Standing.{MayRefer, AllStand, stands_now, refers_may}
 use Rattle.schemars_headline.proofs.Leading.{HoldsDefinitions, IsItsRoot, refers_resolve, written_accepts}

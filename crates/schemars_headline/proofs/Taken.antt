@@ -1,17 +1,9 @@
 -- Definitions that are taken for OpenAPI mean the types of their names.
 use Rattle.std.proofs.Common.{◌≡◌, inl, inr, ◌+◌, ◌*◌, ◌≤◌, ◌∷◌, ◌++◌, ℕ, Option, Some, None, true, refl, sym, ap, ◌∙◌, subst}
-use Rattle.schemars_headline.proofs.Words.{is_some, IsUtf8, Data, string, Members, depth, get_member, pointer, members_len, Text, IsSchema, resolved, references, resolves, all_resolve, draft2020_12, accepts, count_of_definitions, IsChecked, IsPlainTable, IsOneToOne, Plan, Registry, basis_of_plan, Refers, plain_under, described, State, path_of, state_plan, registry_of, HasOwnDefinitions, AcceptsItsValues, Stands, IsForOpenApi, weaker}
-use Rattle.schemars_schema.specs.Encoding.{encoded}
-use Rattle.schemars_schema.specs.Acceptance.{openapi3}
-use Rattle.schemars_schema.proofs.Placings.{plain-components, resolved-definition, count-place}
+use Rattle.schemars_headline.proofs.Words.{is_some, IsUtf8, Data, string, Members, depth, get_member, pointer, members_len, Text, IsSchema, resolved, references, resolves, all_resolve, draft2020_12, accepts, count_of_definitions, IsChecked, IsPlainTable, IsOneToOne, Plan, Registry, basis_of_plan, Refers, plain_under, described, State, path_of, state_plan, registry_of, HasOwnDefinitions, AcceptsItsValues, Stands, IsForOpenApi, weaker, encoded, openapi3, plain-components, resolved-definition, count-place, IsDefinitionAt, EachEverywhere, components, components_of, Anything, for_openapi3, components-found, openapi-law, names-at_end, all_seven, schema-at_end, len-at_end, found-at_end, missing-at_end, seven-each, MeansItsRow, MeanTheirRows, OpenApiHeadline}
 use Rattle.schemars_headline.proofs.Standing.{MayRefer, AllStand, stands_now}
 use Rattle.schemars_headline.proofs.Placed.{held}
 use Rattle.schemars_headline.proofs.Leading.{HoldsDefinitions, IsItsRoot, written_accepts}
-use Rattle.schemars_laws.specs.Paths.{IsDefinitionAt, EachEverywhere, components, components_of}
-use Rattle.schemars_laws.specs.Stages.{Anything}
-use Rattle.schemars_laws.specs.Laws.{for_openapi3}
-use Rattle.schemars_laws.proofs.Chain.{components-found, openapi-law, names-at_end, all_seven, schema-at_end, len-at_end, found-at_end, missing-at_end, seven-each}
-use Rattle.schemars_headline.specs.Taken.{MeansItsRow, MeanTheirRows, OpenApiHeadline}
 use Rattle.schemars_headline.proofs.ReferencesKept.{RefersOnce}
 use Rattle.schemars_headline.proofs.DialectsResolving.{each-resolves}
 use Rattle.schemars_headline.proofs.Changes.{without_rest, for_openapi}

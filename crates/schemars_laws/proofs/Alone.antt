@@ -1,15 +1,7 @@
 -- After the siblings of references have gone, no schema has a keyword beside `$ref`.
 use Rattle.std.proofs.Common.{◌≡◌, inl, inr, Option, Some, None, Bool, true, false, codes, refl, ◌∙◌}
-use Rattle.std.specs.Prelude.{if◌then◌else◌, ◌==◌}
-use Rattle.serde_json.specs.Data.{Data, object, Members}
-use Rattle.serde_json.specs.Find.{get_member}
-use Rattle.serde_json.specs.Events.{members_len}
-use Rattle.schemars_schema.specs.Edits.{without}
-use Rattle.schemars_text.proofs.Members.{differ}
-use Rattle.schemars_transform.specs.Built.{reference_moved, without_siblings, remove_ref_siblings}
-use Rattle.schemars_laws.specs.Everywhere.{asked, asked_of_keywords}
-use Rattle.schemars_laws.specs.Classes.{IsOnce, IsReferenceAlone}
-use Rattle.schemars_laws.specs.Laws.{LeavesReferencesAlone}
+use Rattle.schemars_laws.proofs.Words.{if◌then◌else◌, ◌==◌, Data, object, Members, get_member, members_len, without, differ, reference_moved, without_siblings, remove_ref_siblings, asked_of_keywords, IsOnce, IsReferenceAlone, LeavesReferencesAlone}
+use Rattle.schemars_laws.specs.Everywhere.{asked}
 use Rattle.schemars_laws.proofs.Looked.{change_rules, walked, once-walked}
 use Rattle.schemars_laws.proofs.Siblings.{schema-siblings, get-moved}
 use Rattle.schemars_laws.proofs.Preserved.{Preserves, after, change-preserves, asked-without}

@@ -1,20 +1,9 @@
 -- Definitions at one key, such as `$defs`.
 use Rattle.std.proofs.Common.{◌≡◌, ◌⊎◌, inl, inr, Option, Some, None, Bool, true, false, option_map, refl, sym, ap, ◌∙◌, subst}
-use Rattle.std.specs.Prelude.{option_and_then, if◌then◌else◌}
-use Rattle.serde_json.specs.Data.{Data, null, boolean, number, string, array, object, Members}
-use Rattle.serde_json.specs.Find.{get_member}
-use Rattle.schemars_schema.specs.Json.{Text}
-use Rattle.schemars_schema.specs.Encoding.{lookup}
-use Rattle.schemars_schema.specs.SchemaData.{is_schema}
-use Rattle.schemars_schema.specs.References.{NoSchemas, SchemasByName, place_under}
-use Rattle.schemars_schema.specs.Lookup.{resolved, schema_only}
-use Rattle.schemars_schema.specs.Acceptance.{Dialect, judge, accepts}
-use Rattle.schemars_schema.proofs.Placings.{resolved-whole}
-use Rattle.schemars_walk.specs.Rewritten.{Rules, form_at, forms, in_names, in_keywords, rewritten}
-use Rattle.schemars_walk.proofs.KeywordLaws.{keywords_get}
-use Rattle.schemars_laws.specs.Everywhere.{asked, demanded, Everywhere}
-use Rattle.schemars_laws.specs.Names.{IsNameOf, IsName, Named, IsMap}
-use Rattle.schemars_laws.specs.Laws.{MovesAcceptance}
+use Rattle.schemars_laws.proofs.Words.{option_and_then, if◌then◌else◌, Data, null, boolean, number, string, array, object, Members, get_member, Text, lookup, is_schema, NoSchemas, SchemasByName, place_under, schema_only, Dialect, judge, accepts, resolved-whole, Rules, form_at, in_names, in_keywords, rewritten, keywords_get, demanded, Everywhere, IsNameOf, IsName, Named, IsMap, MovesAcceptance}
+use Rattle.schemars_schema.specs.Lookup.{resolved}
+use Rattle.schemars_walk.specs.Rewritten.{forms}
+use Rattle.schemars_laws.specs.Everywhere.{asked}
 use Rattle.schemars_laws.proofs.Kept.{IsTruth}
 use Rattle.schemars_laws.proofs.Preserved.{asked-get}
 use Rattle.schemars_laws.proofs.Moved.{Moves, IsLed, Leads, schema-moved}

@@ -1,23 +1,12 @@
 -- Objects in place of truth values say the same.
 use Rattle.std.proofs.Common.{◌≡◌, ◌⊎◌, ℕ, inl, inr, Some, None, Bool, true, false, [], ◌∷◌, codes, refl, ap, ◌∙◌}
-use Rattle.std.proofs.Math.Bool.{and-false}
-use Rattle.std.specs.Prelude.{bytes_eq, if◌then◌else◌, ◌&&◌, not, is_some}
-use Rattle.serde_json.specs.Data.{Data, boolean, object, Members, no_members, member}
-use Rattle.serde_json.specs.Find.{as_bool}
-use Rattle.schemars_schema.specs.Json.{Text}
-use Rattle.schemars_schema.specs.SchemaData.{members_in}
-use Rattle.schemars_schema.specs.References.{NoSchemas, place_under}
-use Rattle.schemars_schema.specs.Verdict.{Yes, opposite}
-use Rattle.schemars_schema.specs.Acceptance.{Dialect, Context, Readings, Raw, Judge, Part, key as member_key, position, judged_by_items, judge, read_data, reading_at, keywords, all_keywords, reference_alone, truth_value}
-use Rattle.schemars_transform.specs.Built.{bool_rules}
+use Rattle.schemars_laws.proofs.Words.{and-false, bytes_eq, if◌then◌else◌, ◌&&◌, not, is_some, Data, boolean, object, Members, no_members, member, as_bool, Text, members_in, NoSchemas, place_under, Yes, opposite, Dialect, Context, Readings, Raw, Judge, Part, position, judged_by_items, judge, reading_at, keywords, reference_alone, truth_value, bool_rules, in_keywords, both-yes, items_none, const_none, unevaluated_none}
+use Rattle.schemars_schema.specs.Acceptance.{key as member_key, read_data, all_keywords}
 use Rattle.schemars_transform.specs.declared.built_in.bool_schemas.ReplaceBoolSchemas.{ReplaceBoolSchemas}
-use Rattle.schemars_walk.specs.Rewritten.{in_keywords}
 use Rattle.schemars_laws.proofs.Seen.{judge_ext}
 use Rattle.schemars_laws.proofs.Kept.{IsTruth}
 use Rattle.schemars_laws.proofs.Moved.{Moves}
 use Rattle.schemars_laws.proofs.Examples.{same-dialect}
-use Rattle.schemars_schema.proofs.Verdicts.{both-yes}
-use Rattle.schemars_schema.proofs.Silent.{items_none, const_none, unevaluated_none}
 
 -- an object with a schema under `not` alone
 abbrev not_read : Judge → Readings

@@ -1,23 +1,8 @@
 -- All transforms of OpenAPI, over documents that hold definitions at /components/schemas and nothing else.
 use Rattle.std.proofs.Common.{◌≡◌, ℕ, suc, Option, Some, None, true, codes, option_map, refl, sym, ap, ◌∙◌, subst}
-use Rattle.serde_json.specs.Data.{Data, null, boolean, number, string, array, object, no_items, item, Members, no_members, member}
-use Rattle.serde_json.specs.Find.{get_member, pointer}
-use Rattle.serde_json.specs.Events.{members_len}
-use Rattle.schemars_schema.specs.Json.{Text}
-use Rattle.schemars_schema.specs.SchemaData.{IsSchema}
-use Rattle.schemars_schema.specs.Acceptance.{Dialect, Patterns, draft2020_12, openapi3, accepts}
-use Rattle.schemars_schema.proofs.Placings.{plain-components, pointer-components}
-use Rattle.schemars_text.proofs.Members.{differ}
-use Rattle.schemars_walk.specs.Rewritten.{Rules, forms, in_names, in_keywords, rewritten}
-use Rattle.schemars_transform.specs.Built.{bool_rules, without_siblings, with_single_example, const_as_enum, prefix_as_items}
+use Rattle.schemars_laws.proofs.Words.{Data, null, boolean, number, string, array, object, no_items, item, Members, no_members, member, get_member, pointer, members_len, Text, IsSchema, Dialect, Patterns, draft2020_12, openapi3, accepts, plain-components, pointer-components, differ, Rules, in_keywords, rewritten, bool_rules, without_siblings, with_single_example, const_as_enum, prefix_as_items, unevaluated_as_additional, Everywhere, HasPlainItems, HasPlainReference, HasPlainType, HasNoUnevaluated, IsTypes, IsConstAlone, without_unevaluated, with_nullable_read, alone_by, without_const, HasPlainUnevaluated, NamedBy, IsDefinitionAt, EachEverywhere, each_changed, components, components_of, AreSomeTypes, Stands, IsForOpenApi, AfterNullable, AfterSiblings, Anything, MovesToOpenApi, for_openapi3}
+use Rattle.schemars_walk.specs.Rewritten.{forms, in_names}
 use Rattle.schemars_transform.specs.declared.built_in.bool_schemas.ReplaceBoolSchemas.{ReplaceBoolSchemas}
-use Rattle.schemars_transform.specs.Unevaluated.{unevaluated_as_additional}
-use Rattle.schemars_laws.specs.Everywhere.{Everywhere}
-use Rattle.schemars_laws.specs.Classes.{HasPlainItems, HasPlainReference, HasPlainType, HasNoUnevaluated, IsTypes, IsConstAlone, without_unevaluated, with_nullable_read, alone_by, without_const}
-use Rattle.schemars_laws.specs.Names.{HasPlainUnevaluated, NamedBy}
-use Rattle.schemars_laws.specs.Paths.{IsDefinitionAt, EachEverywhere, each_changed, components, components_of}
-use Rattle.schemars_laws.specs.Stages.{AreSomeTypes, Stands, IsForOpenApi, AfterNullable, AfterSiblings, Anything}
-use Rattle.schemars_laws.specs.Laws.{MovesToOpenApi, for_openapi3}
 use Rattle.schemars_laws.proofs.Moved.{Rewrites, schema-moved}
 use Rattle.schemars_laws.proofs.Looked.{change_rules, items-walked}
 use Rattle.schemars_laws.proofs.Preserved.{Preserves, after, weaker}

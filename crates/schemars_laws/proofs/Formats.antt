@@ -1,16 +1,7 @@
 -- A format less changes nothing of what is accepted.
 use Rattle.std.proofs.Common.{◌≡◌, ◌≢◌, inl, Bool, true, false, codes, refl, ◌∙◌, String, Global}
-use Rattle.std.specs.Prelude.{if◌then◌else◌, option_and_then}
-use Rattle.std.specs.BTreeSet.{BTreeSet}
-use Rattle.serde_json.specs.Data.{Data, boolean, object, Members}
-use Rattle.serde_json.specs.Find.{get_member, as_str}
-use Rattle.schemars_schema.specs.Json.{Text}
-use Rattle.schemars_schema.specs.SchemaData.{IsSchema}
-use Rattle.schemars_schema.specs.Edits.{without, removed}
-use Rattle.schemars_schema.specs.Acceptance.{Dialect, Context, judge, truth_value, read_data}
-use Rattle.schemars_schema.proofs.Objects.{judge-agree, apart}
-use Rattle.schemars_walk.specs.Rewritten.{in_keywords}
-use Rattle.schemars_transform.specs.Formats.{format_rules, format_stays}
+use Rattle.schemars_laws.proofs.Words.{if◌then◌else◌, option_and_then, BTreeSet, Data, boolean, object, Members, get_member, as_str, Text, IsSchema, without, removed, Dialect, Context, judge, truth_value, judge-agree, apart, in_keywords, format_rules, format_stays}
+use Rattle.schemars_schema.specs.Acceptance.{read_data}
 use Rattle.schemars_laws.proofs.Moved.{Moves}
 use Rattle.schemars_laws.proofs.Looked.{without-other}
 use Rattle.schemars_laws.proofs.Examples.{same-dialect}

@@ -26,3 +26,4 @@ pub mod Alone
 pub mod Steps
 pub mod Seven
 pub mod Chain
+mod Words

@@ -1,18 +1,7 @@
 -- Look-ups in members of which one is taken out, and rewrites that change every schema alike.
 use Rattle.std.proofs.Common.{◌≡◌, ◌≢◌, inl, List, Option, Some, None, Bool, option_map, refl, sym, ap, ◌∙◌, subst}
-use Rattle.serde_json.specs.Data.{Data, null, boolean, number, string, array, object, Members}
-use Rattle.serde_json.specs.Find.{get_member}
-use Rattle.schemars_schema.specs.Json.{Text}
-use Rattle.schemars_schema.specs.SchemaData.{IsSchema}
-use Rattle.schemars_schema.specs.Edits.{without}
-use Rattle.schemars_schema.specs.References.{NoSchemas, SchemaList, SchemaOrList, SchemasByName, place_under}
-use Rattle.schemars_schema.specs.Acceptance.{Dialect, Context, judge, keywords, truth_value, read_members, reading_at}
-use Rattle.schemars_text.proofs.Members.{unequal}
-use Rattle.schemars_schema.proofs.Members.{get_member-without}
-use Rattle.schemars_walk.specs.Rewritten.{Rules, everywhere, rewritten, forms, in_keywords, read_at}
-use Rattle.schemars_walk.proofs.KeywordLaws.{keywords_get}
-use Rattle.schemars_laws.specs.Names.{IsMap}
-use Rattle.schemars_laws.specs.Classes.{IsOnce, HasNone, IsSchemaList, IsNoList, HasPlainItems}
+use Rattle.schemars_laws.proofs.Words.{Data, null, boolean, number, string, array, object, Members, get_member, Text, IsSchema, without, NoSchemas, SchemaList, SchemaOrList, SchemasByName, place_under, Dialect, Context, judge, keywords, truth_value, read_members, reading_at, unequal, get_member-without, Rules, everywhere, rewritten, in_keywords, read_at, keywords_get, IsMap, IsOnce, HasNone, IsSchemaList, IsNoList, HasPlainItems}
+use Rattle.schemars_walk.specs.Rewritten.{forms}
 use Rattle.schemars_laws.proofs.Moved.{Moves}
 use Rattle.schemars_laws.proofs.Walking.{raw-walked as raw-walked_by, none-walked as none-walked_by, nones-walked as nones-walked_by, once-walked as once-walked_by, list-walked as list-walked_by, no_list-walked as no_list-walked_by, items-walked as items-walked_by}
 

@@ -1,19 +1,10 @@
 -- A rewrite of every schema moves what schemas accept from one document to another, wherever definitions stand: it is enough
 -- that each reference of which N holds leads in both to schemas, of which the new one says what the old one, rewritten, says.
 use Rattle.std.proofs.Common.{◌≡◌, ◌⊎◌, ℕ, zero, suc, Option, Some, None, Bool, codes, refl, ap, ◌∙◌}
-use Rattle.std.specs.Prelude.{option_and_then}
-use Rattle.serde_json.specs.Data.{Data, null, boolean, number, string, array, object, Members}
-use Rattle.serde_json.specs.Find.{get_member, as_str}
-use Rattle.schemars_schema.specs.Json.{Text}
-use Rattle.schemars_schema.specs.SchemaData.{IsSchema}
-use Rattle.schemars_schema.specs.References.{NoSchemas, place_under}
-use Rattle.schemars_schema.specs.Lookup.{resolved}
-use Rattle.schemars_schema.specs.Acceptance.{Dialect, Patterns, Context, Judge, judge, keywords, truth_value, read_data, read_members, reading_at, follow, context, accepts, unanswered, nothing}
-use Rattle.schemars_walk.specs.Rewritten.{Rules, forms, in_keywords}
-use Rattle.schemars_laws.specs.Everywhere.{Everywhere}
+use Rattle.schemars_laws.proofs.Words.{option_and_then, Data, null, boolean, number, string, array, object, Members, get_member, as_str, Text, IsSchema, NoSchemas, place_under, resolved, Dialect, Patterns, Context, Judge, judge, keywords, truth_value, read_data, read_members, reading_at, context, accepts, unanswered, nothing, Rules, forms, in_keywords, Everywhere, IsNamedBy, NamedBy}
+use Rattle.schemars_schema.specs.Acceptance.{follow}
 use Rattle.schemars_laws.proofs.Seen.{AgreeOn}
 use Rattle.schemars_laws.proofs.Kept.{Keeps, IsTruth, one}
-use Rattle.schemars_laws.specs.Names.{IsNamedBy, NamedBy}
 
 -- what is asked of a rewrite, whatever the document
 pub record Rewrites {R : Type 0} (ρ : Rules R) (old new : Dialect) (Q : Members → Type 0) : Type 0 where

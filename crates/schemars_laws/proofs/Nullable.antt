@@ -1,20 +1,7 @@
 -- `nullable` in place of null among types, for readers that know it.
 use Rattle.std.proofs.Common.{List, ◌≡◌, ◌≢◌, ◌⊎◌, inl, inr, Option, Some, None, Bool, true, false, codes, refl, sym, ap, ◌∙◌, subst, true≢false}
-use Rattle.std.specs.Prelude.{option_map, bytes_eq, if◌then◌else◌, ◌&&◌, ◌||◌}
-use Rattle.serde_json.specs.Data.{Data, null, boolean, number, string, array, object, Items, no_items, item, Members, put}
-use Rattle.serde_json.specs.Find.{get_member}
-use Rattle.serde_json.proofs.Views.{get_member-put, get_member-put_other}
-use Rattle.schemars_schema.specs.Json.{Text}
-use Rattle.schemars_text.specs.OrderedText.{is_listed}
-use Rattle.schemars_schema.specs.SchemaData.{IsSchema}
-use Rattle.schemars_schema.specs.Edits.{without, replaced, holds_text}
-use Rattle.schemars_schema.specs.Verdict.{Verdict, Yes, No, Open, both, verdict}
-use Rattle.schemars_schema.specs.Acceptance.{Dialect, Context, judge, keywords, truth_value, read_data, read_members, reading_at, is_null, type_says, type_fits, types_in, is_of_some_type, where_some, items_say, enum_says}
-use Rattle.schemars_text.proofs.Members.{differ}
-use Rattle.schemars_schema.proofs.Members.{get_member-replaced}
-use Rattle.schemars_builders.proofs.NullKeywords.{null-json_eq}
-use Rattle.schemars_transform.specs.Nullable.{all_null, nulls_in, type_without_null, null_taken_out, nullable_by, with_nullable}
-use Rattle.schemars_laws.specs.Classes.{IsTypes, is_null_alone, HasPlainType, plain_nullable, with_nullable_read, without_nullable_read}
+use Rattle.schemars_laws.proofs.Words.{option_map, bytes_eq, if◌then◌else◌, ◌&&◌, ◌||◌, Data, null, boolean, number, string, array, object, Items, no_items, item, Members, put, get_member, get_member-put, get_member-put_other, Text, is_listed, IsSchema, without, replaced, holds_text, Verdict, Yes, No, Open, both, verdict, Dialect, Context, judge, keywords, truth_value, read_members, reading_at, is_null, type_says, type_fits, types_in, is_of_some_type, where_some, items_say, enum_says, differ, get_member-replaced, null-json_eq, all_null, nulls_in, type_without_null, null_taken_out, nullable_by, with_nullable, IsTypes, is_null_alone, HasPlainType, plain_nullable, with_nullable_read, without_nullable_read}
+use Rattle.schemars_schema.specs.Acceptance.{read_data}
 use Rattle.schemars_laws.proofs.Looked.{without-other, walked, raw-walked, Change}
 use Rattle.schemars_laws.proofs.Apart.{four_of, four_by, look_up, says-moved, placed-agree, outside}
 use Rattle.schemars_laws.proofs.Siblings.{replaced-other}

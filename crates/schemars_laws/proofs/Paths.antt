@@ -1,22 +1,9 @@
 -- Where references lead in documents whose definitions stand at a path, and laws for those under components.
 use Rattle.std.proofs.Common.{◌≡◌, inl, inr, Option, Some, None, Bool, true, false, Ordering, Less, Equal, Greater, nat_cmp, codes, option_map, refl, sym, ap, ◌∙◌, subst}
-use Rattle.std.specs.Prelude.{option_and_then, if◌then◌else◌}
-use Rattle.std.specs.Cmp.Lexicographic.{slice_cmp}
-use Rattle.std.specs.Ordering.{match_ordering}
-use Rattle.serde_json.specs.Data.{Data, boolean, object, Members, no_members, member, put}
-use Rattle.serde_json.specs.Find.{get_member, pointer}
-use Rattle.serde_json.proofs.Views.{get_member-put}
-use Rattle.schemars_schema.specs.Json.{Text}
-use Rattle.schemars_schema.specs.Encoding.{lookup}
-use Rattle.schemars_schema.specs.SchemaData.{IsSchema, is_schema, members_in}
-use Rattle.schemars_schema.specs.Lookup.{resolved, schema_only}
-use Rattle.schemars_schema.specs.Acceptance.{Dialect, judge}
-use Rattle.schemars_schema.proofs.Objects.{judge-put}
-use Rattle.schemars_schema.proofs.Placings.{IsPlain, plain-components, pointer-components, lookup-definition, resolved-whole}
-use Rattle.schemars_walk.specs.Rewritten.{Rules, forms, in_names, in_keywords, rewritten}
-use Rattle.schemars_laws.specs.Everywhere.{Everywhere, asked_of_members}
-use Rattle.schemars_laws.specs.Names.{NamedBy}
-use Rattle.schemars_laws.specs.Paths.{IsDefinitionAt, IsNameAt, EachEverywhere, each_changed, components, MovesComponents}
+use Rattle.schemars_laws.proofs.Words.{option_and_then, if◌then◌else◌, slice_cmp, match_ordering, Data, boolean, object, Members, no_members, member, put, get_member, pointer, get_member-put, Text, lookup, IsSchema, is_schema, members_in, schema_only, Dialect, judge, judge-put, IsPlain, plain-components, pointer-components, lookup-definition, resolved-whole, Rules, in_keywords, rewritten, Everywhere, NamedBy, IsDefinitionAt, IsNameAt, EachEverywhere, each_changed, components, MovesComponents}
+use Rattle.schemars_schema.specs.Lookup.{resolved}
+use Rattle.schemars_walk.specs.Rewritten.{forms, in_names}
+use Rattle.schemars_laws.specs.Everywhere.{asked_of_members}
 use Rattle.schemars_laws.proofs.Moved.{Rewrites, SaysAs, IsLed, Leads, schema-moved}
 
 -- ---- schemas by name

@@ -1,20 +1,6 @@
 -- The kinds of schema objects that laws speak of are kept by a walk, and by changes of other keywords.
 use Rattle.std.proofs.Common.{◌≡◌, ◌≢◌, List, [], ◌∷◌, None, Some, Bool, true, false, codes, refl, sym, ap, ◌∙◌, subst, true≢false}
-use Rattle.std.proofs.lemmas.Slice.Eq.{bytes_eq-Decides}
-use Rattle.std.proofs.Math.Bool.{or-true}
-use Rattle.std.specs.Prelude.{bytes_eq, ◌||◌, if◌then◌else◌, option_and_then}
-use Rattle.serde_json.specs.Data.{Data, Members, no_members, member}
-use Rattle.serde_json.specs.Find.{get_member, as_str}
-use Rattle.schemars_schema.specs.Json.{Text}
-use Rattle.schemars_text.specs.OrderedText.{is_listed}
-use Rattle.schemars_schema.specs.SchemaData.{IsSchema}
-use Rattle.schemars_schema.specs.Edits.{without}
-use Rattle.schemars_schema.specs.References.{NoSchemas, place_under}
-use Rattle.schemars_schema.specs.Acceptance.{Dialect, reads_dependencies}
-use Rattle.schemars_text.proofs.Members.{differ, get_member-member, unequal}
-use Rattle.schemars_walk.specs.Rewritten.{Rules, in_keywords}
-use Rattle.schemars_laws.specs.Names.{IsNamedBy, HasNameOf, IsNoObject, HasNoObjects, HasPlainUnevaluated}
-use Rattle.schemars_laws.specs.Classes.{HasNone, of_draft06, of_draft2019_09, IsConstAlone, IsText, IsSchemaList, IsNoList, HasPlainItems, HasPlainReference, HasNoUnevaluated}
+use Rattle.schemars_laws.proofs.Words.{bytes_eq-Decides, or-true, bytes_eq, ◌||◌, if◌then◌else◌, option_and_then, Data, Members, no_members, member, get_member, as_str, Text, is_listed, IsSchema, without, NoSchemas, place_under, Dialect, reads_dependencies, differ, get_member-member, unequal, Rules, in_keywords, IsNamedBy, HasNameOf, IsNoObject, HasNoObjects, HasPlainUnevaluated, HasNone, of_draft06, of_draft2019_09, IsConstAlone, IsText, IsSchemaList, IsNoList, HasPlainItems, HasPlainReference, HasNoUnevaluated}
 use Rattle.schemars_laws.proofs.Walking.{without-walked, raw-walked as raw-walked_by}
 use Rattle.schemars_laws.proofs.Looked.{without-other, walked, raw-walked, once-walked, list-walked}
 

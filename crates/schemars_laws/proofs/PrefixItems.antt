@@ -1,21 +1,7 @@
 -- A list under `items` in place of `prefixItems`, for readers that judge by position under `items`.
 use Rattle.std.proofs.Common.{◌≡◌, ◌≢◌, ℕ, inl, List, [], ◌∷◌, Option, Some, None, Bool, true, false, codes, option_map, refl, sym, ap, ◌∙◌, subst}
-use Rattle.std.proofs.Math.Bool.{or-false}
-use Rattle.std.specs.Prelude.{bytes_eq, nat_lt, length, ◌||◌}
-use Rattle.serde_json.specs.Data.{Data, null, boolean, number, string, array, object, Items, no_items, item, Members, put}
-use Rattle.serde_json.specs.Find.{get_member, as_array}
-use Rattle.serde_json.proofs.Views.{get_member-put, get_member-put_other}
-use Rattle.schemars_schema.specs.Json.{Text}
-use Rattle.schemars_schema.specs.SchemaData.{IsSchema}
-use Rattle.schemars_schema.specs.Edits.{without}
-use Rattle.schemars_schema.specs.Verdict.{Verdict}
-use Rattle.schemars_schema.specs.Acceptance.{Dialect, Context, Judge, judge, keywords, truth_value, read_data, read_items, read_members, reading_at, items_say, judged_by_items, has_schema}
-use Rattle.schemars_schema.proofs.Objects.{schema-judge}
-use Rattle.schemars_transform.specs.Built.{prefix_as_items, prefix_moved, old_items_moved}
-use Rattle.schemars_laws.specs.Classes.{IsOnce, AreSchemas, IsSchemaList, IsNoList, HasPlainItems, by_items, by_prefix_items}
-use Rattle.schemars_schema.proofs.Verdicts.{both-yes}
-use Rattle.schemars_schema.proofs.Silent.{silent}
-use Rattle.schemars_text.proofs.Members.{differ}
+use Rattle.schemars_laws.proofs.Words.{or-false, bytes_eq, nat_lt, length, ◌||◌, Data, null, boolean, number, string, array, object, Items, no_items, item, Members, put, get_member, as_array, get_member-put, get_member-put_other, Text, IsSchema, without, Verdict, Dialect, Context, Judge, judge, keywords, truth_value, read_items, read_members, reading_at, items_say, judged_by_items, has_schema, schema-judge, prefix_as_items, prefix_moved, old_items_moved, IsOnce, AreSchemas, IsSchemaList, IsNoList, HasPlainItems, by_items, by_prefix_items, both-yes, silent, differ}
+use Rattle.schemars_schema.specs.Acceptance.{read_data}
 use Rattle.schemars_laws.proofs.Looked.{without-other, walked, none-walked, once-walked, list-walked, no_list-walked, Change}
 use Rattle.schemars_laws.proofs.Apart.{four_of, four_by, placed_of, placed_in, look_up, says-moved, outside}
 

@@ -1,21 +1,7 @@
 -- What each of the seven transforms of OpenAPI keeps of the classes.
 use Rattle.std.proofs.Common.{◌≡◌, ◌⊎◌, inl, inr, Option, Some, None, Bool, true, false, codes, refl, sym, ap, ◌∙◌, subst, true≢false}
-use Rattle.std.specs.Prelude.{bytes_eq, if◌then◌else◌, ◌==◌}
-use Rattle.serde_json.specs.Data.{Data, null, boolean, number, string, array, object, no_items, item, Members, no_members, member, put}
-use Rattle.serde_json.specs.Find.{get_member}
-use Rattle.serde_json.specs.Events.{members_len}
-use Rattle.schemars_schema.specs.Json.{Text}
-use Rattle.schemars_schema.specs.SchemaData.{IsSchema, members_in}
-use Rattle.schemars_schema.specs.Edits.{without, replaced, holds_text}
-use Rattle.schemars_schema.specs.References.{SchemaOrList}
-use Rattle.schemars_schema.specs.Acceptance.{draft2020_12}
-use Rattle.schemars_text.proofs.Members.{differ}
-use Rattle.schemars_walk.specs.Rewritten.{in_keywords}
-use Rattle.schemars_transform.specs.Built.{bool_rules, reference_moved, without_siblings, first_as_example, with_single_example, value_as_enum, const_as_enum, prefix_as_items, prefix_moved, old_items_moved}
-use Rattle.schemars_transform.specs.Nullable.{all_null, nulls_in, nullable_by, null_taken_out, type_without_null}
-use Rattle.schemars_transform.specs.Unevaluated.{unevaluated_as_additional, closed_by}
-use Rattle.schemars_laws.specs.Everywhere.{asked, demanded, asked_of_keywords}
-use Rattle.schemars_laws.specs.Classes.{IsSchemaList, is_null_alone, HasNone, of_draft06, of_draft2019_09, IsConstAlone, HasPlainItems, plain_nullable}
+use Rattle.schemars_laws.proofs.Words.{bytes_eq, if◌then◌else◌, ◌==◌, Data, null, boolean, number, string, array, object, no_items, item, Members, no_members, member, put, get_member, members_len, Text, IsSchema, members_in, without, replaced, holds_text, SchemaOrList, draft2020_12, differ, in_keywords, bool_rules, reference_moved, without_siblings, first_as_example, with_single_example, value_as_enum, const_as_enum, prefix_as_items, prefix_moved, old_items_moved, all_null, nulls_in, nullable_by, null_taken_out, type_without_null, unevaluated_as_additional, closed_by, demanded, asked_of_keywords, IsSchemaList, is_null_alone, HasNone, of_draft06, of_draft2019_09, IsConstAlone, HasPlainItems, plain_nullable, IsTextWith, Stands, IsForOpenApi, AfterNullable, AfterSiblings, Anything}
+use Rattle.schemars_laws.specs.Everywhere.{asked}
 use Rattle.schemars_laws.proofs.Looked.{change_rules}
 use Rattle.schemars_laws.proofs.Siblings.{schema-siblings, moved_members}
 use Rattle.schemars_laws.proofs.Nullable.{nullable_change, nullable}
@@ -23,7 +9,6 @@ use Rattle.schemars_laws.proofs.Unevaluated.{schema-unevaluated}
 use Rattle.schemars_laws.proofs.BoolSchemas.{bool_schemas}
 use Rattle.schemars_laws.proofs.Plain.{Alike, all-none, items-alike, alike-without, unlisted, none-alike}
 use Rattle.schemars_laws.proofs.Preserved.{Preserves, asked-without, asked-put, asked-replaced, asked-get}
-use Rattle.schemars_laws.specs.Stages.{IsTextWith, Stands, IsForOpenApi, AfterNullable, AfterSiblings, Anything}
 use Rattle.schemars_laws.proofs.Editing.{alike-put, alike-replaced, alike-moved, alike-then, alike-same, asked-moved, once-moved, gone-moved, once-put, absent-once, type-alike, values-alike, const-alike, stands-alike}
 use Rattle.schemars_laws.proofs.Steps.{goes-down-here, by_change, place-bool, first-walked, nullable-walked, siblings-walked, stands-walked}
 

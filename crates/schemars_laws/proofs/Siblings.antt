@@ -1,31 +1,11 @@
 -- A reference at the end of `allOf` in place of one beside other keywords, for readers that pass over those.
 use Rattle.std.proofs.Common.{◌≡◌, ◌≢◌, ℕ, suc, arith, List, [], ◌∷◌, Option, Some, None, Bool, true, false, codes, option_map, map, refl, sym, ap, ◌∙◌, subst, true≢false}
-use Rattle.std.proofs.Math.Path.{fun_ext}
-use Rattle.std.proofs.lemmas.Slice.Eq.{bytes_eq-Decides}
-use Rattle.std.proofs.lemmas.Bool.Decides.{nat_tests}
-use Rattle.std.proofs.Math.Bool.{and-false, or-false, or_assoc}
-use Rattle.std.specs.Prelude.{bytes_eq, if◌then◌else◌, ◌||◌, ◌&&◌, ◌++◌, ◌==◌}
-use Rattle.serde_json.specs.Data.{Data, null, boolean, number, string, array, object, Items, no_items, item, Members, no_members, member, put}
-use Rattle.serde_json.specs.Find.{get_member}
-use Rattle.serde_json.specs.Events.{members_len}
-use Rattle.serde_json.proofs.Views.{get_member-put, get_member-put_other}
-use Rattle.schemars_schema.specs.Json.{Text}
-use Rattle.schemars_text.specs.OrderedText.{is_listed}
-use Rattle.schemars_schema.specs.SchemaData.{IsSchema}
-use Rattle.schemars_schema.specs.Edits.{without, replaced, with_item, with_last, changed_at}
-use Rattle.schemars_schema.specs.Verdict.{Verdict, Yes, No, Open, both, all_of, is_yes}
-use Rattle.schemars_schema.specs.Acceptance.{Dialect, Context, Raw, Readings, Judge, judge, keywords, all_keywords, reference_alone, is_reference, truth_value, read_data, read_items, read_members, reading_at, judged_by_reference, judged_by, judged_by_list, judged_by_some, judged_beside, judged_itself, judges_rest, Part, key as member_key, position, both_some, reference_says, each_says, judged_by_condition, judged_by_dependents}
-use Rattle.schemars_schema.proofs.Objects.{schema-judge, reading_at-members, judge-agree}
-use Rattle.schemars_transform.specs.Built.{referring, reference_moved, without_siblings}
+use Rattle.schemars_laws.proofs.Words.{fun_ext, bytes_eq-Decides, nat_tests, and-false, or-false, or_assoc, bytes_eq, if◌then◌else◌, ◌||◌, ◌&&◌, ◌++◌, ◌==◌, Data, null, boolean, number, string, array, object, Items, no_items, item, Members, no_members, member, put, get_member, members_len, get_member-put, get_member-put_other, Text, is_listed, IsSchema, without, replaced, with_item, with_last, changed_at, Verdict, Yes, No, Open, both, all_of, is_yes, Dialect, Context, Raw, Readings, Judge, judge, keywords, reference_alone, is_reference, truth_value, read_items, read_members, reading_at, judged_by_reference, judged_by, judged_by_list, judged_by_some, judged_beside, judged_itself, judges_rest, Part, position, both_some, reference_says, each_says, judged_by_condition, judged_by_dependents, schema-judge, reading_at-members, judge-agree, referring, reference_moved, without_siblings, IsOnce, IsText, IsSchemaList, HasPlainReference, alone_by, beside_by, both-yes, both-assoc, items_none, const_none, unevaluated_none, differ, get_member-member, unequal, get_member-replaced, get_member-replaced_other}
+use Rattle.schemars_schema.specs.Acceptance.{all_keywords, read_data, key as member_key}
 use Rattle.schemars_laws.proofs.Keywords.{before_say, last_say, fits-all, left_out, AgreeOutside, left_out-agree}
 use Rattle.schemars_laws.proofs.Seen.{judge_ext}
-use Rattle.schemars_laws.specs.Classes.{IsOnce, IsText, IsSchemaList, HasPlainReference, alone_by, beside_by}
 use Rattle.schemars_laws.proofs.Looked.{without-other, walked, raw-walked, once-walked, list-walked, Change}
 use Rattle.schemars_laws.proofs.Apart.{pulled, look_up}
-use Rattle.schemars_schema.proofs.Verdicts.{both-yes, both-assoc}
-use Rattle.schemars_schema.proofs.Silent.{items_none, const_none, unevaluated_none}
-use Rattle.schemars_text.proofs.Members.{differ, get_member-member, unequal}
-use Rattle.schemars_schema.proofs.Members.{get_member-replaced, get_member-replaced_other}
 use Rattle.schemars_laws.proofs.PrefixItems.{some-list}
 use Rattle.schemars_laws.proofs.BoolSchemas.{places_none}
 

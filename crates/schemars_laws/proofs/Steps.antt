@@ -1,21 +1,10 @@
 -- A walk keeps what is asked of schema objects before each transform of OpenAPI.
 use Rattle.std.proofs.Common.{◌≡◌, Option, Some, None, Bool, true, false, codes, refl, ap, ◌∙◌}
-use Rattle.std.specs.Prelude.{bytes_eq, if◌then◌else◌, ◌&&◌, is_some, option_and_then}
-use Rattle.serde_json.specs.Data.{Data, null, boolean, number, string, array, object, Members}
-use Rattle.serde_json.specs.Find.{as_bool, as_str}
-use Rattle.schemars_schema.specs.Json.{Text}
-use Rattle.schemars_schema.specs.SchemaData.{IsSchema}
-use Rattle.schemars_schema.specs.References.{NoSchemas, place_under}
-use Rattle.schemars_walk.specs.Rewritten.{Rules, in_keywords}
-use Rattle.schemars_transform.specs.Built.{bool_rules}
+use Rattle.schemars_laws.proofs.Words.{bytes_eq, if◌then◌else◌, ◌&&◌, is_some, option_and_then, Data, null, boolean, number, string, array, object, Members, as_bool, as_str, Text, IsSchema, NoSchemas, place_under, Rules, in_keywords, bool_rules, asked, asked_of_keywords, IsNamedBy, IsText, HasNone, of_draft06, of_draft2019_09, IsTextWith, Stands, IsForOpenApi, AfterNullable, AfterSiblings}
 use Rattle.schemars_transform.specs.declared.built_in.bool_schemas.ReplaceBoolSchemas.{ReplaceBoolSchemas}
-use Rattle.schemars_laws.specs.Everywhere.{asked, asked_of_keywords}
 use Rattle.schemars_laws.proofs.Walking.{nones-walked, list-walked, items-walked}
 use Rattle.schemars_laws.proofs.Looked.{change_rules, walked}
 use Rattle.schemars_laws.proofs.Plain.{Alike, alike-walked}
-use Rattle.schemars_laws.specs.Names.{IsNamedBy}
-use Rattle.schemars_laws.specs.Classes.{IsText, HasNone, of_draft06, of_draft2019_09}
-use Rattle.schemars_laws.specs.Stages.{IsTextWith, Stands, IsForOpenApi, AfterNullable, AfterSiblings}
 use Rattle.schemars_laws.proofs.Preserved.{Preserves, change-preserves}
 use Rattle.schemars_laws.proofs.Editing.{type-alike, values-alike, const-alike, stands-alike}
 

@@ -1,18 +1,6 @@
 -- The names of types with null among them, and without.
 use Rattle.std.proofs.Common.{◌≡◌, List, [], ◌∷◌, Option, Some, None, Bool, true, false, codes, refl, sym, ap, ◌∙◌}
-use Rattle.std.specs.Prelude.{bytes_eq, if◌then◌else◌, ◌||◌, ◌&&◌}
-use Rattle.std.proofs.lemmas.Slice.Eq.{bytes_eq-Decides}
-use Rattle.std.proofs.lemmas.Bool.{and_parts}
-use Rattle.std.proofs.Math.Bool.{or-false, and-true}
-use Rattle.serde_json.specs.Data.{Data, null, boolean, number, string, array, object, Items, no_items, item}
-use Rattle.schemars_schema.specs.Json.{Text}
-use Rattle.schemars_text.specs.OrderedText.{is_listed}
-use Rattle.schemars_schema.specs.Verdict.{Verdict, verdict}
-use Rattle.schemars_schema.specs.Acceptance.{type_names, is_of_type, is_of_some_type, texts_in, are_type_names, when, types_in, is_null, type_fits, type_says, where_some}
-use Rattle.schemars_text.proofs.Members.{bytes_eq_comm}
-use Rattle.schemars_schema.specs.Edits.{holds_text}
-use Rattle.schemars_transform.specs.Nullable.{all_null, without_null, one_or_list, type_without_null}
-use Rattle.schemars_laws.specs.Classes.{AreTexts}
+use Rattle.schemars_laws.proofs.Words.{bytes_eq, if◌then◌else◌, ◌||◌, ◌&&◌, bytes_eq-Decides, and_parts, or-false, and-true, Data, null, boolean, number, string, array, object, Items, no_items, item, Text, is_listed, Verdict, verdict, type_names, is_of_type, is_of_some_type, texts_in, are_type_names, when, types_in, is_null, type_fits, type_says, where_some, bytes_eq_comm, holds_text, all_null, without_null, one_or_list, type_without_null, AreTexts}
 
 -- ---- texts of a list
 

@@ -40,6 +40,8 @@ pub mod AdjacentSays
 pub mod StructReady
 pub mod Meanings
 pub mod FieldsDescribed
+pub mod ShapeInduction
+pub mod ByKeyword
 pub mod Schemas
 pub mod SettledTables
 pub mod PartsDescribed

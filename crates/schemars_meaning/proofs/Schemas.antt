@@ -8,6 +8,7 @@ use Rattle.schemars_documents.specs.Documents.{is_signed}
 use Rattle.schemars_documents.specs.Template.{with_keywords, tagged}
 use Rattle.schemars_documents.specs.OfShape.{literal_document}
 use Rattle.schemars_meaning.proofs.Notes.{annotated-schema}
+use Rattle.schemars_meaning.proofs.ByKeyword.{outer_holds}
 use Rattle.schemars_meaning.proofs.Parts.{first_all, described_holds, written_holds}
 use Rattle.schemars_meaning.proofs.ReferencesKept.{allow_null-schema}
 
@@ -39,63 +40,18 @@ made_schema (tagged tag name closed t) ts h is = tt
 
 -- ---- by shape
 
-flattened_makes : (contract : Contract) (ps : List Flattened) (t : Template) → MakesSchema t → MakesSchema (with_flattened contract ps t)
-flattened_makes contract [] t h = h
-flattened_makes contract (p ∷ ps) t h =
-    flattened_makes contract ps (with_keywords t (asked (members_of p.ty (is_required contract p.required)))) h
-
-values_make : (options : KeyOptions) (value : ℕ) → MakesSchema (values_template options value)
-values_make (keys others texts integers ps) value = tt
-
-internal_makes : (contract : Contract) (tag : Text) (closed : Bool) (xs : List Variant)
-    → MakesSchema (internal_template contract tag closed xs)
-internal_makes contract tag closed [] = tt
-internal_makes contract tag closed (x ∷ xs) = tt
-
-adjacent_makes : (contract : Contract) (tag key : Text) (closed : Bool) (xs : List Variant)
-    → MakesSchema (adjacent_template contract tag key closed xs)
-adjacent_makes contract tag key closed [] = tt
-adjacent_makes contract tag key closed (x ∷ xs) = tt
-
-choice_makes : (ks : List Text) (ts : List Template) → MakesSchema (choice_of ks ts)
-choice_makes [] [] = tt
-choice_makes [] (t ∷ ts) = tt
-choice_makes (k ∷ ks) [] = tt
-choice_makes (k ∷ ks) (t ∷ ts) = tt
-
-untagged_makes : (contract : Contract) (titles : Bool) (xs : List Variant) → MakesSchema (untagged_template contract titles xs)
-untagged_makes contract titles [] = tt
-untagged_makes contract titles (x ∷ xs) = tt
-
-non_zero_makes : (b : Bool) (d e : Data) → IsSchema d → IsSchema e → IsSchema (if b then d else e)
-non_zero_makes true d e h g = h
-non_zero_makes false d e h g = g
-
 literal_makes : (d : Data) → IsSchema (literal_document d)
 literal_makes (boolean b) = tt
 literal_makes _ = tt
 
 shape_makes : (basis : Basis) (kind : Shape) → MakesSchema (template_of basis kind)
-shape_makes basis (shape.non_zero kind) = non_zero_makes (is_signed kind) _ _ tt tt
-shape_makes basis (shape.array n zero) = tt
-shape_makes basis (shape.array n (suc len)) = tt
-shape_makes basis (shape.tuple []) = tt
-shape_makes basis (shape.tuple (n ∷ ns)) = tt
-shape_makes basis (shape.struct x) =
-    flattened_makes basis.contract x.flatten (fields_template basis.contract x.list x.closed) tt
-shape_makes basis (shape.map_from key value) = values_make (key_options basis.rows key) value
-shape_makes basis (shape.enum shape.by_name xs) = choice_makes (bare_units xs) (other_items basis.contract xs)
-shape_makes basis (shape.enum shape.by_nothing xs) = untagged_makes basis.contract basis.titles xs
-shape_makes basis (shape.enum (shape.by_tag tag closed) xs) = internal_makes basis.contract tag closed xs
-shape_makes basis (shape.enum (shape.by_tag_and_content tag key closed) xs) = adjacent_makes basis.contract tag key closed xs
-shape_makes basis (shape.literal d) = literal_makes d
-shape_makes basis _ = tt
+shape_makes basis kind =
+    outer_holds basis MakesSchema (λ kind. Unit {0}) (λ d is. is.0) (λ es h. tt) (λ a. tt) (λ t h. h) (λ t u h g. h)
+    (λ d h. literal_makes d) kind tt
 
 -- the filled template of an entry is a schema, where the answers are
 pub filled_schema : (basis : Basis) (e : Entry) (ts : List Data) → AreSchemas ts → IsSchema (filled (entry_template basis e) ts)
 filled_schema basis e ts h = made_schema (entry_template basis e) ts h (shape_makes basis e.shape)
-
--- ---- answers
 
 -- ---- documents of rows
 

@@ -39,6 +39,7 @@ impl<'t> Model for MemberList<'t> {
 }
 
 impl<'t> MemberList<'t> {
+    // No members.
     pub(crate) fn new(alloc: Global) -> MemberList<'t>
         ensures { result ≡ no_members }
     {

@@ -32,8 +32,9 @@ pub struct Rendered {
 /// the rows, if it is JSON of 64-bit whole numbers, and what it needs, if `asks_needs`.
 ///
 /// There is no text where the schema has to be made first: where an answer is missing, where the
-/// members of another schema are added, as in a struct with flattened rows, and in a few rare cases
-/// where null or a tag is added, as null to a schema that has an `anyOf`.
+/// members of another schema are added, as in a struct with flattened rows, where a schema has more
+/// than 32 notes of its own, and in a few rare cases where null or a tag is added, as null to a
+/// schema that has an `anyOf`.
 ///
 /// # Errors
 ///

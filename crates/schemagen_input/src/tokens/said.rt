@@ -77,7 +77,17 @@ fn read_items<T: Said>(
         let item = T::read(alloc, reader, depth)?;
         found = with_item(found, item)?;
     }
-    Ok(found)
+    Ok(fitted(found))
+}
+
+// The list, with no room to spare.
+fn fitted<T: Said>(found: Option<Vec<T>>) -> Option<Vec<T>>
+    ensures { option_map (λ xs. map T.value_of xs.items) result
+        ≡ option_map (λ xs. map T.value_of xs.items) found }
+{
+    let mut list = found?;
+    list.shrink_to_fit();
+    Some(list)
 }
 
 // What is found so far with one item more, if each says something.

@@ -2,7 +2,8 @@
 use Rattle.std.proofs.Common.{◌≡◌, ℕ, nat_eq, false, ap, refl, inl, Err}
 use Rattle.std.proofs.lemmas.Result.{IfErr-weaker, on_ok_weaker}
 use Rattle.schemagen_run.specs.declared.fault.Fault.TheVariants.{Refused}
-use Rattle.schemagen_run.specs.declared.fault.TheConstants.{DEFINITIONS_PATH, NOT_JSON, BAD_TABLE, READ, WRITE}
+use Rattle.schemars_generate.specs.declared.error.TheConstants.{DEFINITIONS_PATH}
+use Rattle.schemagen_run.specs.declared.fault.TheConstants.{NOT_JSON, BAD_TABLE, READ, WRITE}
 use Rattle.schemagen_run.proofs.Results.{passed_on, same_error, other_result, ok_is_no_error}
 use Rattle.schemagen_run.proofs.Runs.{read_is_no_write, read_is_no_path, read_is_of_no_table, gave, read_outside, read_is_accepted, read_is_noted, noted_is_accepted, gives_line}
 use Rattle.schemagen_run.proofs.Writing.{is_no_other, faulty_table, unplaced_table, line_fault, accepted_fault, noted_fault}

@@ -2,7 +2,7 @@
 use Rattle.std.proofs.Common.{refl, ap, inr, ◌∙◌, Err}
 use Rattle.schemars_generate.specs.Refusals.{code_of}
 use Rattle.schemagen_run.specs.declared.fault.Fault.TheVariants.{Refused}
-use Rattle.schemagen_run.specs.declared.fault.TheConstants.{OUT_OF_MEMORY}
+use Rattle.schemars_generate.specs.declared.error.TheConstants.{OUT_OF_MEMORY}
 use Rattle.schemagen_run.proofs.Results.{passed_on, err_passed}
 use Rattle.schemagen_run.proofs.Writing.{weaker, unwritten}
 use Rattle.schemagen_run.proofs.run.write_example.Goals as goal

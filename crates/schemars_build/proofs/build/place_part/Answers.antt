@@ -1,10 +1,6 @@
 use Rattle.std.proofs.Common.{◌≡◌, ◌≢◌, ◌≤◌, ℕ, Option, Bool, false, true, inl, Some, None, refl, ap, sym, ◌∙◌, subst, arith, string_bytes, not, is_some, eqb, true≢false, reverse}
-use Rattle.schemars_build.proofs.Words.{◌||◌, ◌&&◌, Data, get_member, reference, references, is_inline_at, part, is_in_place, pending_in, is_pending, Registry, Step, rolled_back, reference_to, IsPart, plan_of, AreReached, own, ComesFrom, IsRepliedBy, HasReplied, answer, document, IfOk-weaker, eqb-true, nat_tests, measure_of_own_document, measure_of_part, IsWithin}
-use Rattle.std.specs.Prelude.{codes}
-use Rattle.schemars_build.specs.Parts.{IsMade}
-use Rattle.schemars_build.specs.Making.{defined, asked}
+use Rattle.schemars_build.proofs.Words.{◌||◌, ◌&&◌, Data, get_member, reference, references, is_inline_at, part, is_in_place, pending_in, is_pending, Registry, Step, rolled_back, reference_to, IsPart, plan_of, AreReached, own, ComesFrom, IsRepliedBy, HasReplied, answer, document, IfOk-weaker, eqb-true, nat_tests, measure_of_own_document, measure_of_part, IsWithin, codes, IsMade, defined, asked, option_eq}
 use Rattle.schemars_build.specs.declared.build.Purpose.TheVariants as purpose
-use Rattle.std.specs.Option.{option_eq}
 use Rattle.schemars_build.proofs.Building.{part_answer}
 use Rattle.schemars_build.proofs.Reaching.{reached_root, nothing_added}
 use Rattle.schemars_build.proofs.Steps.{begun_with, rolled_back-begun, key-found, step_refl, step_meet, step_names}

@@ -1,7 +1,7 @@
 -- The words for numbers are known, so that each refusal is of the table, by its number.
 use Rattle.std.proofs.Common.{◌≡◌, Err, ap, sym, subst, ◌∙◌, inl, arith, map, string_bytes}
 use Rattle.schemagen_run.specs.declared.fault.Fault.{Fault}
-use Rattle.schemagen_run.specs.declared.fault.TheConstants.{DEFINITIONS_PATH}
+use Rattle.schemars_generate.specs.declared.error.TheConstants.{DEFINITIONS_PATH}
 use Rattle.schemagen_run.specs.Run.{IsFaultyTable}
 use Rattle.schemagen_run.specs.Fault.{IsTableFault}
 use Rattle.schemars_c.specs.declared.handing.TheConstants.{USAGE}

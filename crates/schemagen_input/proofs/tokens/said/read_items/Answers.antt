@@ -43,5 +43,5 @@ returns-clause-ok g c =
       ds,
       l.invariant.3 ∙ ap (parse_map (items_before ds)) (items_closed (value c.args.depth) l.invariant.0 l.reader rest l.invariant.2 (grind arith))
           ∙ ap (λ es. Some (es, rest)) (items_before-none ds),
-      l.invariant.4,
+      c.fitted.ensures ∙ l.invariant.4,
     )

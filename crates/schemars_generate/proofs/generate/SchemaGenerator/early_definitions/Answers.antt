@@ -1,15 +1,7 @@
 -- The text of what the transforms of OpenAPI make of each definition that a part leads to.
 use Rattle.std.proofs.Common.{◌≡◌, ◌∙◌, inl, true, None, refl, sym, ap, subst, string_bytes}
-use Rattle.schemars_build.specs.Parts.{IsAnswer}
-use Rattle.schemars_build.specs.Registry.{Plan}
-use Rattle.schemars_definitions.specs.Whole.{each_made}
-use Rattle.schemars_laws.specs.Laws.{for_openapi3}
-use Rattle.schemars_generate.specs.DefinitionsText.{IsDefinitionsText, IsDefinitionsRefusal}
-use Rattle.schemars_generate.specs.Generator.{held_transforms, transforms_of}
-use Rattle.schemars_generate.specs.Settings.{transforms_openapi3}
-use Rattle.schemars_generate.specs.Through.{AreThrough}
+use Rattle.schemars_generate.proofs.Words.{IsAnswer, Plan, each_made, for_openapi3, IsDefinitionsText, IsDefinitionsRefusal, held_transforms, transforms_of, transforms_openapi3, AreThrough, err_told, part, state, state_of, state_plan, ApplyInOrder, HasKeysOnce, IsAnswerFor, IsOneToOne, Members, Registry, Step}
 use Rattle.schemars_generate.specs.declared.error.GenerateError.{GenerateError}
-use Rattle.schemars_generate.proofs.Words.{err_told, part, state, state_of, state_plan, ApplyInOrder, HasKeysOnce, IsAnswerFor, IsOneToOne, Members, Registry, Step}
 use Rattle.schemars_generate.proofs.Answered.{answered_for, keeps_answer, subschema_for}
 use Rattle.schemars_generate.proofs.BuiltIns.{are_transformed}
 use Rattle.schemars_generate.proofs.EarlyDefinitions.{each_through}

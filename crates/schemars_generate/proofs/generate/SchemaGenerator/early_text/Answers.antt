@@ -1,17 +1,6 @@
 -- The text of the root document with its definitions put in, or of the document that is made once more.
 use Rattle.std.proofs.Common.{◌≡◌, ◌∷◌, inr, inl, true, Some, refl, sym, ap, ◌∙◌, subst, string_bytes}
-use Rattle.std.specs.Prelude.{IfOk, IfErr}
-use Rattle.schemars_definitions.specs.Joined.{HasNoDefinitions}
-use Rattle.schemars_definitions.specs.Whole.{with_defs_at}
-use Rattle.schemars_headline.specs.Headline.{IsTitledRoot}
-use Rattle.schemars_build.specs.Registry.{rolled_back}
-use Rattle.schemars_headline.proofs.Calls.{root_of}
-use Rattle.schemars_transform.specs.Apart.{are_local}
-use Rattle.schemars_transform.specs.BuiltIn.{made_by}
-use Rattle.schemars_generate.proofs.Words.{HasKeysOnce, Registry, Step, path_of, state_plan, err_told, state, state_of, Transforms, IsRootRefusal}
-use Rattle.schemars_generate.specs.Generator.{Generator, held_transforms, transforms_of}
-use Rattle.schemars_generate.specs.RootText.{IsRootText, IsTextOf, key_for}
-use Rattle.schemars_generate.specs.Settings.{transforms_for}
+use Rattle.schemars_generate.proofs.Words.{IfOk, IfErr, HasNoDefinitions, with_defs_at, IsTitledRoot, rolled_back, root_of, are_local, made_by, HasKeysOnce, Registry, Step, path_of, state_plan, err_told, state, state_of, Transforms, IsRootRefusal, Generator, held_transforms, transforms_of, IsRootText, IsTextOf, key_for, transforms_for}
 use Rattle.schemars_generate.specs.declared.error.GenerateError.{GenerateError}
 use Rattle.schemars_generate.proofs.BuiltIns.{no_row}
 use Rattle.schemars_generate.proofs.EarlyTexts.{local_for, placed_for}

@@ -1,8 +1,8 @@
 //! Fields of structs and variants of enums.
-use crate::locate::members::{
+use crate::members::{
     check_flag, check_names, check_notes, check_row, check_row_in, check_rows, check_text, missing,
 };
-use crate::locate::stop::{Stop, inside, inside_item, refuse};
+use crate::stop::{Stop, inside, inside_item, refuse};
 use schemagen_json::{BorrowedValue, lone_member};
 use std::alloc::Global;
 

@@ -4,15 +4,9 @@ ghost use Rattle.schemagen_json.specs.BorrowedValue.{data_of};
 ghost use Rattle.serde_json.specs.Find.{pointer as points_to};
 ghost use Rattle.schemagen_input.specs.Input.{table_in};
 
-mod enums;
-mod members;
-mod rows;
-mod stop;
-
-use crate::error::InputError;
-use crate::input::read_input;
-use crate::locate::rows::check_table;
-use crate::locate::stop::Stop;
+use crate::rows::check_table;
+use crate::stop::Stop;
+use schemagen_input::{InputError, read_input};
 use schemagen_json::BorrowedValue;
 use std::alloc::{AllocError, Global};
 

@@ -1,11 +1,11 @@
 //! Tables, rows and shapes.
-use crate::locate::enums::{check_adjacent, check_enum, check_fields, check_internal};
-use crate::locate::members::{
+use crate::enums::{check_adjacent, check_enum, check_fields, check_internal};
+use crate::members::{
     check_count, check_flag, check_kind, check_names, check_notes, check_row, check_row_in,
     check_rows, check_text, missing,
 };
-use crate::locate::stop::{Stop, fault_here, inside, inside_item, refuse};
-use crate::members::text_in;
+use crate::stop::{Stop, fault_here, inside, inside_item, refuse};
+use schemagen_input::text_in;
 use schemagen_json::{BorrowedValue, lone_member};
 use schemars_schema::edits::is_listed;
 use std::alloc::Global;

@@ -1,6 +1,6 @@
 //! The members of objects, and what single values say.
-use crate::locate::stop::{Stop, fault_here, inside, inside_item, refuse};
-use crate::members::kind_in;
+use crate::stop::{Stop, fault_here, inside, inside_item, refuse};
+use schemagen_input::kind_in;
 use schemagen_json::BorrowedValue;
 use schemars_schema::edits::is_listed;
 use std::alloc::Global;
