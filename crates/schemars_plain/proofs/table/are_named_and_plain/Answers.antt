@@ -1,6 +1,6 @@
 use Rattle.std.proofs.Common.{refl, map}
 use Rattle.std.proofs.lemmas.Result.{IfOk-weaker}
-use Rattle.schemars_plain.proofs.Tables.{distinct_spread}
+use Rattle.schemars_plain.proofs.Named.{distinct_spread}
 use Rattle.schemars_plain.proofs.table.are_named_and_plain.Goals as goal
 
 pub returns-then-not-are_distinct_variants : goal.returns-then-not-are_distinct_variants
