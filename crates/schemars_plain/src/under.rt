@@ -77,12 +77,8 @@ pub fn has_names_apart(alloc: Global, types: &Types, shape: &Shape) -> Result<bo
             variants_apart(alloc, types, None, variants)
         }
         Shape::Internal(internal) => {
-            variants_apart(
-                alloc,
-                types,
-                Some(internal.tag.as_str()),
-                &internal.variants,
-            )
+            let tag = Some(internal.tag.as_str());
+            variants_apart(alloc, types, tag, &internal.variants)
         }
         Shape::Adjacent(adjacent) => variants_apart(alloc, types, None, &adjacent.variants),
         Shape::Null | Shape::Bool | Shape::Int(_) | Shape::NonZero(_) => Ok(true),
