@@ -2,9 +2,9 @@
 #![tactic(auto)]
 
 mod enums;
-mod find_fault;
+mod fault;
 mod members;
 mod rows;
 mod stop;
 
-pub use find_fault::{InputFault, find_fault};
+pub use fault::{InputFault, find_fault};

@@ -1,5 +1,5 @@
 //! How a walk over a value stops, and the place that it reports.
-use crate::find_fault::InputFault;
+use crate::fault::InputFault;
 use std::alloc::{AllocError, AllocFailed, Global};
 
 /// Why a walk over a value stopped.

@@ -14,7 +14,7 @@ use Rattle.schemagen_run.specs.declared.fault.Fault.{Fault}
 use Rattle.schemagen_run.specs.declared.fault.Fault.TheVariants.{Refused, Usage}
 use Rattle.schemars_generate.specs.declared.error.TheConstants.{OUT_OF_MEMORY, DEFINITIONS_PATH}
 use Rattle.schemagen_run.specs.declared.fault.TheConstants.{NOT_JSON, BAD_TABLE, WRITE}
-use Rattle.schemagen_run.specs.Fault.{IsReadFault, IsTableFault, IsLineFault, IsOutside}
+use Rattle.schemagen_run.specs.Fault.{IsValueFault, IsReadFault, IsTableFault, IsLineFault, IsOutside}
 use Rattle.schemagen_input.specs.Input.{input_of}
 use Rattle.schemagen_run.specs.declared.words.Asked.{Asked}
 use Rattle.std.specs.Prelude.{MatchOption}
@@ -294,6 +294,12 @@ read_is_no_usage e read is = true≢false (sym (of_reading e read) ∙ ap is_rea
 pub read_is_no_write : (e : Fault) → IsReadFault e → e ≡ Refused WRITE → ⊥
 unfolding is_read_fault
 read_is_no_write e read is = true≢false (sym (of_reading e read) ∙ ap is_read_fault is)
+
+-- a refusal while a value is read
+pub value_is_no_write : (e : Fault) → IsValueFault e → e ≡ Refused WRITE → ⊥
+value_is_no_write e (inl memory) = read_is_no_write e (inl memory)
+value_is_no_write e (inr (inl read)) = read_is_no_write e (inr (inl read))
+value_is_no_write e (inr (inr json)) = read_is_no_write e (inr (inr (inl json)))
 
 pub read_is_no_path : (e : Fault) → IsReadFault e → e ≡ Refused DEFINITIONS_PATH → ⊥
 unfolding is_read_fault

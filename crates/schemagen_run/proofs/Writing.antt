@@ -3,7 +3,7 @@ use Rattle.std.proofs.Common.{◌≡◌, ◌≢◌, ◌⊎◌, inl, inr, ℕ, Li
 use Rattle.std.specs.Prelude.{IsTrue}
 use Rattle.std.specs.Io.KnownBytes.{Appends}
 use Rattle.std.proofs.KnownBytes.{Appends-trans}
-use Rattle.std.proofs.lemmas.Result.{IfErr-at_err}
+use Rattle.std.proofs.lemmas.Result.{IfErr-at_err, on_ok_weaker}
 use Rattle.schemars_types.specs.Rows.{Row}
 use Rattle.schemars_types.specs.Faults.{IsAccepted}
 use Rattle.schemars_documents.specs.PlainTable.{HasPlainNotes}
@@ -21,6 +21,7 @@ use Rattle.schemagen_run.specs.declared.fault.TheConstants.{WRITE}
 use Rattle.schemagen_run.specs.Fault.{IsTableFault, IsTypesFault, IsOutside, fault_of_writing}
 use Rattle.schemagen_run.specs.Run.{GivesAll, IsTableText, IsFaultyTable, IsUnplaced, IsLineRefusal}
 use Rattle.schemagen_run.specs.Writing.{WritesLine}
+use Rattle.schemagen_run.specs.Promises.{WritesLineFor}
 use Rattle.schemagen_run.proofs.Runs.{is_line_fault, line_is_no_other, read_is_faulty, has_no_place, is_outside}
 
 -- a text, which is the stated one where there are no floats, and a newline
@@ -135,6 +136,47 @@ stopped bytes has_failed floats stated old new ordered.OutOfMemory r is begun fa
     unwritten bytes has_failed (IsLine floats stated) r (Refused OUT_OF_MEMORY) old new is (λ e. cc) (memory refl)
 stopped bytes has_failed floats stated old new ordered.Write r is begun failed memory =
     broken bytes has_failed floats stated old new r is (begun refl) (failed refl)
+
+-- ---- the line of what the source has given
+
+-- a line of which P holds is the line of that
+pub line_of_given : {S T : Type 0} (bytes : S → Option Text) (has_failed : S → Bool) {IsLine : List ℕ → (Text → Type 0) → Type 0}
+    (P : Text → Type 0) (left_old left_new : Option (List ℕ)) (r : Result T Fault) (old new : S)
+    → ((line : Text) → P line → (Q : Text → Type 0) → Q line → GivesAll left_old left_new (λ given. IsLine given Q))
+    → WritesLine bytes has_failed P r old new → WritesLineFor bytes has_failed IsLine left_old left_new r old new
+line_of_given bytes has_failed P left_old left_new r old new f w = record {
+  write = λ is. let (line, p, begun) = w.write is in f line p (AppendsBeginning (bytes old) (bytes new)) begun;
+  done = on_ok_weaker r (λ (line, p, appended). f line p (Appends (bytes old) (bytes new)) appended) w.done;
+  failed = w.failed;
+  sound = w.sound;
+  unwritten = w.unwritten;
+}
+
+-- at a refusal that is not of the sink it has taken nothing
+pub no_line : {S T : Type 0} (bytes : S → Option Text) (has_failed : S → Bool) {IsLine : List ℕ → (Text → Type 0) → Type 0}
+    (left_old left_new : Option (List ℕ)) (r : Result T Fault) (e : Fault) (old new : S) → r ≡ Err e → e ≢ Refused WRITE → new ≡ old
+    → WritesLineFor bytes has_failed IsLine left_old left_new r old new
+no_line bytes has_failed left_old left_new (Ok x) e old new is other same = cc
+no_line bytes has_failed left_old left_new (Err f) e old new is other same = record {
+  write = λ failed. absurd (other cc);
+  done = tt;
+  failed = λ failed. absurd (other cc);
+  sound = tt;
+  unwritten = λ _. same;
+}
+
+-- the line of what was given is the line for the words that ask for it
+pub line_for : {S T : Type 0} (bytes : S → Option Text) (has_failed : S → Bool) {A B : List ℕ → (Text → Type 0) → Type 0}
+    (left_old left_new : Option (List ℕ)) (r : Result T Fault) (old new : S)
+    → ((given : List ℕ) (Q : Text → Type 0) → A given Q → B given Q)
+    → WritesLineFor bytes has_failed A left_old left_new r old new → WritesLineFor bytes has_failed B left_old left_new r old new
+line_for bytes has_failed left_old left_new r old new f w = record {
+  write = λ is. let (given, consumed, end, line) = w.write is in (given, consumed, end, f given _ line);
+  done = on_ok_weaker r (λ (given, consumed, end, line). (given, consumed, end, f given _ line)) w.done;
+  failed = w.failed;
+  sound = w.sound;
+  unwritten = w.unwritten;
+}
 
 -- ---- a line of a table that is refused
 

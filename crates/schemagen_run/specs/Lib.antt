@@ -3,4 +3,5 @@ pub mod Fault
 pub mod Run
 pub mod Words
 pub mod Writing
+pub mod Promises
 pub mod Output

@@ -9,10 +9,9 @@ use Rattle.schemars_text.specs.OrderedText.{ordered_text, definitions_text}
 use Rattle.schemars_schema.specs.References.{references}
 use Rattle.schemars_sample.specs.Accepted.{AcceptsExample}
 use Rattle.schemars_sample.specs.Example.{Example}
-use Rattle.schemars_sample.specs.SampleJson.{sample_json, HasWholeJson}
+use Rattle.schemars_sample.specs.SampleJson.{HasWholeJson}
 use Rattle.schemars_sample.specs.SampleSchema.{sample_root}
 use Rattle.schemars_types.specs.Rows.{Row}
-use Rattle.schemars_types.specs.Faults.{IsAccepted}
 use Rattle.schemars_documents.specs.PlainTable.{IsPlainTable, HasPlainNotes, HasNoFloat}
 use Rattle.schemars_generate.specs.declared.error.GenerateError.{GenerateError}
 use Rattle.schemars_generate.specs.declared.error.GenerateError.TheVariants.{OutOfMemory, DefinitionsPath}
@@ -21,7 +20,7 @@ use Rattle.schemars_headline.specs.Calls.{IsLastRootCall, IsPartOf, HasAdded, Is
 use Rattle.schemars_headline.specs.Drafts as drafts
 use Rattle.schemars_headline.specs.Drafts.{Draft, dialect_of, AcceptsExampleUnder}
 use Rattle.schemars_headline.specs.Taken.{TakenHeadline, MeanTheirRows}
-use Rattle.schemars_generate.specs.Refusals.{code_of, HasFault}
+use Rattle.schemars_generate.specs.Refusals.{code_of}
 use Rattle.schemars_headline.specs.State.{Settings, State, settings2020_12, stripped, HasOwnDefinitions}
 use Rattle.schemars_types.specs.declared.contract.Contract.{Contract}
 use Rattle.schemars_transform.specs.declared.gen_transform.GenTransform.{GenTransform}
@@ -36,7 +35,13 @@ use Rattle.schemagen_run.specs.declared.fault.Fault.{Fault}
 use Rattle.schemagen_run.specs.declared.fault.Fault.TheVariants.{Refused}
 use Rattle.schemars_generate.specs.declared.error.TheConstants.{OUT_OF_MEMORY, DEFINITIONS_PATH}
 use Rattle.schemagen_run.specs.Fault.{IsLineFault}
-use Rattle.schemagen_input.specs.SampleInput.{sample_input}
+pub use Rattle.schemars_types.specs.Faults.{IsAccepted}
+pub use Rattle.schemars_generate.specs.Refusals.{HasFault}
+pub use Rattle.schemars_generate.specs.Generator.{settings_of, state, transforms_of}
+pub use Rattle.schemars_sample.specs.Example.{example_of}
+pub use Rattle.schemars_sample.specs.SampleJson.{sample_json}
+pub use Rattle.schemagen_input.specs.Input.{is_table}
+pub use Rattle.schemagen_input.specs.SampleInput.{sample_input, IsAsRead}
 pub use Rattle.schemagen_input.specs.Texts.{IsTextOf, IsNoJson, IsBadTable, IsTableText, IsAcceptedText}
 
 -- the source has given all that it had left, and these bytes are so

@@ -1,20 +1,12 @@
 //! A run of the program over its words, a source and a sink.
-ghost use Rattle.std.specs.Prelude.{◌≡◌, ◌≢◌, ◌⊎◌, ◌↔◌, ℕ, List, Some, None, false, true, Err, IsTrue, IfOk, IfErr, OnOk, [], ◌∷◌, ◌<◌, length};
-ghost use Rattle.std.specs.Io.KnownBytes.{Appends, Consumes, IsAtEnd};
+ghost use Rattle.std.specs.Prelude.{◌≡◌, ◌≢◌, ◌⊎◌, ◌↔◌, ℕ, List, Some, None, true, Err, IsTrue, IfOk, IfErr, OnOk, [], ◌∷◌, ◌<◌, length};
+ghost use Rattle.std.specs.Io.KnownBytes.{Consumes, IsAtEnd};
 ghost use Rattle.serde_json.specs.View.{view, members_view};
-ghost use Rattle.schemars_types.specs.Faults.{IsAccepted};
-ghost use Rattle.schemars_generate.specs.Refusals.{HasFault};
-ghost use Rattle.schemars_generate.specs.Generator.{settings_of, state, transforms_of};
 ghost use Rattle.schemars_transform.specs.Member.{some_own};
-ghost use Rattle.schemars_text.specs.Sink.{AppendsBeginning};
-ghost use Rattle.schemars_sample.specs.Example.{example_of};
-ghost use Rattle.schemars_sample.specs.SampleJson.{sample_json};
-ghost use Rattle.schemagen_input.specs.Input.{is_table};
-ghost use Rattle.schemagen_input.specs.SampleInput.{sample_input, IsAsRead};
 ghost use Rattle.schemagen_run.specs.declared.words.Dialect.TheVariants.{OpenApi3};
-ghost use Rattle.schemagen_run.specs.Words.{AskForTypes, AskForSample, AreCommands};
-ghost use Rattle.schemagen_run.specs.Run.{GivesAll, IsTextOf, IsNoJson, IsBadTable, IsTableText, IsAcceptedText, IsNotedText, IsFaultyTable, IsRefusal, IsLineRefusal, settings_for, settings_of_dialect, transforms_of_dialect, fresh, IsLineOf, IsTableLine, IsUnplacedText, AreTaken, IsNotWhole, IsSampleText, IsSampleDocument, IsExampleLine, IsSampleLineOf, IsSampleLine, IsLineFor, IsUnplacedFor};
+ghost use Rattle.schemagen_run.specs.Run.{IsAccepted, HasFault, settings_of, state, transforms_of, example_of, sample_json, is_table, sample_input, IsAsRead, GivesAll, IsTextOf, IsNoJson, IsBadTable, IsTableText, IsAcceptedText, IsNotedText, IsFaultyTable, IsRefusal, IsLineRefusal, settings_for, settings_of_dialect, transforms_of_dialect, fresh, IsLineOf, IsTableLine, IsUnplacedText, AreTaken, IsNotWhole, IsSampleText, IsSampleDocument, IsExampleLine, IsSampleLineOf, IsSampleLine, IsLineFor};
 ghost use Rattle.schemagen_run.specs.Writing.{WritesLine};
+ghost use Rattle.schemagen_run.specs.Promises.{RefusesWords, RefusesInput, RefusesDocument, WritesLineFor, RefusesOnlyOutside};
 ghost use Rattle.schemagen_run.specs.Output.{IsOutputOf, IsFreshFor};
 ghost use Rattle.schemagen_run.specs.Fault.{IsValueFault, IsReadFault, IsTableFault, IsOutside, IsTypesFault, IsSampleFault, IsFault};
 
@@ -55,42 +47,14 @@ pub fn run<S: Source, K: Sink>(
     source: &mut S,
     sink: &mut K,
 ) -> Result<Output, Fault>
-    ensures usage { (result ≡ Err Fault.Usage) ↔ ¬ (AreCommands words.now) }
-    ensures known { result ≢ Err Fault.Usage → AreCommands words.now }
-    ensures unread { result ≡ Err Fault.Usage → source.new ≡ source.old }
-
-    ensures read { AreCommands words.now
-        → ((result ≡ Err (Fault.Refused READ)) ↔ IsTrue (S.has_failed source.new)) }
-    ensures not_json { result ≡ Err (Fault.Refused NOT_JSON)
-        → GivesAll (S.left source.old) (S.left source.new) IsNoJson }
-    ensures bad_table { result ≡ Err (Fault.Refused BAD_TABLE)
-        → AskForTypes words.now × GivesAll (S.left source.old) (S.left source.new) IsBadTable }
-    ensures faulty { IfErr result (λ e. IsTableFault e
-        → AskForTypes words.now × GivesAll (S.left source.old) (S.left source.new)
-        (IsFaultyTable e)) }
-    ensures unplaced { result ≡ Err (Fault.Refused DEFINITIONS_PATH)
-        → GivesAll (S.left source.old) (S.left source.new) (IsUnplacedFor words.now) }
-    ensures not_whole { result ≡ Err (Fault.Refused NOT_WHOLE)
-        → AskForSample words.now × GivesAll (S.left source.old) (S.left source.new) IsNotWhole }
-    ensures write { result ≡ Err (Fault.Refused WRITE)
-        → GivesAll (S.left source.old) (S.left source.new) (λ bytes. IsLineFor words.now bytes
-        (AppendsBeginning (K.bytes sink.old) (K.bytes sink.new))) }
-    ensures done { OnOk result
-        (GivesAll (S.left source.old) (S.left source.new) (λ bytes. IsLineFor words.now bytes
-        (Appends (K.bytes sink.old) (K.bytes sink.new)))) }
-
-    ensures failed { result ≡ Err (Fault.Refused WRITE) → IsTrue (K.has_failed sink.new) }
-    ensures sound { OnOk result (K.has_failed sink.new ≡ false) }
-    ensures unwritten { IfErr result
-        (λ e. e ≢ Fault.Refused WRITE → sink.new ≡ sink.old) }
+    ensures usage { RefusesWords words.now result source.old source.new }
+    ensures input { RefusesInput words.now (S.left source.old) (S.left source.new)
+        (S.has_failed source.new) result }
+    ensures document { RefusesDocument words.now (S.left source.old) (S.left source.new) result }
+    ensures output { WritesLineFor K.bytes K.has_failed (IsLineFor words.now) (S.left source.old)
+        (S.left source.new) result sink.old sink.new }
     ensures faults { IfErr result IsFault }
-    ensures accepted { AskForTypes words.now → (bytes : List ℕ) → S.left source.old ≡ Some bytes
-        → IsAcceptedText bytes → IfErr result (λ e. IsOutside e
-        ⊎ (e ≡ Fault.Refused DEFINITIONS_PATH)) }
-    ensures noted { AskForTypes words.now → (bytes : List ℕ) → S.left source.old ≡ Some bytes
-        → IsNotedText bytes → IfErr result IsOutside }
-    ensures whole { AskForSample words.now → (bytes : List ℕ) → S.left source.old ≡ Some bytes
-        → IsSampleText bytes → IfErr result IsOutside }
+    ensures promised { RefusesOnlyOutside words.now (S.left source.old) result }
 {
     match command_in(words) {
         Some(Command::Types(asked)) => run_types(alloc, asked, source, sink),
@@ -115,16 +79,8 @@ fn run_types<S: Source, K: Sink>(
         → GivesAll (S.left source.old) (S.left source.new) (IsFaultyTable e)) }
     ensures unplaced { result ≡ Err (Fault.Refused DEFINITIONS_PATH)
         → GivesAll (S.left source.old) (S.left source.new) (IsUnplacedText asked) }
-    ensures write { result ≡ Err (Fault.Refused WRITE)
-        → GivesAll (S.left source.old) (S.left source.new) (λ bytes. IsTableLine asked bytes
-        (AppendsBeginning (K.bytes sink.old) (K.bytes sink.new))) }
-    ensures done { OnOk result
-        (GivesAll (S.left source.old) (S.left source.new) (λ bytes. IsTableLine asked bytes
-        (Appends (K.bytes sink.old) (K.bytes sink.new)))) }
-    ensures failed { result ≡ Err (Fault.Refused WRITE) → IsTrue (K.has_failed sink.new) }
-    ensures sound { OnOk result (K.has_failed sink.new ≡ false) }
-    ensures unwritten { IfErr result
-        (λ e. e ≢ Fault.Refused WRITE → sink.new ≡ sink.old) }
+    ensures output { WritesLineFor K.bytes K.has_failed (IsTableLine asked) (S.left source.old)
+        (S.left source.new) result sink.old sink.new }
     ensures faults { IfErr result IsTypesFault }
     ensures accepted { (bytes : List ℕ) → S.left source.old ≡ Some bytes
         → IsAcceptedText bytes → IfErr result (λ e. IsOutside e
@@ -148,16 +104,8 @@ fn run_sample<S: Source, K: Sink>(
         → GivesAll (S.left source.old) (S.left source.new) IsNoJson }
     ensures not_whole { result ≡ Err (Fault.Refused NOT_WHOLE)
         → GivesAll (S.left source.old) (S.left source.new) IsNotWhole }
-    ensures write { result ≡ Err (Fault.Refused WRITE)
-        → GivesAll (S.left source.old) (S.left source.new) (λ bytes. IsSampleLine dialect bytes
-        (AppendsBeginning (K.bytes sink.old) (K.bytes sink.new))) }
-    ensures done { OnOk result
-        (GivesAll (S.left source.old) (S.left source.new) (λ bytes. IsSampleLine dialect bytes
-        (Appends (K.bytes sink.old) (K.bytes sink.new)))) }
-    ensures failed { result ≡ Err (Fault.Refused WRITE) → IsTrue (K.has_failed sink.new) }
-    ensures sound { OnOk result (K.has_failed sink.new ≡ false) }
-    ensures unwritten { IfErr result
-        (λ e. e ≢ Fault.Refused WRITE → sink.new ≡ sink.old) }
+    ensures output { WritesLineFor K.bytes K.has_failed (IsSampleLine dialect) (S.left source.old)
+        (S.left source.new) result sink.old sink.new }
     ensures faults { IfErr result IsSampleFault }
     ensures whole { (bytes : List ℕ) → S.left source.old ≡ Some bytes → IsSampleText bytes
         → IfErr result IsOutside }

@@ -6,21 +6,28 @@ use Rattle.schemars_schema.specs.Json.{Text}
 use Rattle.schemars_shapes.specs.Shape.{Entry}
 use Rattle.schemars_types.specs.Rows.{entry_at}
 use Rattle.schemars_flatten.specs.Parts.{flattened_part}
-use Rattle.schemars_documents.specs.Documents.{reference}
 use Rattle.schemars_documents.specs.Template.{Ask, content, asks_of}
-use Rattle.schemars_documents.specs.View.{ask_of, template_view}
 use Rattle.schemars_documents.specs.declared.template.SchemaTemplate.{SchemaTemplate}
 use Rattle.schemars_documents.specs.OfShape.{entry_template}
 use Rattle.schemars_build.specs.Naming.{name_of}
 use Rattle.schemars_build.specs.Placed.{is_pending, pending_in}
-use Rattle.schemars_build.specs.Registry.{Plan, Registry, Step, rolled_back, reference_to, basis_of_plan}
-use Rattle.schemars_build.specs.Missing.{row_asked}
-use Rattle.schemars_build.specs.Parts.{IsOwn, IsMade, IsFilledIn, IsAnswer, AreAnswers}
+use Rattle.schemars_build.specs.Registry.{Plan, Registry, basis_of_plan}
+use Rattle.schemars_build.specs.Parts.{IsMade, IsFilledIn, AreAnswers}
 use Rattle.schemars_build.specs.declared.build.Document.{Document}
 use Rattle.schemars_build.specs.declared.build.Purpose.{Purpose}
 use Rattle.schemars_build.specs.declared.build.Purpose.TheVariants as purpose
 use Rattle.schemars_build.specs.declared.build.Request.{Request}
 use Rattle.schemars_build.specs.declared.build.Request.TheVariants as request
+pub use Rattle.schemars_schema.specs.Edits.{replaced}
+pub use Rattle.schemars_types.specs.Edges.{is_inline_at}
+pub use Rattle.schemars_types.specs.Faults.{IsChecked}
+pub use Rattle.schemars_documents.specs.Documents.{reference}
+pub use Rattle.schemars_documents.specs.View.{ask_of, template_view}
+pub use Rattle.schemars_build.specs.Placed.{is_in_place}
+pub use Rattle.schemars_build.specs.Registry.{Step, rolled_back, reference_to}
+pub use Rattle.schemars_build.specs.Plans.{plan_of}
+pub use Rattle.schemars_build.specs.Missing.{row_asked}
+pub use Rattle.schemars_build.specs.Parts.{IsAnswer, IsOwn}
 
 -- ---- what is wanted
 

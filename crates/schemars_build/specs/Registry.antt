@@ -9,7 +9,8 @@ use Rattle.schemars_schema.specs.Encoding.{encoded}
 use Rattle.schemars_types.specs.Rows.{Row, name_at}
 use Rattle.schemars_types.specs.Edges.{is_inline_at}
 use Rattle.schemars_types.specs.declared.contract.Contract.{Contract}
-use Rattle.schemars_build.specs.Naming.{NamedRow, Naming, name_of, IsFirstUnused}
+use Rattle.schemars_build.specs.Naming.{NamedRow, Naming, IsFirstUnused}
+pub use Rattle.schemars_build.specs.Naming.{name_of, IsOneToOne}
 use Rattle.schemars_documents.specs.Basis.{Basis}
 use Rattle.schemars_build.specs.Placed.{IsDocument}
 

@@ -1,19 +1,9 @@
 //! The documents of rows, with parts in place or by reference.
 ghost use Rattle.std.specs.Prelude.{Bool, codes, reverse, ◌≡◌, ◌<◌, ◌≤◌, length, IfOk, OnOk, OnErr};
-ghost use Rattle.schemars_types.specs.Faults.{IsChecked};
-ghost use Rattle.schemars_documents.specs.Documents.{reference};
-ghost use Rattle.schemars_build.specs.Placed.{is_in_place};
 ghost use Rattle.schemars_build.specs.Registry as specs;
-ghost use Rattle.schemars_build.specs.Registry.{Step, rolled_back, reference_to};
-ghost use Rattle.schemars_build.specs.Plans.{plan_of};
-ghost use Rattle.schemars_types.specs.Edges.{is_inline_at};
 ghost use Rattle.schemars_documents.specs.Template as spec;
 ghost use Rattle.schemars_documents.specs.Template.{filled};
-ghost use Rattle.schemars_documents.specs.View.{ask_of, template_view};
-ghost use Rattle.schemars_schema.specs.Edits.{replaced};
-ghost use Rattle.schemars_build.specs.Missing.{row_asked};
-ghost use Rattle.schemars_build.specs.Parts.{IsAnswer, IsOwn};
-ghost use Rattle.schemars_build.specs.Making.{Wanted, own, asked, wanted, row_wanted, IsReply, IsTemplate, IsTemplateAt, IsOpened, IsInMaking, document, IsGivenBack, HasReplied, GoesOn, IsTaken, HasFirst, AreMaking};
+ghost use Rattle.schemars_build.specs.Making.{IsChecked, reference, is_in_place, Step, rolled_back, reference_to, plan_of, is_inline_at, ask_of, template_view, replaced, row_asked, IsAnswer, IsOwn, Wanted, own, asked, wanted, row_wanted, IsReply, IsTemplate, IsTemplateAt, IsOpened, IsInMaking, document, IsGivenBack, HasReplied, GoesOn, IsTaken, HasFirst, AreMaking};
 ghost use Rattle.schemars_build.specs.Measure.{measure_of_asked, measure_of_own_document, measure_of_part, measure_of_making, measure_of_turn, IsWithin, IsLess};
 ghost use Rattle.schemars_render.specs.Rendered.{IsRendered};
 ghost use Rattle.schemars_build.specs.declared.build.Document as src;

@@ -6,10 +6,9 @@ ghost use Rattle.serde_json.specs.View.{members_view};
 ghost use Rattle.schemars_schema.specs.Edits.{replaced};
 ghost use Rattle.schemars_transform.specs.Needs.{needs_of};
 ghost use Rattle.schemars_definitions.specs.Texts.{IsWholeTextOf};
-ghost use Rattle.schemars_build.specs.Naming.{name_of, IsOneToOne};
 ghost use Rattle.schemars_types.specs.declared.contract.Contract.{Contract};
 ghost use Rattle.schemars_build.specs.Placed.{is_pending, pending_in};
-ghost use Rattle.schemars_build.specs.Registry.{GivesNames, rolled_back, without_all, without_last};
+ghost use Rattle.schemars_build.specs.Registry.{name_of, IsOneToOne, GivesNames, rolled_back, without_all, without_last};
 ghost use Rattle.std.specs.Borrow.{Lends, sem};
 ghost use Rattle.serde_json.specs.Rows.{map_row};
 

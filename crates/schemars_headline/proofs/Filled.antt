@@ -1,6 +1,6 @@
 -- What fills the templates of enums and maps is what the laws of the drafts speak of, where the answers are.
 use Rattle.std.proofs.Common.{ℕ, List, [], ◌∷◌, ◌++◌, map, Bool, true, false, codes, refl, sym, subst}
-use Rattle.schemars_headline.proofs.Words.{if◌then◌else◌, AllByRecursion, Data, string, Members, no_members, put, Text, put_all, AreNotes, Field, Fields, Flattened, Payload, Shape, Variant, KeyOptions, keys, AreNoted, Keyword, Basis, Ask, part, Template, asks_of, filled, filled_in, keyed, left, struct_template, template_of, KeywordTemplate, typed_template, object_with, values_of, all_patterns, pattern_properties_at, properties_at, other_values, values_template, internally_tagged_variant, first_all, left_all, Fit, asked_of_members, recursion_from_All, literal_is_schema, text_items, Tagging, enum, by_tag, flattened_fields, effective, expanded_payload, expanded_shape, expanded_variant, IsPlainShape, IsTagged, AreTagged, parts_in, payload_parts, variant_parts, IsNotedPayload, IsNotedShape, AreNotedVariants, row, asks_in, first, Templates, templates_of, map_template, tuple_template, content_template, title_alone, literal_document-schema, without_end, parted, tuple_fills, title_noted, values_ask, of_each, AreKeysApart, Documents, Law, IsBeside, AreBeside, beside_halves, plain_variants, shape_holds, values_all}
+use Rattle.schemars_headline.proofs.Words.{all_filled, AllByRecursion, Data, string, no_members, put, Text, put_all, Field, Fields, Flattened, Shape, KeyOptions, keys, AreNoted, Keyword, Basis, Ask, part, Template, asks_of, filled, filled_in, keyed, left, struct_template, template_of, KeywordTemplate, typed_template, object_with, values_of, all_patterns, pattern_properties_at, properties_at, other_values, values_template, internally_tagged_variant, first_all, left_all, Fit, asked_of_members, recursion_from_All, literal_is_schema, text_items, flattened_fields, effective, expanded_shape, IsPlainShape, parts_in, payload_parts, variant_parts, IsNotedPayload, IsNotedShape, AreNotedVariants, row, asks_in, first, Templates, templates_of, map_template, tuple_template, content_template, title_alone, literal_document-schema, without_end, tuple_fills, title_noted, values_ask, of_each, AreKeysApart, Documents, Law, IsBeside, AreBeside, beside_halves, plain_variants, shape_holds, values_all}
 use Rattle.schemars_laws.specs.Everywhere.{asked}
 use Rattle.schemars_headline.proofs.Changes.{Demand, Class, AreGood, are-put, IsGood, good, good_truth, good-annotated, good-allow_null}
 use Rattle.schemars_headline.proofs.Documents.{AllGood, are-typed, type-good, int-good, non_zero-good, char-good, formatted-good, bytes-good, schema_itself-good, empty_list-good, seq-good, set-good, array-good, up_to-good, tuple-good, parts-good, tagged-good, unit-good, units-good, one_of-good, any_of-good, map-good, AllNamed, asked-all, literal-good}
@@ -95,18 +95,9 @@ module _ (R : Demand) (A : Ask → Data → Type 0) (basis : Basis) (Under : Lis
   abbrev pub Makes : Template → Type 0
   Makes t = (us : List Data) → Fit A (asks_of t) us → IsGood R (filled t us)
 
-  all-filled : (ts : List Template) → AllByRecursion Makes ts → (us : List Data) → Fit A (asks_in (templates_of ts)) us
-      → AllGood R (filled_in (templates_of ts) us)
-  all-filled [] make us fit = tt
-  all-filled (t ∷ ts) make us fit =
-      let p = parted A t (asks_in (templates_of ts)) us fit in (
-        subst (IsGood R) (sym p.4) (make.0 p.0 p.2),
-        subst (λ ws. AllGood R (filled_in (templates_of ts) ws)) (sym p.5) (all-filled ts make.1 p.1 p.3),
-      )
-
   all-last : (ts : List Template) → AllByRecursion Makes ts → (us : List Data) → Fit A (asks_in (templates_of ts) ++ []) us
       → AllGood R (filled_in (templates_of ts) us)
-  all-last ts make us fit = all-filled ts make us (without_end A (asks_in (templates_of ts)) us fit)
+  all-last ts make us fit = all_filled A (IsGood R) ts make us (without_end A (asks_in (templates_of ts)) us fit)
 
   map-makes : (es : List KeywordTemplate) (ks : List Text) (closed : Bool) → AllByRecursion (λ e. Makes e.1) es
       → Makes (map_template es (text_items ks) closed)
@@ -149,7 +140,7 @@ module _ (R : Demand) (A : Ask → Data → Type 0) (basis : Basis) (Under : Lis
 
   documents : Documents (of_each Makes)
   documents = record {
-    type_of = λ name us fit. type-good R name;
+    type_of = λ name is us fit. type-good R name;
     int = λ kind us fit. int-good R kind;
     non_zero = λ kind us fit. non_zero-good R kind;
     char = λ us fit. char-good R;

@@ -1,6 +1,6 @@
 -- The keys of members, and those of definitions.
-use Rattle.std.proofs.Common.{◌≡◌, ◌⊎◌, inl, inr, ◌∷◌, [], Some, None, true, false, Ordering, Less, Equal, Greater, nat_cmp, refl, sym, ap, ◌∙◌, true≢false}
-use Rattle.schemars_headline.proofs.Words.{codes, match_ordering, slice_cmp, exact_bytes, Data, Members, no_members, member, get_member, Text, is_listed, HasKeysOnce, IsKey}
+use Rattle.std.proofs.Common.{◌≡◌, ◌⊎◌, inl, inr, ◌∷◌, [], Some, None, true, Ordering, Less, Equal, Greater, nat_cmp, refl, sym, ap, ◌∙◌, true≢false}
+use Rattle.schemars_headline.proofs.Words.{IsOther, codes, match_ordering, slice_cmp, exact_bytes, Data, Members, no_members, member, get_member, Text, is_listed, HasKeysOnce, IsKey}
 use Rattle.schemars_schema.specs.Annotations.{is_annotation}
 use Rattle.schemars_schema.proofs.Objects.{annotation-not_listed}
 use Rattle.schemars_text.proofs.Members.{get_member-here}
@@ -65,10 +65,6 @@ found_among P (member l e ms) all k d found = go (slice_cmp nat_cmp k l) found (
 
 abbrev pub IsDefinitionsKey : Text → Type 0
 IsDefinitionsKey key = (key ≡ codes "$defs") ⊎ (key ≡ codes "definitions")
-
--- another key
-abbrev pub IsOther : Text → Type 0
-IsOther k = is_listed k (codes "$defs" ∷ codes "definitions" ∷ []) ≡ false
 
 pub other_apart : (key k : Text) → IsDefinitionsKey key → IsOther k → key ≡ k → ⊥
 other_apart key k (inl is) other same = true≢false (ap (λ x. is_listed x (codes "$defs" ∷ codes "definitions" ∷ [])) (sym is ∙ same)

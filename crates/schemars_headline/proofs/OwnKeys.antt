@@ -1,11 +1,8 @@
 -- The document of a row has no definitions of its own.
-use Rattle.std.proofs.Common.{◌≡◌, ℕ, zero, suc, ℤ, List, [], ◌∷◌, ◌++◌, map, Option, Some, None, Bool, true, false, refl, subst, pos}
-use Rattle.schemars_headline.proofs.Words.{codes, is_some, if◌then◌else◌, AllByRecursion, Data, null, boolean, string, array, object, Items, no_items, item, Members, no_members, member, put, get_member, Text, without, is_null, members_in, object_of, put_all, put_members, AreNotes, is_null_choice, is_combined, or_null, allow_null, type_with_null, null_in_type, enum_with_null, null_in_enum, const_or_null, null_in_const, null_in_values, zero_schema, format_of, Shape, Flattened, Entry, entry_at, least_of, greatest_of, annotated, with_title, with_meta_schema, root_document, int_keywords, is_signed, required_names, reference, KeyOptions, keys, key_options, Basis, Template, noted, keyed, left, filled, filled_in, KeywordTemplate, with_flattened, bare_units, other_items, choice_of, values_template, template_of, entry_template, typed_template, object_with, values_of, all_patterns, pattern_properties_at, other_values, properties_at, Describes, HasPlainLiteral, IsNotedEntry, HasPlainNotes, either, first_all, left_all, null_schema, text_items, finished, list, members, nullable, with_keywords, templates_of, literal_document, IsPlainLiteral, plain_absent, described_holds, outer_holds}
-use Rattle.schemars_shapes.specs.Shape as shape
-use Rattle.schemars_types.specs.declared.contract.Contract.{Contract}
-use Rattle.schemars_documents.specs.Template.{asked, tagged}
-use Rattle.schemars_headline.proofs.Keys.{IsDefinitionsKey, IsOther, annotation_other}
-use Rattle.schemars_headline.proofs.Lacking.{HasNeither, Lacks, LacksIn, lacks_both, lacks-put, lacks_without, lacks_flattened, lacks_flattened_part, lacks_opened_inside}
+use Rattle.std.proofs.Common.{◌≡◌, ℕ, List, [], ◌∷◌, map, Option, Some, None, Bool, true, false, refl, subst}
+use Rattle.schemars_headline.proofs.Words.{HasNeither, IsOther, codes, is_some, if◌then◌else◌, AllByRecursion, Data, null, boolean, string, array, object, no_items, item, Members, no_members, member, put, get_member, Text, without, is_null, members_in, put_all, put_members, AreNotes, is_null_choice, is_combined, or_null, allow_null, type_with_null, null_in_type, enum_with_null, null_in_enum, const_or_null, null_in_const, null_in_values, Shape, Entry, entry_at, annotated, with_title, with_meta_schema, root_document, reference, Basis, Template, keyed, left, filled, filled_in, KeywordTemplate, template_of, entry_template, Describes, HasPlainLiteral, IsNotedEntry, HasPlainNotes, first_all, left_all, null_schema, templates_of, literal_document, IsPlainLiteral, plain_absent, described_holds, outer_holds}
+use Rattle.schemars_headline.proofs.Keys.{IsDefinitionsKey, annotation_other}
+use Rattle.schemars_headline.proofs.Lacking.{Lacks, LacksIn, lacks_both, lacks-put, lacks_without, lacks_flattened, lacks_flattened_part, lacks_opened_inside}
 
 -- ---- literals
 

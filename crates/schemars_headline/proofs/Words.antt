@@ -18,11 +18,11 @@ pub use Rattle.schemars_definitions.specs.Keys.{HasKeysOnce}
 pub use Rattle.schemars_documents.proofs.Literals.{literal_document-schema}
 pub use Rattle.schemars_documents.proofs.OpenStructs.{parts_apart, plain_under}
 pub use Rattle.schemars_documents.specs.Basis.{Basis}
-pub use Rattle.schemars_documents.specs.Describes.{Describes, Fills, IsAnswered, IsContent, IsOwnDocument, IsWritten, are_optional, without_options, without_options_within}
+pub use Rattle.schemars_documents.specs.Describes.{Describes, IsAnswered, IsContent, IsOwnDocument, IsWritten, are_optional, without_options, without_options_within}
 pub use Rattle.schemars_documents.specs.Documents.{Keyword, annotated, byte_document, bytes_document, bytes_type, char_document, empty_list_document, formatted_document, int_document, int_keywords, is_signed, non_zero_document, reference, required_names, root_document, schema_document, type_alone, with_meta_schema, with_title}
-pub use Rattle.schemars_documents.specs.OfShape.{KeywordTemplate, all_patterns, bare_units, choice_of, content_template, entry_template, fields_template, literal_document, map_template, members_asked, object_with, other_items, other_values, pattern_properties_at, properties_at, property, struct_template, template_of, templates_of, title_alone, tuple_template, typed_template, values_of, values_template, with_flattened}
-pub use Rattle.schemars_documents.specs.PlainTable.{AreNoted, AreNotedVariants, ArePartsUnder, ArePlainParts, AreTagged, EntryHasNoFloat, HasNoFloat, HasPlainLiteral, HasPlainNotes, HasPlainNotesThroughout, IsEntryUnder, IsNotedEntry, IsNotedPayload, IsNotedShape, IsNotedThroughout, IsPlainEntry, IsPlainShape, IsPlainTable, IsPlainUnder, IsTagged, parts_in, payload_parts, variant_parts}
-pub use Rattle.schemars_documents.specs.Template.{Ask, Template, Templates, asks_in, asks_of, content, filled, filled_in, finished, first, keyed, left, list, members, members_of, noted, nullable, part, row, with_keywords}
+pub use Rattle.schemars_documents.specs.OfShape.{KeywordTemplate, all_patterns, content_template, entry_template, fields_template, literal_document, map_template, members_asked, object_with, other_values, pattern_properties_at, properties_at, property, struct_template, template_of, templates_of, title_alone, tuple_template, typed_template, values_of, values_template, with_flattened}
+pub use Rattle.schemars_documents.specs.PlainTable.{AreNoted, AreNotedVariants, ArePartsUnder, ArePlainParts, EntryHasNoFloat, HasNoFloat, HasPlainLiteral, HasPlainNotes, HasPlainNotesThroughout, IsEntryUnder, IsNotedEntry, IsNotedPayload, IsNotedShape, IsNotedThroughout, IsPlainEntry, IsPlainShape, IsPlainTable, IsPlainUnder, parts_in, payload_parts, variant_parts}
+pub use Rattle.schemars_documents.specs.Template.{Ask, Template, Templates, asks_in, asks_of, content, filled, filled_in, first, keyed, left, members_of, noted, part, row, with_keywords}
 pub use Rattle.schemars_flatten.proofs.Floats.{flattened-whole, flattened_part-whole, opened_inside-whole}
 pub use Rattle.schemars_flatten.proofs.References.{flattened_part-refers, opened_inside-refers}
 pub use Rattle.schemars_flatten.specs.Flatten.{both_choices, contains_key, flattened, has_subschema, is_choice, moved, moved_beside, opened_schema, united, with_choice, with_keyword, with_united}
@@ -49,11 +49,11 @@ pub use Rattle.schemars_laws.specs.Laws.{for_draft07, for_draft2019_09, for_open
 pub use Rattle.schemars_laws.specs.Names.{HasNoObjects, HasPlainUnevaluated, IsMap, IsName, IsNameOf, IsNoObject, Named, NamedBy}
 pub use Rattle.schemars_laws.specs.Paths.{EachEverywhere, IsDefinitionAt, components, components_of}
 pub use Rattle.schemars_laws.specs.Stages.{AfterNullable, AfterSiblings, Anything, AreSomeTypes, HasSomeTypes, IsForOpenApi, IsTextWith, Stands}
-pub use Rattle.schemars_meaning.proofs.ByKeyword.{Keywords, by_keyword, by_value, each, outer_holds, struct_holds, values_all}
+pub use Rattle.schemars_meaning.proofs.ByKeyword.{HasNeither, IsOther, Keywords, by_keyword, by_value, each, outer_holds, struct_holds, values_all}
 pub use Rattle.schemars_meaning.proofs.ByShape.{any_of_document, array_document, items_from, member_document, one_of_document, seq_document, set_document, tuple_document, tuple_fills, units_document, up_to_document}
 pub use Rattle.schemars_meaning.proofs.Enums.{IsNewtypeIn, title_noted}
 pub use Rattle.schemars_meaning.proofs.FieldsDescribed.{described_fields, written_or_null}
-pub use Rattle.schemars_meaning.proofs.Filling.{ArePartsWritten, Fit, parted, without_end}
+pub use Rattle.schemars_meaning.proofs.Filling.{ArePartsWritten, Fit, all_filled, parted, without_end}
 pub use Rattle.schemars_meaning.proofs.Flattened.{map_fills, struct_fills}
 pub use Rattle.schemars_meaning.proofs.Following.{InList, References, Setting, written_says}
 pub use Rattle.schemars_meaning.proofs.Items.{AllItems, IsItem, OneIs, PartsAre}
@@ -100,8 +100,7 @@ pub use Rattle.schemars_schema.specs.SchemaData.{IsSchema, inserted, is_schema, 
 pub use Rattle.schemars_schema.specs.Verdict.{No, Yes}
 pub use Rattle.schemars_shapes.specs.Decimals.{fields_have_float, payload_has_float, shape_has_float, variants_have_float}
 pub use Rattle.schemars_shapes.specs.IntKind.{format_of}
-pub use Rattle.schemars_shapes.specs.Shape.{Entry, Field, Fields, Flattened, Payload, Required, Shape, Tagging, Variant, bare_fields, by_tag, enum, newtype_payload, no_payload, numbers_of, of_variants, payload_flattened, payload_same, payload_same_by, same_value_numbers, struct, struct_payload, tuple_payload}
-pub use Rattle.schemars_shapes.specs.Units.{is_bare_unit}
+pub use Rattle.schemars_shapes.specs.Shape.{Entry, Field, Fields, Flattened, Payload, Required, Shape, Tagging, Variant, bare_fields, numbers_of, of_variants, payload_flattened, payload_same, payload_same_by, same_value_numbers, struct, struct_payload}
 pub use Rattle.schemars_text.proofs.Members.{differ, get_member-here, get_member-later, unequal}
 pub use Rattle.schemars_text.specs.OrderedText.{is_listed}
 pub use Rattle.schemars_transform.specs.Built.{bool_rules, const_as_enum, first_as_example, old_items_moved, prefix_as_items, prefix_moved, reference_moved, referring, remove_ref_siblings, replace_prefix_items, value_as_enum, with_single_example, without_siblings}
@@ -112,7 +111,7 @@ pub use Rattle.schemars_transform.specs.Unevaluated.{closed_by, object_with_name
 pub use Rattle.schemars_types.proofs.Accepted.{never_first_repeated}
 pub use Rattle.schemars_types.proofs.Asked.{entry_low}
 pub use Rattle.schemars_types.specs.Edges.{DirectEdge, SameValueEdge, is_inline_at, names_at, numbers_at, option_at, rank}
-pub use Rattle.schemars_types.specs.Effective.{effective, expanded_payload, expanded_shape, expanded_shape_in, expanded_variant, flattened_fields, flattened_in, part_enums, part_fields, required_only_if, shape_fields}
+pub use Rattle.schemars_types.specs.Effective.{effective, expanded_shape, expanded_shape_in, flattened_fields, flattened_in, part_enums, part_fields, required_only_if, shape_fields}
 pub use Rattle.schemars_types.specs.Faults.{HasRepeated, IsAccepted, IsChecked, IsUndefined}
 pub use Rattle.schemars_types.specs.KeyOptions.{KeyOptions, key_options, keys}
 pub use Rattle.schemars_types.specs.Meaning.{Member, VariantMatch, every_member, field_member, greatest_of, is_required, least_of, member_named}
@@ -122,7 +121,7 @@ pub use Rattle.schemars_walk.specs.Rewritten.{Forms, Rules, all_changed, everywh
 pub use Rattle.serde_json.proofs.Views.{get_member-put, get_member-put_other}
 pub use Rattle.serde_json.specs.Data.{Data, Items, Members, array, boolean, depth, item, member, no_items, no_members, null, number, object, put, string}
 pub use Rattle.serde_json.specs.Events.{items_len, members_len}
-pub use Rattle.serde_json.specs.Find.{as_str, get, get_member, is_float, of_integer, pointer}
+pub use Rattle.serde_json.specs.Find.{as_str, get, get_member, pointer}
 pub use Rattle.serde_json.specs.View.{items_of, members_view}
 pub use Rattle.serde_json.specs.Written.{has_float, items_have_float, members_have_float}
 pub use Rattle.std.proofs.Math.Nat.{mul-le-mul_left}

@@ -1,36 +1,24 @@
 -- What holds of objects by their keywords, and of all documents that are put together of them.
 use Rattle.std.proofs.Common.{◌≡◌, ℕ, ℤ, pos, negsuc, List, [], ◌∷◌, ◌++◌, map, length, Bool, true, false, Option, Some, None, refl, arith, Contains}
-use Rattle.schemars_meaning.proofs.Words.{AllByRecursion, codes, bytes_eq, not, Data, boolean, number, string, array, Text, get_member, IsSchema, members_in, object_of, references, NoSchemas, text_items, unit_variant, Shape, Fields, Flattened, KeyOptions, keys, required_names, type_alone, int_document, non_zero_document, bytes_document, Basis, Template, Ask, part, content, asked, finished, row, list, members, nullable, KeywordTemplate, templates_of, property, map_template, fields_template, with_flattened, struct_template, tuple_template, said, values_of, all_patterns, pattern_properties_at, properties_at, values_template, template_of}
-use Rattle.std.proofs.lemmas.List.Elements.{Contains-append_right}
-use Rattle.serde_json.specs.Data.{unsigned}
-use Rattle.serde_json.specs.Find.{of_integer, is_float}
-use Rattle.serde_json.specs.Written.{has_float, items_have_float}
-use Rattle.schemars_text.specs.OrderedText.{is_listed}
-use Rattle.schemars_schema.specs.References.{Place, SchemaList, SchemasByName, place_under, found_in}
-use Rattle.schemars_builders.specs.NullLaw.{zero_schema}
+use Rattle.schemars_meaning.proofs.Words.{AllByRecursion, codes, bytes_eq, not, Data, boolean, number, string, array, Text, get_member, IsSchema, members_in, object_of, references, NoSchemas, text_items, unit_variant, Shape, Fields, Flattened, KeyOptions, keys, required_names, type_alone, int_document, non_zero_document, bytes_document, Basis, Template, Ask, part, content, asked, finished, row, list, members, nullable, KeywordTemplate, templates_of, property, map_template, fields_template, with_flattened, struct_template, tuple_template, said, values_of, all_patterns, pattern_properties_at, properties_at, values_template, template_of, Contains-append_right, unsigned, of_integer, is_float, has_float, items_have_float, is_listed, Place, SchemaList, SchemasByName, place_under, zero_schema, format_of, pattern_of, least_of, greatest_of, int_keywords, is_signed, char_document, formatted_document, empty_list_document, schema_document, with_keywords, object_with, typed_template, count_template, exactly, list_template, units_template, members_asked, required_at, closed_keyword, other_values, literal_document}
+use Rattle.schemars_schema.specs.References.{found_in}
 use Rattle.schemars_shapes.specs.Shape as shape
 use Rattle.schemars_shapes.specs.declared.shape.IntegerKeys.{IntegerKeys}
-use Rattle.schemars_shapes.specs.IntKind.{format_of}
-use Rattle.schemars_shapes.specs.IntegerKeys.{pattern_of}
 use Rattle.schemars_types.specs.declared.contract.Contract.{Contract}
 use Rattle.schemars_types.specs.declared.contract.Contract.TheVariants.{Deserialize, Serialize}
-use Rattle.schemars_types.specs.Meaning.{least_of, greatest_of}
-use Rattle.schemars_documents.specs.Documents.{int_keywords, is_signed, char_document, formatted_document, empty_list_document, schema_document}
-use Rattle.schemars_documents.specs.Template.{with_keywords}
-use Rattle.schemars_documents.specs.OfShape.{object_with, typed_template, count_template, exactly, list_template, units_template, members_asked, required_at, closed_keyword, other_values, literal_document}
 use Rattle.schemars_meaning.proofs.ReferencesKept.{IsNoKey, AreApart, apart-filter, others_apart}
 use Rattle.schemars_meaning.proofs.Parts.{either}
-use Rattle.schemars_meaning.proofs.ShapeInduction.{Claim, of_each, AreKeysApart, names_of, Documents, Law, shape_holds}
+use Rattle.schemars_meaning.proofs.ShapeInduction.{Claim, of_each, chosen_by, AreKeysApart, names_of, Documents, Law, shape_holds}
 
 -- ---- documents without rows
 
--- the keys of definitions are missing
-abbrev IsWithout : Data → Type 0
-IsWithout d = (get_member (codes "$defs") (members_in d) ≡ None) × (get_member (codes "definitions") (members_in d) ≡ None)
+-- neither of the keys of definitions is there
+abbrev pub HasNeither : Data → Type 0
+HasNeither d = (get_member (codes "$defs") (members_in d) ≡ None) × (get_member (codes "definitions") (members_in d) ≡ None)
 
 -- a schema of the library's own: it has no references, no definitions and no decimals
 abbrev pub IsOwn : Data → Type 0
-IsOwn d = IsSchema d × (references d ≡ []) × IsWithout d × (has_float d ≡ false)
+IsOwn d = IsSchema d × (references d ≡ []) × HasNeither d × (has_float d ≡ false)
 
 bound_whole : (z : ℤ) → is_float (of_integer z) ≡ false
 bound_whole (pos n) = refl
@@ -120,9 +108,6 @@ module _ (c : Claim) (k : Keywords c) where
 
   -- ---- lists
 
-  chosen_by : (t : Template) → c.holds t → c.chosen t
-  chosen_by t h = c.choice t (c.inner t h)
-
   list_holds : (n : ℕ) (rest : List KeywordTemplate) → c.holds (row n) → AllByRecursion (λ e. k.told e.0 e.1) rest
       → AreApart (codes "type" ∷ codes "items" ∷ names_of rest) → c.holds (list_template n rest)
   list_holds n rest h more apart =
@@ -135,7 +120,7 @@ module _ (c : Claim) (k : Keywords c) where
   rows_items : (ns : List ℕ) → ((m : ℕ) → Contains ns m → c.holds (row m)) → AllByRecursion c.chosen (map row ns)
   rows_items [] h = tt
   rows_items (n ∷ ns) h = (
-    chosen_by (row n) (h n (0, omega arith, refl)),
+    chosen_by c (row n) (h n (0, omega arith, refl)),
     rows_items ns (λ m is. h m (Contains-append_right (n ∷ []) ns m is)),
   )
 
@@ -164,8 +149,8 @@ module _ (c : Claim) (k : Keywords c) where
   abbrev map_list : List KeywordTemplate → List Text → Bool → List KeywordTemplate
   map_list es ks closed = typed_template (codes "object") ∷ (properties_at es ++ (required_at (text_items ks) ++ closed_keyword closed))
 
-  map_keywords : (es : List KeywordTemplate) (ks : List Text) (closed : Bool) → AllByRecursion (λ e. c.inside e.1) es → c.names (names_of es)
-      → AreKeywords (map_list es ks closed)
+  map_keywords : (es : List KeywordTemplate) (ks : List Text) (closed : Bool) → AllByRecursion (λ e. c.inside e.1) es
+      → c.names (names_of es) → AreKeywords (map_list es ks closed)
   map_keywords es ks closed h apart = go es ks closed (k.named (codes "properties") es (refl, refl, refl) h apart)
     where
       start : k.told (codes "type") (finished (string (codes "object")))
@@ -188,8 +173,8 @@ module _ (c : Claim) (k : Keywords c) where
       go (e ∷ es) (r ∷ ks) false p = ((start, (p, (needs (r ∷ ks), tt))), search)
       go (e ∷ es) (r ∷ ks) true p = ((start, (p, (needs (r ∷ ks), (never, tt)))), search)
 
-  map_holds : (es : List KeywordTemplate) (ks : List Text) (closed : Bool) → AllByRecursion (λ e. c.inside e.1) es → c.names (names_of es)
-      → c.holds (map_template es (text_items ks) closed)
+  map_holds : (es : List KeywordTemplate) (ks : List Text) (closed : Bool) → AllByRecursion (λ e. c.inside e.1) es
+      → c.names (names_of es) → c.holds (map_template es (text_items ks) closed)
   map_holds es ks closed h apart = let all = map_keywords es ks closed h apart in k.object (map_list es ks closed) all.0 all.1
 
   values_items : (value : ℕ) (ks : List Text) → c.inside (row value) → AllByRecursion (λ e. c.inside e.1) (values_of value ks)
@@ -230,7 +215,7 @@ module _ (c : Claim) (k : Keywords c) where
   pub by_keyword : Documents c
   unfolding found_in
   by_keyword = record {
-    type_of = λ name. k.own (type_alone name) (tt, refl, (refl, refl), refl);
+    type_of = λ name is. k.own (type_alone name) (tt, refl, (refl, refl), refl);
     int = λ kind. k.own (int_document kind) (ints_own (format_of kind) (least_of kind) (greatest_of kind)).0;
     non_zero = λ kind. k.own (non_zero_document kind) (either IsOwn (is_signed kind) _ _
         (ints_own (format_of kind) (least_of kind) (greatest_of kind)).1 (ints_own (format_of kind) (Some (pos 1)) (greatest_of kind)).0);
@@ -259,8 +244,9 @@ module _ (c : Claim) (k : Keywords c) where
   }
 
   -- the members of flattened rows are added one after another
-  flattened_holds : (contract : Contract) (add : (t u : Template) → c.holds t → c.holds u → c.holds (with_keywords t u)) (ps : List Flattened)
-      (t : Template) → c.holds t → AllByRecursion (λ p. c.holds (asked (members_asked contract p))) ps → c.holds (with_flattened contract ps t)
+  flattened_holds : (contract : Contract) (add : (t u : Template) → c.holds t → c.holds u → c.holds (with_keywords t u))
+      (ps : List Flattened) (t : Template) → c.holds t → AllByRecursion (λ p. c.holds (asked (members_asked contract p))) ps
+      → c.holds (with_flattened contract ps t)
   flattened_holds contract add [] t h parts = h
   flattened_holds contract add (p ∷ ps) t h parts =
       flattened_holds contract add ps (with_keywords t (asked (members_asked contract p)))

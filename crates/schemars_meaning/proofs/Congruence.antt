@@ -1,21 +1,9 @@
 -- What a shape has depends on what its parts have of the values inside, and, where a part has the value itself, of values as deep.
 use Rattle.std.proofs.Common.{◌≡◌, ◌<◌, ◌≤◌, ℕ, suc, List, [], ◌∷◌, map, Bool, true, false, not, Some, is_some, ◌&&◌, ◌||◌, cond, Contains, refl, ap, ◌∙◌, arith}
-use Rattle.std.specs.Prelude.{bytes_eq, codes, ◌==◌, nat_le}
-use Rattle.std.specs.List.{list_any}
-use Rattle.std.specs.Option.{option_map_or}
-use Rattle.std.proofs.lemmas.List.Elements.{Contains-append_left, Contains-append_right}
-use Rattle.serde_json.specs.Data.{Data, null, boolean, number, string, array, object, Items, no_items, item, Members, no_members, member, depth, items_depth, members_depth}
-use Rattle.serde_json.specs.Find.{as_array, as_object, get_member}
-use Rattle.serde_json.specs.Events.{items_len}
-use Rattle.schemars_schema.specs.Json.{Text, are_distinct}
-use Rattle.schemars_schema.specs.Edits.{without}
-use Rattle.schemars_schema.specs.Acceptance.{Patterns, is_null}
+use Rattle.schemars_meaning.proofs.Words.{bytes_eq, codes, ◌==◌, nat_le, list_any, option_map_or, Contains-append_left, Contains-append_right, Data, null, boolean, number, string, array, object, Items, no_items, item, Members, no_members, member, depth, items_depth, members_depth, as_array, as_object, get_member, items_len, Text, are_distinct, without, Patterns, is_null, Shape, Field, Flattened, Fields, Tagging, by_name, by_nothing, by_tag, by_tag_and_content, Payload, Variant, no_payload, newtype_payload, tuple_payload, struct_payload, flattened_rows, payload_flattened, payload_same, payload_same_by, of_variants, same_value_numbers, flattened_numbers, KeyOptions, is_key_allowed, flattened_enums, enum_at, expanded_fields, expanded_payload, expanded_variant, expanded_shape, VariantMatch, Member, holds, every_item, each_of, every_member, exactly_one, every_part, excludes_key, matches_of, member_named, has_each, are_members, has_members, must_have, has_member, has_members_with, tag_member, tagged_fields, field_named, field_member, has_payload, has_variant, internal_choice, external_choice, is_tagged_map, shape_choices, has_shape}
 use Rattle.schemars_shapes.specs.Shape as shape
-use Rattle.schemars_shapes.specs.Shape.{Shape, Field, Flattened, Fields, Tagging, by_name, by_nothing, by_tag, by_tag_and_content, Payload, Variant, no_payload, newtype_payload, tuple_payload, struct_payload, flattened_rows, payload_flattened, payload_same, payload_same_by, of_variants, same_value_numbers, flattened_numbers}
-use Rattle.schemars_types.specs.KeyOptions.{KeyOptions, is_key_allowed}
-use Rattle.schemars_types.specs.Effective.{flattened_enums, enum_at, expanded_fields, expanded_payload, expanded_variant, expanded_shape}
 use Rattle.schemars_types.specs.declared.contract.Contract.{Contract}
-use Rattle.schemars_types.specs.Meaning.{VariantMatch, Member, holds, every_item, each_of, every_member, exactly_one, every_part, excludes_key, matches_of, member_named, has_each, are_members, has_members, must_have, has_member, has_members_with, is_text, tag_member, tagged_fields, field_named, field_member, has_payload, has_variant, internal_choice, external_choice, is_tagged_map, shape_choices, has_shape}
+use Rattle.schemars_types.specs.Meaning.{is_text}
 
 -- ---- items and members
 

@@ -1,12 +1,7 @@
 -- In a plain table a flattened struct has the document of a map with its fields, and null can be added to each document.
 use Rattle.std.proofs.Common.{◌≡◌, inl, inr, ℕ, zero, suc, List, [], ◌∷◌, Option, Some, None, Bool, false, refl, sym, ap, ◌∙◌, subst, arith}
-use Rattle.schemars_meaning.proofs.Words.{is_some, ◌&&◌, option_map_or, Data, Text, Dialect, allow_null, IsReady, Field, Flattened, Fields, Shape, Entry, entry_at, effective, flattened_in, part_enums, shape_fields, flattened_part, annotated, required_names, ArePlainParts, IsPlainEntry, Basis, Ask, asks_of, filled, struct_template, IsOwnDocument, IsAnswered, IsWritten}
-use Rattle.schemars_builders.specs.NullLaw.{IsDraft, AcceptsNullToo}
-use Rattle.schemars_builders.proofs.Nulls.{ready-law}
-use Rattle.schemars_types.specs.Edges.{option_at}
-use Rattle.schemars_types.specs.Effective.{part_fields, fields_within}
-use Rattle.schemars_documents.specs.PlainTable.{IsOpenStruct, IsPlainTable}
-use Rattle.schemars_documents.proofs.OpenStructs.{bare, part_same, parts_apart}
+use Rattle.schemars_meaning.proofs.Words.{is_some, ◌&&◌, option_map_or, Data, Text, Dialect, allow_null, IsReady, Field, Flattened, Fields, Shape, Entry, entry_at, effective, flattened_in, part_enums, shape_fields, flattened_part, annotated, required_names, ArePlainParts, IsPlainEntry, Basis, Ask, asks_of, filled, template_of, struct_template, IsOwnDocument, IsAnswered, IsWritten, IsDraft, AcceptsNullToo, ready-law, option_at, part_fields, IsOpenStruct, IsPlainTable, bare, part_same, parts_apart}
+use Rattle.schemars_types.specs.Effective.{fields_within}
 use Rattle.schemars_documents.specs.Describes.{Describes}
 use Rattle.schemars_meaning.proofs.Spread.{field_keywords, IsFieldsDocument, AnswersFields}
 use Rattle.schemars_meaning.proofs.Flattening.{part-stays}
@@ -112,15 +107,14 @@ module _ (basis : Basis) (Refers : ℕ → Text → Type 0) (plain : IsPlainTabl
       → (t : Data) → IsOwnDocument (Answer basis Refers d) basis o t → IsReady t
   own_ready d ready None noted t is = absurd is
   own_ready d ready (Some e) noted t is =
-      let has = fields_at d in
-      let own = own_document (Answer basis Refers d) has basis (fields_down d) e t noted.2 is in
       let structs : (y : Fields) → ArePlainParts basis.rows y.flatten → (us : List Data)
       → Fit (Answer basis Refers d) (asks_of (struct_template basis.contract y)) us
       → IsReady (filled (struct_template basis.contract y) us) =
       λ y flat us fit. fields_ready (In basis Refers d) basis.contract _ y.closed _
-      (struct_fills (Answer basis Refers d) has basis.rows basis.contract (fields_down d) y flat us fit) in
-      rw own.2 (ready-annotated e.notes own.0 noted.0 (shape_ready (Answer basis Refers d) has basis (ArePlainParts basis.rows)
-      (parts_apart basis.rows) ready structs e.shape own.0 (flattened_in basis.rows) (part_enums basis.rows) noted.1 noted.2 own.1))
+      (struct_fills (Answer basis Refers d) (fields_at d) basis.rows basis.contract (fields_down d) y flat us fit) in
+      subst IsReady (sym is.is) (ready-annotated e.notes (filled (template_of basis e.shape) is.parts) noted.0
+      (shape_ready (Answer basis Refers d) basis (ArePlainParts basis.rows) (parts_apart basis.rows) ready structs
+      (flattened_in basis.rows) (part_enums basis.rows) e.shape noted.1 noted.2 is.parts is.answered))
 
   written_by : (d : ℕ) → ((j : ℕ) (t : Data) → Describes basis Refers d j t → IsReady t) → (j : ℕ) (t : Data) → In basis Refers d j t
       → IsReady t

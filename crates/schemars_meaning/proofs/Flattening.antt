@@ -1,15 +1,9 @@
 -- The documents of maps put into one another, and into the content of a tagged variant.
 use Rattle.std.proofs.Common.{◌≡◌, List, [], ◌∷◌, ◌++◌, Option, Some, None, Bool, true, false, refl, sym, ap, ◌∙◌, true≢false}
-use Rattle.schemars_meaning.proofs.Words.{◌&&◌, bytes_eq, codes, if◌then◌else◌, option_and_then, Data, string, array, object, no_items, Members, no_members, member, put, get, get_member, as_str, as_array, get_member-put, get_member-put_other, Text, replaced, removed, with_member, with_first, on_list, is_annotation, NoSchemas, differ, IsSorted, sorted-put, with_property, has_null_type, internally_tagged_variant, unit_variant, united_all, flattened, united_option, united_none, opened, unit_objects, first_as_objects, list_changed_at, units_as_objects, flattened_part, Keyword, type_alone}
-use Rattle.std.specs.Prelude.{option_map}
-use Rattle.schemars_schema.specs.Edits.{is_text}
-use Rattle.schemars_schema.proofs.SortedMembers.{same_members}
+use Rattle.schemars_meaning.proofs.Words.{◌&&◌, bytes_eq, codes, if◌then◌else◌, option_and_then, Data, string, array, object, no_items, Members, no_members, member, put, get, get_member, as_str, as_array, get_member-put, get_member-put_other, Text, replaced, removed, with_member, with_first, on_list, is_annotation, NoSchemas, differ, IsSorted, sorted-put, with_property, has_null_type, internally_tagged_variant, unit_variant, united_all, flattened, united_option, united_none, opened, unit_objects, first_as_objects, list_changed_at, units_as_objects, flattened_part, Keyword, type_alone, option_map, is_text, same_members, closed_where, is_joined, is_merged, moved_beside, either_option, same_object_place, opening, opened_here, has_type, with_units}
 use Rattle.schemars_walk.specs.Rewritten.{forms, in_keywords}
-use Rattle.schemars_builders.specs.Properties.{tagged, closed_where}
-use Rattle.schemars_flatten.specs.Flatten.{is_joined, is_merged, with_keywords, moved_beside}
-use Rattle.schemars_flatten.proofs.Lookups.{either_option}
-use Rattle.schemars_flatten.specs.Opening.{same_object_place, opening, opened_here, has_type}
-use Rattle.schemars_flatten.specs.Parts.{with_units}
+use Rattle.schemars_builders.specs.Properties.{tagged}
+use Rattle.schemars_flatten.specs.Flatten.{with_keywords}
 use Rattle.schemars_meaning.proofs.MapDocument.{map_document, noted_by, AllNotes}
 use Rattle.schemars_meaning.proofs.MapKeywords.{either_none, put_all-append, by_name, noted, noted_by-object, sorted-noted, noted-at, noted-beside, keywords, properties_there, required_there, closed_there, sorted-keywords, type-at, properties-at, required-at, closed-at, keyword-lacks, value_or, changed_at-here, changed_at-beside, sorted-changed_at, lacks-first, lacks-later, sorted-with_keywords, NoChoice, with_keywords-at, properties-united, required-united}
 

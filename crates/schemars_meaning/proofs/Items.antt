@@ -1,7 +1,6 @@
 -- The schemas of an enum's variants where the enum is flattened: maps that let further members in.
 use Rattle.std.proofs.Common.{◌≡◌, ◌<◌, List, [], ◌∷◌, ◌++◌, map, Option, Some, None, Bool, true, false, refl, sym, ap, ◌∙◌, subst, true≢false}
-use Rattle.schemars_meaning.proofs.Words.{bytes_eq-Decides, codes, bytes_eq, is_some, Data, object, string, Members, no_members, put, depth, get_member, get_member-put, get_member-put_other, Text, IsJson, IsSchema, put_all, AreNotes, verdict, Context, judge, opened, VariantMatch, member_choice, Keyword, annotated}
-use Rattle.schemars_types.specs.Meaning.{must_have}
+use Rattle.schemars_meaning.proofs.Words.{bytes_eq-Decides, codes, bytes_eq, is_some, Data, object, string, Members, no_members, put, depth, get_member, get_member-put, get_member-put_other, Text, IsJson, IsSchema, put_all, AreNotes, verdict, Context, judge, opened, VariantMatch, member_choice, Keyword, annotated, must_have, key}
 use Rattle.schemars_meaning.proofs.MapDocument.{map_document}
 use Rattle.schemars_meaning.proofs.MapKeywords.{noted, noted_by-object, keywords, closed_there}
 use Rattle.schemars_meaning.proofs.Named.{AreEntries}
@@ -12,7 +11,6 @@ use Rattle.schemars_meaning.proofs.StructMeans.{value_means, open_judges, names_
 use Rattle.schemars_meaning.proofs.SmallMaps.{found_one}
 use Rattle.schemars_meaning.proofs.Uniting.{IsForm, form-keywords, pair, rest, join}
 use Rattle.schemars_meaning.proofs.Opened.{no_parts, map_form, opened_form, opened_part, opened_one, opened_parts, Part_form}
-use Rattle.schemars_schema.specs.Acceptance.{key}
 
 module _ (c : Context) (on : c.dialect.reads_unevaluated ≡ true) where
   -- a map whose properties and required names say what is offered of v

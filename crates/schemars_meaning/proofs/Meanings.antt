@@ -1,85 +1,127 @@
 -- The documents of shapes into which nothing is flattened say what the shapes mean, and null can be added to each document.
-use Rattle.std.proofs.Common.{◌≡◌, ◌⊎◌, ℕ, zero, suc, ◌<◌, inl, inr, List, [], ◌∷◌, ◌++◌, Bool, true, false, refl, ◌∙◌}
-use Rattle.schemars_meaning.proofs.Words.{Data, depth, verdict, Text, IsJson, IsSchema, draft2020_12, Patterns, Judge, Context, judge, context2020_12, IsReady, ready-schema, key_options, Shape, Field, Flattened, Fields, VariantMatch, has_shape, Basis, unit_variant, IsPlainShape, parts_in, effective, Ask, part, asks_of, filled, struct_template, codes}
-use Rattle.schemars_builders.proofs.Nulls.{ready-law, ready-allow_null}
-use Rattle.schemars_meaning.proofs.Ready.{int_ready, non_zero_ready, bytes_ready, map_ready, tuple_ready, one_of_ready, fields_ready}
-use Rattle.schemars_meaning.proofs.Enums.{IsNewtypeIn, external_ready, untagged_ready, internal_ready, adjacent_ready}
+use Rattle.std.proofs.Common.{◌≡◌, ◌⊎◌, ℕ, ◌<◌, inl, inr, List, [], ◌∷◌, ◌++◌, map, Bool, true, false, refl, sym, ◌∙◌, subst}
+use Rattle.schemars_meaning.proofs.Words.{AllByRecursion, ArePlainVariants, KeywordTemplate, Template, expanded_variant, filled_in, first, map_template, payload_parts, row, asks_in, template_of, templates_of, text_items, variant_parts, Data, depth, verdict, Text, IsJson, IsSchema, draft2020_12, Patterns, Judge, Context, judge, context2020_12, IsReady, ready-schema, key_options, Shape, Field, Flattened, Fields, VariantMatch, has_shape, Basis, IsPlainShape, parts_in, Ask, part, asks_of, filled, struct_template, codes, AreReady, ready-law, ready-allow_null, expanded_shape, title_alone, literal_is_schema, literal_judged, literal_ready, literal_document-schema}
+use Rattle.schemars_meaning.proofs.Ready.{int_ready, non_zero_ready, bytes_ready, map_ready, tuple_ready, one_of_ready, any_of_ready, units_ready}
+use Rattle.schemars_meaning.proofs.Notes.{ready-annotated}
+use Rattle.schemars_meaning.proofs.Enums.{IsNewtypeIn, title_noted}
+use Rattle.schemars_meaning.proofs.ShapeInduction.{Claim, Documents, Law, IsBeside, AreBeside, beside_halves, plain_variants, shape_holds}
 use Rattle.schemars_meaning.proofs.Keyed.{values_ready, values_say}
 use Rattle.schemars_shapes.specs.Shape as shape
 use Rattle.schemars_types.specs.declared.contract.Contract.{Contract}
-use Rattle.schemars_meaning.proofs.ByShape.{IsDocument, member_document}
-use Rattle.schemars_types.specs.Effective.{expanded_shape}
-use Rattle.schemars_meaning.proofs.Filling.{Fit}
+use Rattle.schemars_meaning.proofs.ByShape.{IsDocument, tuple_fills}
+use Rattle.schemars_meaning.proofs.Filling.{Fit, without_end, all_filled}
 use Rattle.schemars_meaning.proofs.EachShape.{bytes_say, schema_says, null_says, bool_says, number_says, text_says, formatted_says, char_says, any_says, seq_says, set_says, array_says, up_to_says, tuple_says, int_says, non_zero_says}
-use Rattle.schemars_schema.proofs.Literals.{literal_is_schema, literal_judged}
-use Rattle.schemars_builders.proofs.LiteralNulls.{literal_ready}
-use Rattle.schemars_documents.proofs.Literals.{literal_document-schema}
 use Rattle.schemars_meaning.proofs.Choices.{result_says, bound_says, range_says, either_says}
 
 -- ---- null can be added to each document
 
+are_ready : (ts : List Data) → AllByRecursion IsReady ts → AreReady ts
+are_ready [] h = tt
+are_ready (t ∷ ts) h = (h.0, are_ready ts h.1)
+
 -- `Under` says what may be flattened, so that null can be added to the document of a struct; the names of fields are of no matter here
-module _ (A : Ask → Data → Type 0) (has : Flattened → List Field) (basis : Basis) (Under : List Flattened → Type 0)
+module _ (A : Ask → Data → Type 0) (basis : Basis) (Under : List Flattened → Type 0)
     (apart : (ps qs : List Flattened) → Under (ps ++ qs) → Under ps × Under qs)
     (ready : (j : ℕ) (t : Data) → A (part j) t → IsReady t)
     (structs : (y : Fields) → Under y.flatten → (us : List Data) → Fit A (asks_of (struct_template basis.contract y)) us
     → IsReady (filled (struct_template basis.contract y) us)) where
-  pub shape_ready : (kind : Shape) (s : Data) (others : Flattened → List Field) (enums : Flattened → List ℕ)
-      → IsPlainShape (expanded_shape others enums kind) → Under (parts_in kind) → IsDocument A has basis kind s → IsReady s
-  shape_ready shape.null s others enums p flat is =
-      rw is (inr (record { alone = refl; type_form = refl; values = inl refl; not_form = inl refl }))
-  shape_ready shape.bool s others enums p flat is =
-      rw is (inr (record { alone = refl; type_form = refl; values = inl refl; not_form = inl refl }))
-  shape_ready (shape.int k) s others enums p flat is = rw is (int_ready k)
-  shape_ready (shape.non_zero k) s others enums p flat is = rw is (non_zero_ready k)
-  shape_ready shape.number s others enums p flat is =
-      rw is (inr (record { alone = refl; type_form = refl; values = inl refl; not_form = inl refl }))
-  shape_ready shape.text s others enums p flat is =
-      rw is (inr (record { alone = refl; type_form = refl; values = inl refl; not_form = inl refl }))
-  shape_ready shape.char s others enums p flat is =
-      rw is (inr (record { alone = refl; type_form = refl; values = inl refl; not_form = inl refl }))
-  shape_ready (shape.formatted f) s others enums p flat is =
-      rw is (inr (record { alone = refl; type_form = refl; values = inl refl; not_form = inl refl }))
-  shape_ready shape.any s others enums p flat is = rw is tt
-  shape_ready shape.bytes s others enums p flat is = rw is (bytes_ready basis.contract)
-  shape_ready shape.schema_itself s others enums p flat is = rw is (inr (record {
-    alone = refl;
-    type_form = (codes "object" ∷ codes "boolean" ∷ [], refl, refl);
-    values = inl refl;
-    not_form = inl refl;
-  }))
-  shape_ready (shape.option n) s others enums p flat is = rw is.2 (ready-allow_null is.0 (ready n is.0 is.1))
-  shape_ready (shape.struct x) s others enums p flat is = fields_ready (λ j. A (part j)) basis.contract (effective has x) x.closed s is
-  shape_ready (shape.newtype n) s others enums p flat is = ready n s is
-  shape_ready (shape.seq n) s others enums p flat is =
-      rw is.2 (inr (record { alone = refl; type_form = refl; values = inl refl; not_form = inl refl }))
-  shape_ready (shape.set n) s others enums p flat is =
-      rw is.2 (inr (record { alone = refl; type_form = refl; values = inl refl; not_form = inl refl }))
-  shape_ready (shape.array n zero) s others enums p flat is =
-      rw is (inr (record { alone = refl; type_form = refl; values = inl refl; not_form = inl refl }))
-  shape_ready (shape.array n (suc len)) s others enums p flat is = rw is.2 (inr (record
-      { alone = refl; type_form = refl; values = inl refl; not_form = inl refl }))
-  shape_ready (shape.up_to n cap) s others enums p flat is =
-      rw is.2 (inr (record { alone = refl; type_form = refl; values = inl refl; not_form = inl refl }))
-  shape_ready (shape.tuple ns) s others enums p flat is = rw is.2 (tuple_ready is.0)
-  shape_ready (shape.result a b) s others enums p flat is =
-      one_of_ready (member_document false (codes "Ok") is.0 ∷ member_document false (codes "Err") is.1 ∷ []) s is.4
-  shape_ready (shape.bound n) s others enums p flat is =
-      one_of_ready (member_document false (codes "Included") is.0 ∷ member_document false (codes "Excluded") is.1
-      ∷ unit_variant (codes "Unbounded") ∷ []) s is.4
-  shape_ready (shape.range n) s others enums p flat is =
-      rw is.4 (map_ready ((codes "start", is.0) ∷ (codes "end", is.1) ∷ []) (codes "start" ∷ codes "end" ∷ []) false)
-  shape_ready (shape.either a b) s others enums p flat is =
-      one_of_ready (member_document true (codes "Left") is.0 ∷ member_document true (codes "Right") is.1 ∷ []) s is.4
-  shape_ready (shape.map_from key value) s others enums p flat is = rw is.is (values_ready (key_options basis.rows key) value is.parts)
-  shape_ready (shape.enum shape.by_name xs) s others enums p flat is = rw is.is (external_ready basis.contract xs is.parts)
-  shape_ready (shape.enum shape.by_nothing xs) s others enums p flat is =
-      rw is.is (untagged_ready A basis Under apart ready structs xs others enums p flat is.parts is.answered)
-  shape_ready (shape.enum (shape.by_tag tag closed) xs) s others enums p flat is = rw is.is (internal_ready basis.contract tag closed xs is.parts)
-  shape_ready (shape.enum (shape.by_tag_and_content tag key closed) xs) s others enums p flat is =
-      rw is.is (adjacent_ready basis.contract tag key closed xs is.parts)
-  shape_ready (shape.literal d) s others enums p flat is =
-      rw (is ∙ literal_document-schema d (literal_is_schema d p)) (literal_ready d p)
+  -- whatever fills it
+  abbrev Makes : Template → Type 0
+  Makes t = (us : List Data) → Fit A (asks_of t) us → IsReady (filled t us)
+
+  -- null is added beside `oneOf`, whatever stands there
+  abbrev claim : Claim
+  claim = record {
+    holds = Makes;
+    inside = Makes;
+    chosen = λ t. Unit {0};
+    names = λ ks. Unit {0};
+    inner = λ t h. h;
+    choice = λ t h. tt;
+  }
+
+  row_ready : (n : ℕ) → Makes (row n)
+  row_ready n [] fit = absurd fit
+  row_ready n (t ∷ us) fit = ready n t fit.0
+
+  maps_ready : (es : List KeywordTemplate) (ks : List Text) (closed : Bool) (us : List Data)
+      → IsReady (filled (map_template es (text_items ks) closed) us)
+  maps_ready [] [] false us = map_ready [] [] false
+  maps_ready [] [] true us = map_ready [] [] true
+  maps_ready [] (k ∷ ks) false us = map_ready [] (k ∷ ks) false
+  maps_ready [] (k ∷ ks) true us = map_ready [] (k ∷ ks) true
+  maps_ready (e ∷ es) [] false us = inr (record { alone = refl; type_form = refl; values = inl refl; not_form = inl refl })
+  maps_ready (e ∷ es) [] true us = inr (record { alone = refl; type_form = refl; values = inl refl; not_form = inl refl })
+  maps_ready (e ∷ es) (k ∷ ks) false us =
+      inr (record { alone = refl; type_form = refl; values = inl refl; not_form = inl refl })
+  maps_ready (e ∷ es) (k ∷ ks) true us =
+      inr (record { alone = refl; type_form = refl; values = inl refl; not_form = inl refl })
+
+  documents : Documents claim
+  documents = record {
+    type_of = λ name is us fit. inr (record { alone = refl; type_form = is; values = inl refl; not_form = inl refl });
+    int = λ kind us fit. int_ready kind;
+    non_zero = λ kind us fit. non_zero_ready kind;
+    char = λ us fit. inr (record { alone = refl; type_form = refl; values = inl refl; not_form = inl refl });
+    formatted = λ format us fit.
+        inr (record { alone = refl; type_form = refl; values = inl refl; not_form = inl refl });
+    truth = λ b us fit. tt;
+    bytes = λ contract us fit. bytes_ready contract;
+    schema_itself = λ us fit. inr (record {
+      alone = refl;
+      type_form = (codes "object" ∷ codes "boolean" ∷ [], refl, refl);
+      values = inl refl;
+      not_form = inl refl;
+    });
+    empty_list = λ us fit. inr (record { alone = refl; type_form = refl; values = inl refl; not_form = inl refl });
+    unit = λ name us fit. inr (record { alone = refl; type_form = refl; values = inr (refl, refl); not_form = inl refl });
+    units = λ ks us fit. units_ready ks;
+    seq = λ n h us fit. inr (record { alone = refl; type_form = refl; values = inl refl; not_form = inl refl });
+    set = λ n h us fit. inr (record { alone = refl; type_form = refl; values = inl refl; not_form = inl refl });
+    array = λ n len h us fit.
+        inr (record { alone = refl; type_form = refl; values = inl refl; not_form = inl refl });
+    up_to = λ n most h us fit.
+        inr (record { alone = refl; type_form = refl; values = inl refl; not_form = inl refl });
+    tuple = λ ns h us fit. let d = tuple_fills A ns us fit in subst IsReady (sym d.2) (tuple_ready d.0);
+    one_of = λ ts h us fit. one_of_ready (filled_in (templates_of ts) us) _ refl;
+    any_of = λ ts h us fit. any_of_ready (filled_in (templates_of ts) us)
+        (are_ready _ (all_filled A IsReady ts h us (without_end A (asks_in (templates_of ts)) us fit)));
+    maps = λ es ks closed h apart us fit. maps_ready es ks closed us;
+    values = λ options value apart h us fit. values_ready options value us;
+    apart = λ ks h. tt;
+  }
+
+  module _ (others : Flattened → List Field) (enums : Flattened → List ℕ) where
+    ready_law : Law basis
+    ready_law = record {
+      claim = claim;
+      documents = documents;
+      of_shape = λ kind. IsPlainShape (expanded_shape others enums kind) × Under (parts_in kind);
+      of_variants = λ tagging xs.
+          ArePlainVariants (map (expanded_variant others enums) xs) × AreBeside others enums tagging xs × Under (variant_parts xs);
+      of_payload = λ tagging p. IsBeside others enums tagging p × Under (payload_parts p);
+      rows = λ kind m h is. row_ready m;
+      option = λ n h us fit. ready-allow_null (first us) (h us fit);
+      struct = λ x h. structs x h.1;
+      variants = λ tagging xs h. let own = plain_variants others enums tagging xs h.0 in (own.0, own.1, h.1);
+      literal = λ d h us fit. rw (literal_document-schema d (literal_is_schema d h.0)) (literal_ready d h.0);
+      payload = λ tagging x xs h.
+          ((beside_halves others enums tagging x xs h.1).0, (apart (payload_parts x.payload) (variant_parts xs) h.2).0);
+      notes = λ tagging x xs h t is us fit. ready-annotated x.notes (filled t us) h.0.0 (is us fit);
+      later = λ tagging x xs h.
+          (h.0.2, (beside_halves others enums tagging x xs h.1).1, (apart (payload_parts x.payload) (variant_parts xs) h.2).1);
+      title = λ name t is us fit. ready-annotated (title_alone name) (filled t us) (title_noted name) (is us fit);
+      payload_rows = λ tagging p m h is. row_ready m;
+      payload_struct = λ tagging x h. structs x h.1;
+      content_row = λ tag closed n h. absurd h.0;
+      tag = λ tag closed x xs h is. tt;
+      beside = λ tag key closed p h. tt;
+    }
+
+    pub shape_ready : (kind : Shape) → IsPlainShape (expanded_shape others enums kind) → Under (parts_in kind)
+        → Makes (template_of basis kind)
+    unfolding ready_law
+    shape_ready kind p flat = shape_holds basis ready_law kind (p, flat)
 
 -- ---- one shape
 

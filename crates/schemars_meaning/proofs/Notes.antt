@@ -1,17 +1,7 @@
 -- Notes say nothing of a value, and leave a schema one to which null can be added.
 use Rattle.std.proofs.Common.{◌≡◌, inl, inr, List, [], ◌∷◌, Option, Some, None, Bool, true, false, refl, sym, ap, ◌∙◌, true≢false}
-use Rattle.schemars_meaning.proofs.Words.{codes, is_some, bytes_eq, option_and_then, if◌then◌else◌, bytes_eq-Decides, Data, boolean, string, object, Members, no_members, member, put, get_member, as_str, get_member-put, Text, put_members, IsSchema, members_in, Context, Patterns, Judge, judge, verdict, is_annotation, AreNotes, without, context2020_12, IsReady, annotated}
-use Rattle.schemars_schema.specs.Acceptance.{Part, key, position, read_data, all_keywords}
-use Rattle.schemars_schema.proofs.Objects.{judge-put}
-use Rattle.schemars_schema.proofs.Literals.{judge-put_members}
-use Rattle.schemars_schema.proofs.Members.{without-put}
-use Rattle.schemars_schema.specs.Verdict.{Yes, No}
-use Rattle.schemars_schema.proofs.Silent.{items_none, const_none, unevaluated_none}
-use Rattle.schemars_schema.specs.Edits.{is_text}
-use Rattle.schemars_builders.specs.AllowNull.{is_null_choice}
-use Rattle.schemars_builders.specs.NullLaw.{HasPlainValues}
-use Rattle.schemars_builders.proofs.NullMembers.{choice_key}
-use Rattle.schemars_documents.specs.Documents.{with_title, with_meta_schema, root_document}
+use Rattle.schemars_meaning.proofs.Words.{codes, is_some, bytes_eq, option_and_then, if◌then◌else◌, bytes_eq-Decides, Data, boolean, string, object, Members, no_members, member, put, get_member, as_str, get_member-put, Text, put_members, IsSchema, members_in, Context, Patterns, Judge, judge, verdict, is_annotation, AreNotes, without, context2020_12, IsReady, annotated, Part, key, position, judge-put, judge-put_members, without-put, Yes, No, items_none, const_none, unevaluated_none, is_text, is_null_choice, HasPlainValues, choice_key, with_title, with_meta_schema, root_document}
+use Rattle.schemars_schema.specs.Acceptance.{read_data, all_keywords}
 use Rattle.schemars_meaning.proofs.MapDocument.{noted_by, AllNotes}
 use Rattle.schemars_meaning.proofs.MapKeywords.{put_members-beside}
 

@@ -1,7 +1,6 @@
 -- What rows answer where they are flattened: structs with their enums, and enums whose variants are maps.
 use Rattle.std.proofs.Common.{◌≡◌, ℕ, List, [], ◌∷◌, ◌++◌, map, Option, Some, None, Bool, true, false, option_map, refl, sym, ap, ◌∙◌, subst}
-use Rattle.schemars_meaning.proofs.Words.{codes, if◌then◌else◌, option_and_then, Data, array, object, string, Members, no_members, member, get, get_member, as_str, as_array, items_of, Text, is_annotation, AreNotes, Context, opened, flattened_part, unit_objects, list_changed_at, Field, annotated, required_names, VariantMatch, every_part, is_key_of_match, without, on_list, removed, replaced, get_member-later, get_member-without, sorted-without, flattened}
-use Rattle.schemars_flatten.specs.Parts.{units_of, first_units, optional, choice_or_anything, with_empty_object, one_or_anything}
+use Rattle.schemars_meaning.proofs.Words.{codes, if◌then◌else◌, option_and_then, Data, array, object, string, Members, no_members, member, get, get_member, as_str, as_array, items_of, Text, is_annotation, AreNotes, Context, opened, flattened_part, unit_objects, list_changed_at, Field, annotated, required_names, VariantMatch, every_part, is_key_of_match, without, on_list, removed, replaced, get_member-later, get_member-without, sorted-without, flattened, units_of, first_units, optional, choice_or_anything, with_empty_object, one_or_anything, is_text}
 use Rattle.schemars_types.specs.declared.contract.Contract.{Contract}
 use Rattle.schemars_meaning.proofs.MapKeywords.{noted, noted_by-object, noted-beside, sorted-noted, closed_there, required_there, properties_there}
 use Rattle.schemars_meaning.proofs.MapForm.{look_up}
@@ -13,7 +12,6 @@ use Rattle.schemars_meaning.proofs.Items.{IsItem, AnyItems, any_items, opened_an
 use Rattle.schemars_meaning.proofs.Spread.{field_keywords, AreWritten}
 use Rattle.schemars_meaning.proofs.StructDocuments.{IsStruct, IsPart, HasNoUnits, part_form, units_missing}
 use Rattle.schemars_meaning.proofs.Joining.{without-here}
-use Rattle.schemars_schema.specs.Edits.{is_text}
 
 -- where there is no choice, nothing but `required` goes
 optional_same : (xs : Members) → get_member (codes "oneOf") xs ≡ None → get_member (codes "anyOf") xs ≡ None

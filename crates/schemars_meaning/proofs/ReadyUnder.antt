@@ -1,11 +1,9 @@
 -- Null can be added to each document of a table that is plain under its contract.
 use Rattle.std.proofs.Common.{inl, inr, ℕ, zero, suc, ◌<◌, List, Option, Some, None, refl, sym, subst, arith}
 use Rattle.schemars_meaning.proofs.Words.{Data, null, Text, Patterns, Judge, context2020_12, IsReady, Fields, Shape, Entry, entry_at, flattened_in, part_enums, expanded_shape_in, IsPlainShape, ArePartsUnder, IsEntryUnder, parts_in, Basis, Ask, asks_of, filled, struct_template, template_of, Fills, IsOwnDocument, IsAnswered, IsWritten}
-use Rattle.schemars_shapes.specs.Shape as shape
 use Rattle.schemars_documents.specs.Describes.{Describes}
 use Rattle.schemars_meaning.proofs.Filling.{Fit}
 use Rattle.schemars_meaning.proofs.Notes.{ready-annotated}
-use Rattle.schemars_meaning.proofs.ByShape.{others_fill}
 use Rattle.schemars_meaning.proofs.Meanings.{shape_ready}
 use Rattle.schemars_meaning.proofs.Ready.{reference_ready}
 use Rattle.schemars_meaning.proofs.StructReady.{map_with_parts_ready}
@@ -35,10 +33,9 @@ module _ (patterns : Patterns) (f : Text → Judge) (basis : Basis) (Refers : �
 
   pub bare_ready : (d : ℕ) → ((j : ℕ) (t : Data) → In d j t → IsReady t) → (kind : Shape) (s : Data) → IsPlainShape (expanded_shape_in rows kind)
       → ArePartsUnder contract rows (parts_in kind) → Fills (Answer d) (template_of basis kind) s → IsReady s
-  bare_ready d ready (shape.struct x) s fine under h = subst IsReady (sym h.is) (structs d x under h.parts h.answered)
   bare_ready d ready kind s fine under h =
-      shape_ready (Answer d) (flattened_in rows) basis (ArePartsUnder contract rows) (under_apart contract rows) ready (structs d) kind s
-      (flattened_in rows) (part_enums rows) fine under (others_fill (Answer d) (flattened_in rows) basis kind s h.parts tt h.answered h.is)
+      subst IsReady (sym h.is) (shape_ready (Answer d) basis (ArePartsUnder contract rows) (under_apart contract rows) ready (structs d)
+      (flattened_in rows) (part_enums rows) kind fine under h.parts h.answered)
 
   own_ready : (d : ℕ) → ((j : ℕ) (t : Data) → In d j t → IsReady t) → (o : Option Entry) → IsEntryUnder contract rows o
       → (t : Data) → IsOwnDocument (Answer d) basis o t → IsReady t

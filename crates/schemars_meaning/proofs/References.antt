@@ -1,26 +1,10 @@
 -- The references of the document of each shape are those of its answers.
-use Rattle.std.proofs.Common.{◌≡◌, ℕ, zero, suc, List, [], ◌∷◌, ◌++◌, map, Bool, true, false, Option, Some, None, refl, sym, ap, ◌∙◌, subst, Contains, append-nil, ℤ, pos}
-use Rattle.schemars_meaning.proofs.Words.{All, AllByRecursion, codes, bytes_eq, map-append, Data, Text, NoSchemas, finished, list, IsSchema, object_of, references, text_items, Shape, Field, Flattened, Fields, Entry, Payload, Variant, no_payload, newtype_payload, tuple_payload, struct_payload, is_bare_unit, Row, is_required, flattened_fields, effective, flattened_in, part_enums, expanded_payload, expanded_variant, expanded_shape_in, KeyOptions, keys, key_options, required_names, bytes_document, AreDistinct, AreNoted, IsPlainShape, IsPlainEntry, IsPlainPayload, ArePlainVariants, AreTagged, IsTagged, payload_parts, variant_parts, parts_in, ArePlainParts, Basis, Template, Ask, members_of, asked, row, noted, Templates, asks_of, filled, KeywordTemplate, templates_of, property, map_template, template_of, entry_template, member_template, payload_template, named_template, bare_units, other_items, choice_of, payload_item, titled, fields_template, with_flattened, struct_template, content_template, values_of, all_patterns, tuple_template, pattern_properties_at, properties_at, values_template, untagged_template, internal_item, internal_template, said, whole_template, adjacent_payload, adjacent_item, adjacent_template, AreAnswered, references_of, flipped, unit_variant}
-use Rattle.std.proofs.lemmas.List.Elements.{All-contains, All-contains_itself}
-use Rattle.schemars_schema.specs.References.{Place, SchemaList, SchemasByName, place_under, found_in}
-use Rattle.schemars_schema.proofs.Literals.{literal_is_schema, literal_refers_nowhere}
-use Rattle.schemars_builders.specs.NullLaw.{zero_schema}
+use Rattle.std.proofs.Common.{◌≡◌, ℕ, List, [], ◌∷◌, ◌++◌, map, Bool, false, Some, refl, sym, ap, ◌∙◌, subst, Contains, append-nil}
+use Rattle.schemars_meaning.proofs.Words.{All, AllByRecursion, codes, bytes_eq, map-append, Data, Text, NoSchemas, finished, list, IsSchema, references, Shape, Field, Flattened, Fields, Entry, Payload, Variant, no_payload, newtype_payload, tuple_payload, struct_payload, Row, is_required, flattened_fields, effective, flattened_in, part_enums, expanded_payload, expanded_variant, expanded_shape_in, required_names, AreDistinct, AreNoted, IsPlainShape, IsPlainEntry, IsPlainPayload, ArePlainVariants, payload_parts, variant_parts, parts_in, ArePlainParts, Basis, Template, Ask, members_of, asked, Templates, asks_of, filled, KeywordTemplate, templates_of, property, template_of, entry_template, fields_template, with_flattened, struct_template, content_template, AreAnswered, references_of, flipped, All-contains, All-contains_itself, Place, SchemaList, SchemasByName, place_under, literal_is_schema, literal_refers_nowhere, Tagging, AreNotedVariants, IsNotedShape, IsNotedPayload, IsNotedThroughout, with_keywords, tagged, object_with, literal_document-schema}
+use Rattle.schemars_schema.specs.References.{found_in}
 use Rattle.schemars_shapes.specs.Shape as shape
-use Rattle.schemars_shapes.specs.Shape.{Tagging}
-use Rattle.schemars_shapes.specs.IntKind.{format_of}
-use Rattle.schemars_shapes.specs.declared.shape.IntegerKeys.{IntegerKeys}
-use Rattle.schemars_shapes.specs.IntegerKeys.{pattern_of}
-use Rattle.schemars_types.specs.declared.contract.Contract.{Contract}
-use Rattle.schemars_types.specs.declared.contract.Contract.TheVariants.{Deserialize, Serialize}
-use Rattle.schemars_types.specs.Meaning.{least_of, greatest_of}
-use Rattle.schemars_types.specs.KeyOptions.{or_any_text, all_options, distinct_options, once}
-use Rattle.schemars_documents.specs.Documents.{int_keywords, is_signed}
-use Rattle.schemars_documents.specs.PlainTable.{AreNotedVariants, IsNotedShape, IsNotedPayload, IsNotedThroughout}
-use Rattle.schemars_documents.specs.Template.{with_keywords, tagged}
-use Rattle.schemars_documents.specs.OfShape.{object_with, typed_template, other_values}
-use Rattle.schemars_documents.proofs.Literals.{literal_document-schema}
 use Rattle.schemars_meaning.proofs.Spread.{AnswersFields}
-use Rattle.schemars_meaning.proofs.ReferencesKept.{Among, among_left, among_right, IsNoKey, AreApart, apart-filter, others_apart}
+use Rattle.schemars_meaning.proofs.ReferencesKept.{Among, among_left, among_right, AreApart}
 use Rattle.schemars_meaning.proofs.Schemas.{AreSchemas}
 use Rattle.schemars_meaning.proofs.SpreadMaps.{answered_left, IsMapAt, map_keeps, map_holds, part_holds, tag_holds, struct_holds, names_in, more_names, names_apart, tag_apart, apart-first}
 use Rattle.schemars_meaning.proofs.NodeReferences.{StandsAt, AsSchema, AsList, AsNamed, AreItems, AreNamed, AreAtKeys, refers_schema, kept_schema}

@@ -1,10 +1,7 @@
 -- What is filled with schemas is a schema, and so is what describes a row.
-use Rattle.std.proofs.Common.{ℕ, zero, suc, List, [], ◌∷◌, Bool, true, false}
-use Rattle.schemars_meaning.proofs.Words.{AllByRecursion, if◌then◌else◌, Data, boolean, Text, IsSchema, Shape, Flattened, Entry, Variant, is_required, KeyOptions, keys, key_options, Basis, Template, members_of, finished, asked, list, members, nullable, noted, left, filled, template_of, entry_template, values_template, with_flattened, fields_template, bare_units, other_items, choice_of, untagged_template, internal_template, adjacent_template, IsWritten, Describes}
+use Rattle.std.proofs.Common.{ℕ, List}
+use Rattle.schemars_meaning.proofs.Words.{AllByRecursion, Data, boolean, Text, IsSchema, Shape, Entry, Basis, Template, finished, asked, list, members, nullable, noted, left, filled, template_of, entry_template, IsWritten, Describes}
 use Rattle.schemars_flatten.proofs.Schemas.{flattened-schema, flattened_part-schema, opened_inside-schema}
-use Rattle.schemars_shapes.specs.Shape as shape
-use Rattle.schemars_types.specs.declared.contract.Contract.{Contract}
-use Rattle.schemars_documents.specs.Documents.{is_signed}
 use Rattle.schemars_documents.specs.Template.{with_keywords, tagged}
 use Rattle.schemars_documents.specs.OfShape.{literal_document}
 use Rattle.schemars_meaning.proofs.Notes.{annotated-schema}

@@ -1,14 +1,9 @@
 -- What holds of the template of every shape, where it holds of each way that templates are put together.
 use Rattle.std.proofs.Common.{◌≡◌, ℕ, zero, suc, List, [], ◌∷◌, map, Bool, true, false, refl, arith, Contains}
-use Rattle.schemars_meaning.proofs.Words.{AllByRecursion, codes, bytes_eq, not, if◌then◌else◌, Data, boolean, Text, text_items, unit_variant, Shape, Field, Flattened, Fields, Payload, Variant, no_payload, newtype_payload, tuple_payload, struct_payload, is_bare_unit, expanded_payload, expanded_variant, KeyOptions, keys, key_options, type_alone, int_document, non_zero_document, bytes_document, ArePlainVariants, AreTagged, IsPlainShape, IsTagged, Basis, Template, content, finished, asked, row, nullable, noted, KeywordTemplate, map_template, member_template, struct_template, tuple_template, payload_template, named_template, content_template, bare_units, other_items, choice_of, titled, payload_item, untagged_template, internal_item, internal_template, said, whole_template, adjacent_payload, adjacent_item, adjacent_template, values_template, template_of}
+use Rattle.schemars_meaning.proofs.Words.{AllByRecursion, codes, bytes_eq, not, if◌then◌else◌, Data, boolean, Text, text_items, unit_variant, Shape, Field, Flattened, Fields, Payload, Variant, no_payload, newtype_payload, tuple_payload, struct_payload, is_bare_unit, expanded_payload, expanded_variant, KeyOptions, keys, key_options, type_alone, int_document, non_zero_document, bytes_document, ArePlainVariants, AreTagged, IsPlainShape, IsTagged, Basis, Template, content, finished, asked, row, nullable, noted, KeywordTemplate, map_template, member_template, struct_template, tuple_template, payload_template, named_template, content_template, bare_units, other_items, choice_of, titled, payload_item, untagged_template, internal_item, internal_template, said, whole_template, adjacent_payload, adjacent_item, adjacent_template, values_template, template_of, is_listed, type_names, Tagging, numbers_of, payload_numbers, expanded_shape, or_any_text, all_options, distinct_options, once, char_document, formatted_document, empty_list_document, schema_document, exactly, list_template, set_template, up_to_template, units_template, one_of_template, any_of_template, title_alone, literal_document}
 use Rattle.schemars_shapes.specs.Shape as shape
-use Rattle.schemars_shapes.specs.Shape.{Tagging, numbers_of, payload_numbers}
 use Rattle.schemars_shapes.specs.declared.shape.IntKind.{IntKind}
 use Rattle.schemars_types.specs.declared.contract.Contract.{Contract}
-use Rattle.schemars_types.specs.Effective.{expanded_shape}
-use Rattle.schemars_types.specs.KeyOptions.{or_any_text, all_options, distinct_options, once}
-use Rattle.schemars_documents.specs.Documents.{char_document, formatted_document, empty_list_document, schema_document}
-use Rattle.schemars_documents.specs.OfShape.{exactly, list_template, set_template, up_to_template, units_template, one_of_template, any_of_template, title_alone, literal_document}
 use Rattle.schemars_meaning.proofs.ReferencesKept.{AreApart, apart-filter, others_apart}
 
 -- ---- what is shown
@@ -34,6 +29,9 @@ of_each Holds = record {
   choice = λ t h. h;
 }
 
+pub chosen_by : (c : Claim) (t : Template) → c.holds t → c.chosen t
+chosen_by c t h = c.choice t (c.inner t h)
+
 -- the texts among options are all different, and so are the patterns
 abbrev pub AreKeysApart : KeyOptions → Type 0
 AreKeysApart (keys others texts integers ps) = AreApart texts × AreApart ps
@@ -45,7 +43,7 @@ names_of es = map (λ e. e.0) es
 
 -- It holds of the documents that templates are put together as, where it holds of their parts.
 pub record Documents (c : Claim) : Type 0 where
-  pub type_of : (name : Text) → c.holds (finished (type_alone name))
+  pub type_of : (name : Text) → is_listed name type_names ≡ true → c.holds (finished (type_alone name))
   pub int : (kind : IntKind) → c.holds (finished (int_document kind))
   pub non_zero : (kind : IntKind) → c.holds (finished (non_zero_document kind))
   pub char : c.holds (finished char_document)
@@ -90,8 +88,10 @@ pub record Law (basis : Basis) : Type 1 where
   pub later : (tagging : Tagging) (x : Variant) (xs : List Variant) → of_variants tagging (x ∷ xs) → of_variants tagging xs
   pub title : (name : Text) (t : Template) → claim.inside t → claim.inside (noted (title_alone name) t)
   -- of what a variant has
-  pub payload_rows : (tagging : Tagging) (p : Payload) (m : ℕ) → of_payload tagging p → Contains (payload_numbers p) m → claim.holds (row m)
-  pub payload_struct : (tagging : Tagging) (x : Fields) → of_payload tagging (struct_payload x) → claim.holds (struct_template basis.contract x)
+  pub payload_rows : (tagging : Tagging) (p : Payload) (m : ℕ) → of_payload tagging p → Contains (payload_numbers p) m
+      → claim.holds (row m)
+  pub payload_struct : (tagging : Tagging) (x : Fields) → of_payload tagging (struct_payload x)
+      → claim.holds (struct_template basis.contract x)
   pub content_row : (tag : Text) (closed : Bool) (n : ℕ) → of_payload (shape.by_tag tag closed) (newtype_payload n)
       → claim.holds (asked (content n))
   pub tag : (tag : Text) (closed : Bool) (x : Variant) (xs : List Variant) → of_variants (shape.by_tag tag closed) (x ∷ xs)
@@ -131,7 +131,7 @@ module _ (basis : Basis) (law : Law basis) where
   -- ---- variants
 
   payload_holds : (tagging : Tagging) (p : Payload) → law.of_payload tagging p → claim.holds (payload_template contract p)
-  payload_holds tagging no_payload h = docs.type_of (codes "null")
+  payload_holds tagging no_payload h = docs.type_of (codes "null") refl
   payload_holds tagging (newtype_payload n) h = law.payload_rows tagging (newtype_payload n) n h (first_row n [])
   payload_holds tagging (tuple_payload ns) h = docs.tuple ns (λ m is. law.payload_rows tagging (tuple_payload ns) m h is)
   payload_holds tagging (struct_payload x) h = law.payload_struct tagging x h
@@ -148,9 +148,6 @@ module _ (basis : Basis) (law : Law basis) where
   named_holds name (newtype_payload n) h = member_holds true name _ (payload_holds shape.by_name (newtype_payload n) h)
   named_holds name (tuple_payload ns) h = member_holds true name _ (payload_holds shape.by_name (tuple_payload ns) h)
   named_holds name (struct_payload x) h = member_holds true name _ (payload_holds shape.by_name (struct_payload x) h)
-
-  chosen_by : (t : Template) → claim.holds t → claim.chosen t
-  chosen_by t h = claim.choice t (claim.inner t h)
 
   others_hold : (xs : List Variant) → law.of_variants shape.by_name xs → AllByRecursion claim.chosen (other_items contract xs)
   others_hold [] h = tt
@@ -170,7 +167,7 @@ module _ (basis : Basis) (law : Law basis) where
   choice_holds [] [] h = docs.truth false
   choice_holds [] (t ∷ ts) h = docs.one_of (t ∷ ts) h
   choice_holds (k ∷ ks) [] h = docs.units (k ∷ ks)
-  choice_holds (k ∷ ks) (t ∷ ts) h = docs.one_of (units_template (k ∷ ks) ∷ t ∷ ts) (chosen_by _ (docs.units (k ∷ ks)), h)
+  choice_holds (k ∷ ks) (t ∷ ts) h = docs.one_of (units_template (k ∷ ks) ∷ t ∷ ts) (chosen_by claim _ (docs.units (k ∷ ks)), h)
 
   titled_item : (titles : Bool) (name : Text) (t : Template) → claim.inside t → claim.inside (titled titles name t)
   titled_item false name t h = h
@@ -186,7 +183,7 @@ module _ (basis : Basis) (law : Law basis) where
 
   content_holds : (tag : Text) (closed : Bool) (p : Payload) → law.of_payload (shape.by_tag tag closed) p
       → claim.holds (content_template contract p)
-  content_holds tag closed no_payload h = docs.type_of (codes "null")
+  content_holds tag closed no_payload h = docs.type_of (codes "null") refl
   content_holds tag closed (newtype_payload n) h = law.content_row tag closed n h
   content_holds tag closed (tuple_payload ns) h = payload_holds (shape.by_tag tag closed) (tuple_payload ns) h
   content_holds tag closed (struct_payload x) h = law.payload_struct (shape.by_tag tag closed) x h
@@ -231,12 +228,12 @@ module _ (basis : Basis) (law : Law basis) where
   -- ---- by shape
 
   pub shape_holds : (kind : Shape) → law.of_shape kind → claim.holds (template_of basis kind)
-  shape_holds shape.null h = docs.type_of (codes "null")
-  shape_holds shape.bool h = docs.type_of (codes "boolean")
+  shape_holds shape.null h = docs.type_of (codes "null") refl
+  shape_holds shape.bool h = docs.type_of (codes "boolean") refl
   shape_holds (shape.int kind) h = docs.int kind
   shape_holds (shape.non_zero kind) h = docs.non_zero kind
-  shape_holds shape.number h = docs.type_of (codes "number")
-  shape_holds shape.text h = docs.type_of (codes "string")
+  shape_holds shape.number h = docs.type_of (codes "number") refl
+  shape_holds shape.text h = docs.type_of (codes "string") refl
   shape_holds shape.char h = docs.char
   shape_holds (shape.formatted format) h = docs.formatted format
   shape_holds shape.any h = docs.truth true
@@ -251,25 +248,27 @@ module _ (basis : Basis) (law : Law basis) where
   shape_holds (shape.tuple ns) h = docs.tuple ns (λ m is. law.rows (shape.tuple ns) m h is)
   shape_holds (shape.struct x) h = law.struct x h
   shape_holds (shape.newtype n) h = law.rows (shape.newtype n) n h (first_row n [])
-  shape_holds (shape.result a b) h = docs.one_of (member_template false (codes "Ok") (row a) ∷ member_template false (codes "Err") (row b) ∷ []) (
-    chosen_by _ (member_holds false (codes "Ok") (row a) (law.rows (shape.result a b) a h (first_row a (b ∷ [])))),
-    (chosen_by _ (member_holds false (codes "Err") (row b) (law.rows (shape.result a b) b h (second_row a b))), tt),
-  )
+  shape_holds (shape.result a b) h =
+      docs.one_of (member_template false (codes "Ok") (row a) ∷ member_template false (codes "Err") (row b) ∷ []) (
+        chosen_by claim _ (member_holds false (codes "Ok") (row a) (law.rows (shape.result a b) a h (first_row a (b ∷ [])))),
+        (chosen_by claim _ (member_holds false (codes "Err") (row b) (law.rows (shape.result a b) b h (second_row a b))), tt),
+      )
   shape_holds (shape.bound n) h =
       let own = law.rows (shape.bound n) n h (first_row n []) in
       docs.one_of (member_template false (codes "Included") (row n) ∷ member_template false (codes "Excluded") (row n)
       ∷ finished (unit_variant (codes "Unbounded")) ∷ []) (
-        chosen_by _ (member_holds false (codes "Included") (row n) own),
-        (chosen_by _ (member_holds false (codes "Excluded") (row n) own), (chosen_by _ (docs.unit (codes "Unbounded")), tt)),
+        chosen_by claim _ (member_holds false (codes "Included") (row n) own),
+        (chosen_by claim _ (member_holds false (codes "Excluded") (row n) own), (chosen_by claim _ (docs.unit (codes "Unbounded")), tt)),
       )
   shape_holds (shape.range n) h =
       let own = claim.inner (row n) (law.rows (shape.range n) n h (first_row n [])) in
       docs.maps ((codes "start", row n) ∷ (codes "end", row n) ∷ []) (codes "start" ∷ codes "end" ∷ []) false (own, (own, tt))
       (docs.apart (codes "start" ∷ codes "end" ∷ []) ((refl, tt), (tt, tt)))
-  shape_holds (shape.either a b) h = docs.one_of (member_template true (codes "Left") (row a) ∷ member_template true (codes "Right") (row b) ∷ []) (
-    chosen_by _ (member_holds true (codes "Left") (row a) (law.rows (shape.either a b) a h (first_row a (b ∷ [])))),
-    (chosen_by _ (member_holds true (codes "Right") (row b) (law.rows (shape.either a b) b h (second_row a b))), tt),
-  )
+  shape_holds (shape.either a b) h =
+      docs.one_of (member_template true (codes "Left") (row a) ∷ member_template true (codes "Right") (row b) ∷ []) (
+        chosen_by claim _ (member_holds true (codes "Left") (row a) (law.rows (shape.either a b) a h (first_row a (b ∷ [])))),
+        (chosen_by claim _ (member_holds true (codes "Right") (row b) (law.rows (shape.either a b) b h (second_row a b))), tt),
+      )
   shape_holds (shape.map_from key value) h =
       docs.values (key_options basis.rows key) value (keys_apart (or_any_text (all_options basis.rows key)))
       (law.rows (shape.map_from key value) value h (second_row key value))

@@ -1,13 +1,9 @@
 -- In a table that is plain under its contract the documents of structs, payloads and shapes say under 2020-12 what they mean, with
 -- steps counted down, where those of smaller values do.
 use Rattle.std.proofs.Common.{◌≡◌, ◌⊎◌, inl, inr, ℕ, zero, suc, ◌+◌, ◌*◌, ◌<◌, ◌≤◌, List, [], ◌∷◌, Bool, map, refl, sym, ap, ◌∙◌, subst, arith, ◌++◌}
-use Rattle.std.proofs.Math.Nat.{mul-le-mul_right}
-use Rattle.schemars_meaning.proofs.Words.{◌||◌, list_any, Data, depth, Text, IsJson, IsSchema, verdict, Context, Judge, Patterns, judge, context2020_12, ready-schema, IsReady, Field, Fields, Flattened, Payload, no_payload, newtype_payload, tuple_payload, struct_payload, Shape, Variant, Row, effective, flattened_in, flattened_enums, part_enums, enum_at, expanded_payload, expanded_variant, expanded_shape_in, VariantMatch, is_required, matches_of, has_payload, belongs_within, choices_within, has_shape, key_options, IsPlainPayload, ArePartsUnder, payload_parts, ArePlainVariants, IsTagged, AreTagged, IsPlainShape, parts_in, variant_parts, Basis, Ask, Template, members_of, asked, asks_of, filled, first, left, struct_template, payload_template, fields_template, with_flattened, template_of, IsAnswered, IsWritten, Describes, Fills}
+use Rattle.schemars_meaning.proofs.Words.{mul-le-mul_right, ◌||◌, list_any, Data, depth, Text, IsJson, IsSchema, verdict, Context, Judge, Patterns, judge, context2020_12, ready-schema, IsReady, Field, Fields, Flattened, Payload, no_payload, newtype_payload, tuple_payload, struct_payload, Shape, Variant, Row, effective, flattened_in, flattened_enums, part_enums, enum_at, expanded_payload, expanded_variant, expanded_shape_in, VariantMatch, is_required, matches_of, has_payload, belongs_within, choices_within, has_shape, key_options, IsPlainPayload, ArePartsUnder, payload_parts, ArePlainVariants, IsTagged, AreTagged, IsPlainShape, parts_in, variant_parts, Basis, Ask, Template, members_of, asked, asks_of, filled, first, left, struct_template, payload_template, fields_template, with_flattened, template_of, IsAnswered, IsWritten, Describes, Fills, flattened-schema, IsPartUnder, with_keywords}
 use Rattle.schemars_shapes.specs.Shape as shape
 use Rattle.schemars_types.specs.declared.contract.Contract.{Contract}
-use Rattle.schemars_flatten.proofs.Schemas.{flattened-schema}
-use Rattle.schemars_documents.specs.PlainTable.{IsPartUnder}
-use Rattle.schemars_documents.specs.Template.{with_keywords}
 use Rattle.schemars_meaning.proofs.Filling.{Fit}
 use Rattle.schemars_meaning.proofs.ByShape.{tuple_fills, tuple_document, others_fill}
 use Rattle.schemars_meaning.proofs.EachShape.{null_says, tuple_says}

@@ -1,9 +1,6 @@
 -- The documents of structs with flattened enums, put into one another, and what they mean.
 use Rattle.std.proofs.Common.{◌≡◌, ℕ, ◌<◌, List, [], ◌∷◌, ◌++◌, Option, Some, None, Bool, true, false, refl, sym, ap, ◌∙◌, subst, map}
-use Rattle.schemars_meaning.proofs.Words.{codes, bytes_eq, if◌then◌else◌, ◌&&◌, ◌||◌, not, option_and_then, Data, null, array, object, Items, Members, no_members, member, depth, get_member, as_str, items_of, Text, IsJson, IsSchema, replaced, on_list, AreNotes, verdict, Context, judge, get_member-later, get_member-here, bytes_eq-Decides, flattened, united_all, appended, opened, flattened_part, first_as_objects, list_changed_at, units_as_objects, Field, every_member, VariantMatch, every_part, is_key_of_match, excludes_key, has_fields, AreDistinct, AreNoted, Keyword, annotated, required_names, option_map_or}
-use Rattle.schemars_schema.specs.Edits.{is_text}
-use Rattle.schemars_flatten.specs.Opening.{has_type}
-use Rattle.schemars_flatten.specs.Parts.{first_units, behind_first}
+use Rattle.schemars_meaning.proofs.Words.{codes, bytes_eq, if◌then◌else◌, ◌&&◌, ◌||◌, not, option_and_then, Data, null, array, object, Items, Members, no_members, member, depth, get_member, as_str, items_of, Text, IsJson, IsSchema, replaced, on_list, AreNotes, verdict, Context, judge, get_member-later, get_member-here, bytes_eq-Decides, flattened, united_all, appended, opened, flattened_part, first_as_objects, list_changed_at, units_as_objects, Field, every_member, VariantMatch, every_part, is_key_of_match, excludes_key, has_fields, AreDistinct, AreNoted, Keyword, annotated, required_names, option_map_or, is_text, has_type, first_units, behind_first, Member, member_named, has_each, has_members_with, field_member}
 use Rattle.schemars_types.specs.declared.contract.Contract.{Contract}
 use Rattle.schemars_meaning.proofs.MapKeywords.{noted, noted_by-object, noted-beside, sorted-noted, closed_there}
 use Rattle.schemars_meaning.proofs.Flattening.{no_texts}
@@ -15,7 +12,6 @@ use Rattle.schemars_meaning.proofs.Items.{ChoicesAre, choices_say, choices_join}
 use Rattle.schemars_meaning.proofs.Spread.{field_keywords, AreWritten}
 use Rattle.schemars_meaning.proofs.Flattened.{AreWritten-append, field_keywords-append, required_names-append}
 use Rattle.schemars_meaning.proofs.Fields.{field_found, entries, required_same}
-use Rattle.schemars_types.specs.Meaning.{Member, member_named, has_each, has_members_with, field_member}
 
 -- ---- meanings that differ in the order of enums alone
 

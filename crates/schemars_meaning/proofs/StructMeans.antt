@@ -1,10 +1,6 @@
 -- The document of a struct with flattened enums says what the struct means.
 use Rattle.std.proofs.Common.{◌∷◌, ◌≡◌, ℕ, ◌<◌, ◌≤◌, List, [], Option, Some, None, Bool, true, false, option_map, refl, sym, ap, ◌∙◌, arith, subst, map}
-use Rattle.schemars_meaning.proofs.Words.{or-false, if◌then◌else◌, is_some, ◌&&◌, ◌||◌, not, option_map_or, Data, null, boolean, number, string, array, object, Members, no_members, member, depth, get_member, Text, IsJson, IsSchema, put_all, Verdict, Yes, No, both, verdict, all_of, one_of, Context, Judge, judge, read_data, each_member, each_says, where_some, have_all, schema_named, both-yes, both-verdict, silent, Field, field_named, every_member, every_part, excludes_key, has_fields, Keyword, annotated, bytes_eq}
-use Rattle.serde_json.specs.Data.{members_depth}
-use Rattle.schemars_schema.specs.Acceptance.{key}
-use Rattle.schemars_schema.specs.Json.{AreJsonMembers}
-use Rattle.schemars_schema.proofs.Verdicts.{both-swap, both-assoc, both-middle}
+use Rattle.schemars_meaning.proofs.Words.{or-false, if◌then◌else◌, is_some, ◌&&◌, ◌||◌, not, option_map_or, Data, null, boolean, number, string, array, object, Members, no_members, member, depth, get_member, Text, IsJson, IsSchema, put_all, Verdict, Yes, No, both, verdict, all_of, one_of, Context, Judge, judge, read_data, each_member, each_says, where_some, have_all, schema_named, both-yes, both-verdict, silent, Field, field_named, every_member, every_part, excludes_key, has_fields, Keyword, annotated, bytes_eq, members_depth, key, AreJsonMembers, both-swap, both-assoc, both-middle, Member, member_named, has_each, has_members_with, field_member}
 use Rattle.schemars_types.specs.declared.contract.Contract.{Contract}
 use Rattle.schemars_meaning.proofs.Notes.{annotated_fits}
 use Rattle.schemars_meaning.proofs.MapKeywords.{closed_there}
@@ -12,7 +8,6 @@ use Rattle.schemars_meaning.proofs.Named.{schema_named-judges_in, AreEntries, Is
 use Rattle.schemars_meaning.proofs.MapForm.{Keywords, HasKeywords, object-says, says-fits, says-judges, object_type, form_fits}
 use Rattle.schemars_meaning.proofs.StructForm.{Parts, choices_in, all_in, one_in, all_there, one_there, struct_keywords, ChoicesSay, judges_of, named_says, rest_says, object_says, all_fits, one_fit, covered_by}
 use Rattle.schemars_meaning.proofs.Fields.{Finds}
-use Rattle.schemars_types.specs.Meaning.{Member, member_named, has_each, has_members_with, field_member}
 
 -- what is required, what the names have, the parts and what is left
 grouped : (h p m : Bool) (x y : Verdict) → both x y ≡ verdict m → both (verdict h) (both x (both (verdict p) y)) ≡ verdict (p && (m && h))

@@ -1,10 +1,10 @@
 -- A tag among the properties of a struct, with or without enums.
 use Rattle.std.proofs.Common.{◌≡◌, ℕ, ◌<◌, List, [], ◌∷◌, ◌++◌, map, Option, Some, None, Bool, true, false, refl, sym, ap, ◌∙◌, subst, true≢false}
-use Rattle.schemars_meaning.proofs.Words.{codes, bytes_eq, if◌then◌else◌, is_some, ◌&&◌, ◌||◌, option_and_then, bytes_eq-Decides, Data, string, array, object, no_items, Members, no_members, put, depth, get_member, as_str, get_member-put, get_member-put_other, Text, IsJson, IsSchema, put_all, is_annotation, AreNotes, verdict, Context, judge, have_all, differ, sorted-put, with_member, with_first, unit_variant, with_property, has_null_type, internally_tagged_variant, Field, field_named, VariantMatch, has_tagged, AreDistinct, AreNoted, Keyword, annotated, required_names, type_alone}
+use Rattle.schemars_meaning.proofs.Words.{codes, bytes_eq, if◌then◌else◌, is_some, ◌&&◌, ◌||◌, option_and_then, bytes_eq-Decides, Data, string, array, object, no_items, Members, no_members, put, depth, get_member, as_str, get_member-put, get_member-put_other, Text, IsJson, IsSchema, put_all, is_annotation, AreNotes, verdict, Context, judge, have_all, differ, sorted-put, with_member, with_first, unit_variant, with_property, has_null_type, internally_tagged_variant, Field, field_named, VariantMatch, has_tagged, AreDistinct, AreNoted, Keyword, annotated, required_names, type_alone, closed_where, Member, member_named, has_each, tag_member, field_member}
 use Rattle.schemars_schema.specs.Edits.{is_text as is_name}
-use Rattle.schemars_builders.specs.Properties.{tagged, closed_where}
+use Rattle.schemars_builders.specs.Properties.{tagged}
 use Rattle.schemars_types.specs.declared.contract.Contract.{Contract}
-use Rattle.schemars_types.specs.Meaning.{is_text, Member, member_named, has_each, tag_member, field_member}
+use Rattle.schemars_types.specs.Meaning.{is_text}
 use Rattle.schemars_meaning.proofs.MapDocument.{map_document}
 use Rattle.schemars_meaning.proofs.MapKeywords.{put_all-append, properties_there, required_there, value_or, changed_at-here, changed_at-beside, sorted-changed_at, noted, noted_by-object, noted-beside, sorted-noted, keywords}
 use Rattle.schemars_meaning.proofs.Named.{AreEntries}

@@ -1,11 +1,6 @@
 -- An enum whose variants have their names as keys, flattened with units among its variants: these become maps behind the others.
 use Rattle.std.proofs.Common.{◌≡◌, ℕ, List, [], ◌∷◌, ◌++◌, Option, Some, None, Bool, true, false, map, refl, sym, ap, ◌∙◌, subst}
-use Rattle.schemars_meaning.proofs.Words.{bytes_eq-Decides, if◌then◌else◌, bytes_eq, ◌&&◌, ◌||◌, not, codes, option_and_then, Data, string, array, object, Items, item, Members, no_members, member, put, get, get_member, as_str, as_array, items_of, get_member-put, get_member-put_other, Text, IsJson, without, removed, replaced, on_list, is_annotation, AreNotes, verdict, Context, judge, is_null, get_member-later, differ, get_member-without, IsSorted, sorted-put, sorted-without, null_schema, text_items, appended, opened, unit_objects, first_as_objects, list_changed_at, units_as_objects, flattened_part, Variant, exactly_one, none, VariantMatch, claimed_by, member_choice, annotated}
-use Rattle.std.specs.Prelude.{option_map}
-use Rattle.schemars_schema.specs.Edits.{is_text}
-use Rattle.schemars_schema.proofs.Members.{get_member-replaced, get_member-replaced_other}
-use Rattle.schemars_schema.proofs.SortedMembers.{sorted-replaced}
-use Rattle.schemars_flatten.specs.Parts.{unit_object, with_items, with_units}
+use Rattle.schemars_meaning.proofs.Words.{bytes_eq-Decides, if◌then◌else◌, bytes_eq, ◌&&◌, ◌||◌, not, codes, option_and_then, Data, string, array, object, Items, item, Members, no_members, member, put, get, get_member, as_str, as_array, items_of, get_member-put, get_member-put_other, Text, IsJson, without, removed, replaced, on_list, is_annotation, AreNotes, verdict, Context, judge, is_null, get_member-later, differ, get_member-without, IsSorted, sorted-put, sorted-without, null_schema, text_items, appended, opened, unit_objects, first_as_objects, list_changed_at, units_as_objects, flattened_part, Variant, exactly_one, none, VariantMatch, claimed_by, member_choice, annotated, option_map, is_text, get_member-replaced, get_member-replaced_other, sorted-replaced, unit_object, with_items, with_units}
 use Rattle.schemars_types.specs.declared.contract.Contract.{Contract}
 use Rattle.schemars_meaning.proofs.MapKeywords.{noted, noted_by-object, noted-beside, sorted-noted, closed_there, properties_there, required_there}
 use Rattle.schemars_meaning.proofs.MapForm.{Keywords, look_up}

@@ -1,12 +1,12 @@
 -- The line is that of the table's root, and the sink has taken it, or a beginning of it.
 use Rattle.std.proofs.Common.{◌≡◌, ℕ, nat_eq, false, ap, refl, inl, Err}
-use Rattle.std.proofs.lemmas.Result.{IfErr-weaker, on_ok_weaker}
+use Rattle.std.proofs.lemmas.Result.{IfErr-weaker}
 use Rattle.schemagen_run.specs.declared.fault.Fault.TheVariants.{Refused}
 use Rattle.schemars_generate.specs.declared.error.TheConstants.{DEFINITIONS_PATH}
 use Rattle.schemagen_run.specs.declared.fault.TheConstants.{NOT_JSON, BAD_TABLE, READ, WRITE}
 use Rattle.schemagen_run.proofs.Results.{passed_on, same_error, other_result, ok_is_no_error}
 use Rattle.schemagen_run.proofs.Runs.{read_is_no_write, read_is_no_path, read_is_of_no_table, gave, read_outside, read_is_accepted, read_is_noted, noted_is_accepted, gives_line}
-use Rattle.schemagen_run.proofs.Writing.{is_no_other, faulty_table, unplaced_table, line_fault, accepted_fault, noted_fault}
+use Rattle.schemagen_run.proofs.Writing.{no_line, line_of_given, is_no_other, faulty_table, unplaced_table, line_fault, accepted_fault, noted_fault}
 use Rattle.schemagen_run.proofs.run.run_types.Goals as goal
 
 -- ---- the table is refused
@@ -26,11 +26,7 @@ returns-in_err-types g c =
       bad_table = λ u. why.bad_table (ap Err (same_error r e (Refused BAD_TABLE) is u));
       faulty = rw is (λ table. absurd (read_is_of_no_table e why.faults table));
       unplaced = λ u. absurd (read_is_no_path e why.faults (same_error r e (Refused DEFINITIONS_PATH) is u));
-      write = λ w. absurd (read_is_no_write e why.faults (same_error r e (Refused WRITE) is w));
-      done = rw is tt;
-      failed = λ w. absurd (read_is_no_write e why.faults (same_error r e (Refused WRITE) is w));
-      sound = rw is tt;
-      unwritten = rw is (λ _. refl);
+      output = no_line _ _ _ _ r e _ _ is (read_is_no_write e why.faults) refl;
       faults = rw is (inl why.faults);
       accepted = λ bytes known text. rw is
           (inl (read_outside bytes _ _ e known text why.faults (λ f. why.not_json (ap Err f))
@@ -48,7 +44,6 @@ no_write n other is = cc
 pub returns : goal.returns
 returns g c =
     let r = c.write_line.result in
-    let line = c.write_line.ensures.written in
     let why = c.write_line.ensures.refused in
     let given = c.in_ok-types.ensures.ok in
     let rows = c.in_ok-types.types in
@@ -64,14 +59,8 @@ returns g c =
       unplaced = λ u.
           let (bytes, consumed, end, text) = given in
           (bytes, consumed, end, (rows, (root, text, unplaced_table _ rows root r why u)));
-      write = λ u.
-          let (text, (accepted, of), begun) = line.write u in
-          gives_line c.args.asked rows root text _ _ given accepted of begun;
-      done = on_ok_weaker r (λ (text, (accepted, of), appended).
-          gives_line c.args.asked rows root text _ _ given accepted of appended) line.done;
-      failed = line.failed;
-      sound = line.sound;
-      unwritten = line.unwritten;
+      output = line_of_given _ _ _ _ _ r _ _ (λ text (accepted, of) Q holds.
+          gives_line {Q = Q} c.args.asked rows root text _ _ given accepted of holds) c.write_line.ensures.written;
       faults = IfErr-weaker r _ _ (λ e told. line_fault e told) why;
       accepted = λ bytes known text.
           let accepted = read_is_accepted bytes _ _ (gave bytes _ _ known given) text in
