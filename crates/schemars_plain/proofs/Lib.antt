@@ -1,5 +1,5 @@
-pub mod Literals
-pub mod Said
-pub mod Tables
-pub mod UnderContract
 pub mod EnumsWithin
+pub mod Flattened
+pub mod Literals
+pub mod Named
+pub mod Said

@@ -1,15 +1,17 @@
 -- Fields of structs and of the rows flattened into them.
-use Rattle.std.proofs.Common.{◌≡◌, ℕ, suc, List, [], ◌∷◌, ◌++◌, Option, Some, None, Bool, true, false, refl, sym, ap, ◌∙◌, map, append_assoc, append-nil, ◌<◌, ◌+◌, length, get_or, drop}
-use Rattle.std.specs.Prelude.{is_some, if◌then◌else◌, option_and_then}
+use Rattle.std.proofs.Common.{◌≡◌, ℕ, suc, List, [], ◌∷◌, ◌++◌, Option, Some, None, Bool, true, false, refl, sym, ap, ◌∙◌, map, append_assoc, append-nil, ◌<◌, ◌+◌, length, get_or, drop, subst}
+use Rattle.std.specs.Prelude.{is_some, if◌then◌else◌, bytes_eq}
 use Rattle.std.proofs.lemmas.List.{map-append, drop_more}
 use Rattle.std.specs.Option.{option_map_or}
-use Rattle.schemars_shapes.specs.Shape.{Shape, Field, Flattened, Fields, Entry, Required, flattened_of}
+use Rattle.schemars_shapes.specs.Shape.{Field, Flattened, Fields, Entry, Required, flattened_of}
 use Rattle.schemars_shapes.specs.declared.shape.Flattened as src
-use Rattle.schemars_shapes.specs.Shape as shape
 use Rattle.schemars_types.specs.Rows.{Row, entry_at}
 use Rattle.schemars_types.specs.Edges.{option_at}
 use Rattle.schemars_types.specs.Effective.{without_options, fields_within, effective, flattened_fields, part_fields, required_only_if, shape_fields}
-use Rattle.schemars_plain.specs.Decided.{Said, as_said, struct_of}
+use Rattle.schemars_documents.specs.PlainTable.{IsNoName, AreDistinct, AreNoted, AreNoNames, AreApart}
+use Rattle.schemars_schema.specs.Json.{Text}
+use Rattle.schemars_schema.specs.Annotations.{AreNotes}
+use Rattle.schemars_plain.specs.Said.{Said, as_said}
 
 -- ---- what is said of fields
 
@@ -43,45 +45,81 @@ own_joins found part x =
     append_assoc found (map as_said x.list) (map as_said (flattened_fields part x.flatten))
     ∙ ap (λ s. found ++ s) (sym (map-append as_said x.list (flattened_fields part x.flatten)))
 
+-- ---- fields of which the same is said
+
+head_said : (f g : Field) (fs gs : List Field) → map as_said (f ∷ fs) ≡ map as_said (g ∷ gs)
+    → (f.name ≡ g.name) × (f.notes ≡ g.notes) × (map as_said fs ≡ map as_said gs)
+head_said f g fs gs same =
+    let head : as_said f ≡ as_said g = cc in
+    (ap (λ s. s.0) head, ap (λ s. s.1) head, cc)
+
+pub no_name_said : (k : Text) (fs gs : List Field) → map as_said fs ≡ map as_said gs → IsNoName k fs → IsNoName k gs
+no_name_said k fs [] same h = tt
+no_name_said k [] (g ∷ gs) same h = cc
+no_name_said k (f ∷ fs) (g ∷ gs) same h =
+    let head = head_said f g fs gs same in
+    (ap (λ l. bytes_eq l k) (sym head.0) ∙ h.0, no_name_said k fs gs head.2 h.1)
+
+pub distinct_said : (fs gs : List Field) → map as_said fs ≡ map as_said gs → AreDistinct fs → AreDistinct gs
+distinct_said fs [] same h = tt
+distinct_said [] (g ∷ gs) same h = cc
+distinct_said (f ∷ fs) (g ∷ gs) same h =
+    let head = head_said f g fs gs same in
+    (subst (λ k. IsNoName k gs) head.0 (no_name_said f.name fs gs head.2 h.0), distinct_said fs gs head.2 h.1)
+
+pub noted_said : (fs gs : List Field) → map as_said fs ≡ map as_said gs → AreNoted fs → AreNoted gs
+noted_said fs [] same h = tt
+noted_said [] (g ∷ gs) same h = cc
+noted_said (f ∷ fs) (g ∷ gs) same h =
+    let head = head_said f g fs gs same in
+    (subst AreNotes head.1 h.0, noted_said fs gs head.2 h.1)
+
+no_names_said : (fs gs : List Field) (ks : List Text) → map as_said fs ≡ map as_said gs → AreNoNames fs ks → AreNoNames gs ks
+no_names_said fs gs [] same h = tt
+no_names_said fs gs (k ∷ ks) same h = (no_name_said k fs gs same h.0, no_names_said fs gs ks same h.1)
+
+pub apart_said : (fs gs : List Field) (lists : List (List Text)) → map as_said fs ≡ map as_said gs → AreApart fs lists → AreApart gs lists
+apart_said fs gs [] same h = tt
+apart_said fs gs (ks ∷ rest) same h = (no_names_said fs gs ks same h.0, h.1, apart_said fs gs rest same h.2)
+
+said_names : (fs : List Field) → map (λ s. s.0) (map as_said fs) ≡ map (λ f. f.name) fs
+said_names [] = refl
+said_names (f ∷ fs) = ap (λ ks. f.name ∷ ks) (said_names fs)
+
+pub names_said : (fs gs : List Field) → map as_said fs ≡ map as_said gs → map (λ f. f.name) fs ≡ map (λ f. f.name) gs
+names_said fs gs same = sym (said_names fs) ∙ (ap (map (λ s. s.0)) same ∙ said_names gs)
+
 -- ---- rows
 
-own_fields : (part : Flattened → List Field) (o : Option Entry)
-    → option_map_or (λ e. shape_fields part e.shape) o [] ≡ option_map_or (effective part) (option_and_then (λ e. struct_of e.shape) o) []
-own_fields part None = refl
-own_fields part (Some e) = go e.shape
-  where
-    go : (s : Shape) → shape_fields part s ≡ option_map_or (effective part) (struct_of s) []
-    go (shape.struct x) = refl
-    go _ = refl
-
--- a row has the fields of its struct
-pub within_struct : (rows : List Row) (steps n : ℕ)
-    → fields_within rows (suc steps) n
-    ≡ option_map_or (effective (part_fields rows (fields_within rows steps)))
-    (option_and_then (λ e. struct_of e.shape) (entry_at rows n)) []
-unfolding fields_within
-within_struct rows steps n = own_fields (part_fields rows (fields_within rows steps)) (entry_at rows n)
-
-pub within_none : (rows : List Row) (n : ℕ) → fields_within rows 0 n ≡ []
+within_none : (rows : List Row) (n : ℕ) → fields_within rows 0 n ≡ []
 unfolding fields_within
 within_none rows n = refl
 
-pub some_struct : (rows : List Row) (steps below n : ℕ) (x : Fields) → suc below ≡ steps
-    → Some x ≡ option_and_then (λ e. struct_of e.shape) (entry_at rows n)
-    → fields_within rows steps n ≡ effective (part_fields rows (fields_within rows below)) x
-some_struct rows steps below n x one is =
-    ap (λ k. fields_within rows k n) (sym one)
-    ∙ (within_struct rows below n ∙ ap (λ o. option_map_or (effective (part_fields rows (fields_within rows below))) o []) (sym is))
+abbrev fields_of_row : List Row → ℕ → Option Entry → List Field
+fields_of_row rows steps o = option_map_or (λ e. shape_fields (part_fields rows (fields_within rows steps)) e.shape) o []
 
-pub no_struct : (rows : List Row) (steps below n : ℕ) → suc below ≡ steps
-    → None ≡ option_and_then (λ e. struct_of e.shape) (entry_at rows n) → fields_within rows steps n ≡ []
-no_struct rows steps below n one is =
-    ap (λ k. fields_within rows k n) (sym one)
-    ∙ (within_struct rows below n ∙ ap (λ o. option_map_or (effective (part_fields rows (fields_within rows below))) o []) (sym is))
+within_row : (rows : List Row) (steps n : ℕ) → fields_within rows (suc steps) n ≡ fields_of_row rows steps (entry_at rows n)
+unfolding fields_within
+within_row rows steps n = refl
+
+pub some_row : (rows : List Row) (steps below n : ℕ) (e : Entry) → suc below ≡ steps → Some e ≡ entry_at rows n
+    → fields_within rows steps n ≡ shape_fields (part_fields rows (fields_within rows below)) e.shape
+some_row rows steps below n e one is =
+    ap (λ k. fields_within rows k n) (sym one) ∙ (within_row rows below n ∙ ap (fields_of_row rows below) (sym is))
 
 -- nothing is added
-pub adds_none : (found : List Said) (fs : List Field) → fs ≡ [] → found ≡ found ++ map as_said fs
+adds_none : (found : List Said) (fs : List Field) → fs ≡ [] → found ≡ found ++ map as_said fs
 adds_none found fs none = sym (ap (λ gs. found ++ map as_said gs) none ∙ append-nil found)
+
+pub no_steps : (found : List Said) (rows : List Row) (steps n : ℕ) → steps ≡ 0 → found ≡ found ++ map as_said (fields_within rows steps n)
+no_steps found rows steps n none =
+    adds_none found (fields_within rows steps n) (ap (λ k. fields_within rows k n) none ∙ within_none rows n)
+
+pub no_row : (found : List Said) (rows : List Row) (steps below n : ℕ) → suc below ≡ steps → None ≡ entry_at rows n
+    → found ≡ found ++ map as_said (fields_within rows steps n)
+no_row found rows steps below n one is =
+    adds_none found (fields_within rows steps n)
+    (ap (λ k. fields_within rows k n) (sym one) ∙ (within_row rows below n ∙ ap (fields_of_row rows below) (sym is)))
 
 -- one more part
 pub part_step : (found more : List Said) (rows : List Row) (own : ℕ → List Field) (items : List src.Flattened) (i m : ℕ) (d : src.Flattened)

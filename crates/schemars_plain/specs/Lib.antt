@@ -1,3 +1,3 @@
 -- The definitions that contracts cite.
-pub mod Decided
-pub mod Under
+pub mod OneValue
+pub mod Said

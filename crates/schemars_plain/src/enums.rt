@@ -1,15 +1,13 @@
 //! The enums that are flattened into a map, and the names that they put there.
-ghost use Rattle.std.specs.Prelude.{◌≡◌, ◌++◌, ◌∷◌, map, IfOk, OnOk, option_map};
-ghost use Rattle.schemars_shapes.specs.Shape.{fields_of, flattened_of, shape_of, internal_payload_of, internal_variant_of, internal_view};
-ghost use Rattle.schemars_types.specs.Effective.{flattened_enums, part_enums, shape_enums, enums_within, without_options};
-ghost use Rattle.schemars_documents.specs.PlainTable.{tag_names};
-ghost use Rattle.schemars_plain.specs.Under.{field_names, payload_field_names, variant_field_names, names_in, names_at, fields_apart};
+ghost use Rattle.std.specs.Prelude.{◌≡◌, ◌↔◌, ◌++◌, map, IsTrue, IfOk, OnOk, option_map};
+ghost use Rattle.schemars_shapes.specs.Shape.{fields_of, flattened_of, shape_of, variant_of, internal_payload_of, internal_variant_of, internal_view, enum, by_tag, payload_names};
+ghost use Rattle.schemars_types.specs.Effective.{flattened_in, flattened_enums, part_enums, shape_enums, enums_within, without_options, expanded_fields, expanded_payload, expanded_variant, expanded_shape_in};
+ghost use Rattle.schemars_documents.specs.PlainTable.{all_payload_names, enum_names, enum_names_at, tag_names, HasNamesApart};
 
-use crate::fields::field_names;
+use crate::fields::{all_fields, field_names};
 use crate::names::are_apart;
-use crate::variants::variant_names;
 use schemars_types::{
-    Fields, Flattened, Internal, InternalPayload, InternalVariant, Shape, TypeNo, Types,
+    Fields, Flattened, Internal, InternalPayload, InternalVariant, Shape, TypeNo, Types, Variant,
     without_options,
 };
 use std::alloc::{AllocError, Global};
@@ -22,10 +20,11 @@ pub fn fields_apart<'t>(
     tag: Option<&'t str>,
     fields: &'t Fields,
 ) -> Result<bool, AllocError>
-    ensures { IfOk result (λ b. b
-        ≡ fields_apart types.now (option_map (λ t. t.now) tag.entry) (fields_of fields.now)) }
+    ensures { IfOk result (λ b. IsTrue b ↔ HasNamesApart (enum_names_at types.now)
+        (tag_names (option_map (λ t. t.now) tag.entry))
+        (expanded_fields (flattened_in types.now) (part_enums types.now) (fields_of fields.now))) }
 {
-    let own = field_names(alloc, types, fields)?;
+    let own = all_fields(alloc, types, fields)?;
     let enums = flattened_enums(alloc, types, &fields.flatten)?;
     let mut others = tag_names(alloc, tag)?;
     add_enum_names(alloc, types, &enums, &mut others)?;
@@ -54,7 +53,7 @@ fn add_enum_names<'t>(
 ) -> Result<(), AllocError>
     ensures { OnOk result (map (λ names. map (λ n. n.now) names.items) lists.new.items
         ≡ map (λ names. map (λ n. n.now) names.items) lists.old.items
-        ++ map (names_at types.now) enums.now) }
+        ++ map (enum_names_at types.now) enums.now) }
 {
     for n in enums {
         lists.push(enum_names(alloc, types, *n)?)?;
@@ -64,7 +63,7 @@ fn add_enum_names<'t>(
 
 // The names that row `n` puts into a map, if it is an enum.
 fn enum_names<'t>(alloc: Global, types: &'t Types, n: TypeNo) -> Result<Vec<&'t str>, AllocError>
-    ensures { IfOk result (λ v. map (λ n. n.now) v.items ≡ names_at types.now n) }
+    ensures { IfOk result (λ v. map (λ n. n.now) v.items ≡ enum_names_at types.now n) }
 {
     match types.entry(n) {
         Some(entry) => names_in(alloc, types, &entry.shape),
@@ -78,7 +77,7 @@ fn names_in<'t>(
     shape: &'t Shape,
 ) -> Result<Vec<&'t str>, AllocError>
     ensures { IfOk result (λ v. map (λ n. n.now) v.items
-        ≡ names_in types.now (shape_of shape.now)) }
+        ≡ enum_names (expanded_shape_in types.now (shape_of shape.now))) }
 {
     match shape {
         Shape::External(variants) => variant_names(alloc, variants),
@@ -94,14 +93,27 @@ fn names_in<'t>(
     }
 }
 
+fn variant_names(alloc: Global, variants: &[Variant]) -> Result<Vec<&str>, AllocError>
+    ensures { IfOk result (λ v. map (λ n. n.now) v.items
+        ≡ map (λ x. x.name) (map variant_of variants.now)) }
+{
+    let mut names = Vec::new(alloc);
+    for variant in variants {
+        names.push(variant.name.as_str())?;
+    }
+    Ok(names)
+}
+
 // The tag of an internally tagged enum, and the names of the fields of its variants.
 fn internal_names<'t>(
     alloc: Global,
     types: &'t Types,
     internal: &'t Internal,
 ) -> Result<Vec<&'t str>, AllocError>
-    ensures { IfOk result (λ v. map (λ n. n.now) v.items ≡ (internal_view internal.now).0
-        ∷ variant_field_names types.now (internal_view internal.now).2) }
+    ensures { IfOk result (λ v. map (λ n. n.now) v.items
+        ≡ enum_names (expanded_shape_in types.now
+        (enum (by_tag (internal_view internal.now).0 (internal_view internal.now).1)
+        (internal_view internal.now).2))) }
 {
     let mut names = Vec::new(alloc);
     names.push(internal.tag.as_str())?;
@@ -116,7 +128,8 @@ fn add_variant_fields<'t>(
     names: &mut Vec<&'t str>,
 ) -> Result<(), AllocError>
     ensures { OnOk result (map (λ n. n.now) names.new.items ≡ map (λ n. n.now) names.old.items
-        ++ variant_field_names types.now (map internal_variant_of variants.now)) }
+        ++ all_payload_names (map (expanded_variant (flattened_in types.now) (part_enums types.now))
+        (map internal_variant_of variants.now))) }
 {
     for variant in variants {
         add_payload_fields(alloc, types, &variant.payload, names)?;
@@ -131,7 +144,8 @@ fn add_payload_fields<'t>(
     names: &mut Vec<&'t str>,
 ) -> Result<(), AllocError>
     ensures { OnOk result (map (λ n. n.now) names.new.items ≡ map (λ n. n.now) names.old.items
-        ++ payload_field_names types.now (internal_payload_of payload.now)) }
+        ++ payload_names (expanded_payload (flattened_in types.now) (part_enums types.now)
+        (internal_payload_of payload.now))) }
 {
     match payload {
         InternalPayload::Struct(fields) => {

@@ -1,32 +1,53 @@
 //! Lists of names.
-ghost use Rattle.std.specs.Prelude.{◌≡◌, map};
-ghost use Rattle.schemars_plain.specs.Decided.{all_differ};
-ghost use Rattle.schemars_plain.specs.Under.{none_in, apart_from, are_apart};
+ghost use Rattle.std.specs.Prelude.{◌↔◌, map, IsTrue};
+ghost use Rattle.schemars_shapes.specs.Shape.{field_of};
+ghost use Rattle.schemars_documents.specs.PlainTable.{IsNoName, AreNoNames, AreOthers, AreApartFrom, AreApart};
 
 use schemars_schema::edits::is_listed;
+use schemars_types::Field;
 
-/// Whether no name occurs twice in the list.
-pub fn all_differ(names: &[&str]) -> bool
-    ensures { result ≡ all_differ (map (λ n. n.now) names.now) }
+/// Whether no field has this name.
+pub fn is_no_name(name: &str, fields: &[&Field]) -> bool
+    ensures { IsTrue result ↔ IsNoName name.now (map (λ f. field_of f.now) fields.now) }
 {
-    for (n, name) in names.iter().enumerate() {
-        if is_listed(name, &names[n + 1..]) {
+    for field in fields {
+        if field.name.as_str() == name {
             return false;
         }
     }
     true
 }
 
-/// Whether no name is in two of the lists: `own`, and each of the others.
-pub fn are_apart(own: &[&str], others: &[Vec<&str>]) -> bool
-    ensures { result ≡ are_apart (map (λ n. n.now) own.now)
+/// Whether no name is in two of the lists: the names of the fields, and each of the others.
+pub fn are_apart(fields: &[&Field], others: &[Vec<&str>]) -> bool
+    ensures { IsTrue result ↔ AreApart (map (λ f. field_of f.now) fields.now)
         (map (λ names. map (λ n. n.now) names.items) others.now) }
 {
     for (n, names) in others.iter().enumerate() {
-        if !none_in(own, names) {
+        if !is_apart(names, fields, &others[n + 1..]) {
             return false;
         }
-        if !apart_from(names, &others[n + 1..]) {
+    }
+    true
+}
+
+// Whether none of the names is a field's, nor in one of the lists.
+fn is_apart(names: &[&str], fields: &[&Field], lists: &[Vec<&str>]) -> bool
+    ensures { IsTrue result
+        ↔ (AreNoNames (map (λ f. field_of f.now) fields.now) (map (λ n. n.now) names.now)
+        × AreApartFrom (map (λ n. n.now) names.now)
+        (map (λ names. map (λ n. n.now) names.items) lists.now)) }
+{
+    are_no_names(fields, names) && are_apart_from(names, lists)
+}
+
+// Whether none of the names is a field's.
+fn are_no_names(fields: &[&Field], names: &[&str]) -> bool
+    ensures { IsTrue result ↔ AreNoNames (map (λ f. field_of f.now) fields.now)
+        (map (λ n. n.now) names.now) }
+{
+    for name in names {
+        if !is_no_name(name, fields) {
             return false;
         }
     }
@@ -34,12 +55,12 @@ pub fn are_apart(own: &[&str], others: &[Vec<&str>]) -> bool
 }
 
 // Whether none of the names is in one of the lists.
-fn apart_from(names: &[&str], lists: &[Vec<&str>]) -> bool
-    ensures { result ≡ apart_from (map (λ n. n.now) names.now)
+fn are_apart_from(names: &[&str], lists: &[Vec<&str>]) -> bool
+    ensures { IsTrue result ↔ AreApartFrom (map (λ n. n.now) names.now)
         (map (λ names. map (λ n. n.now) names.items) lists.now) }
 {
     for list in lists {
-        if !none_in(names, list) {
+        if !are_others(names, list) {
             return false;
         }
     }
@@ -47,8 +68,8 @@ fn apart_from(names: &[&str], lists: &[Vec<&str>]) -> bool
 }
 
 // Whether none of the others is one of the names.
-fn none_in(names: &[&str], others: &[&str]) -> bool
-    ensures { result ≡ none_in (map (λ n. n.now) names.now) (map (λ n. n.now) others.now) }
+fn are_others(names: &[&str], others: &[&str]) -> bool
+    ensures { IsTrue result ↔ AreOthers (map (λ n. n.now) names.now) (map (λ n. n.now) others.now) }
 {
     for other in others {
         if is_listed(other, names) {

@@ -3,7 +3,6 @@ ghost use Rattle.std.specs.Prelude.{◌≡◌, ◌↔◌, IsTrue};
 ghost use Rattle.serde_json.specs.View.{members_view};
 ghost use Rattle.schemars_schema.specs.Annotations.{is_annotation, AreNotes};
 ghost use Rattle.schemars_shapes.specs.Units.{is_none};
-ghost use Rattle.schemars_plain.specs.Decided.{are_annotations};
 
 use schemars_schema::edits::is_listed;
 use serde_json::{Map, Value};
@@ -29,12 +28,6 @@ pub fn is_annotation(key: &str) -> bool
 /// Returns whether all members are annotations.
 pub fn are_notes(notes: &Map<String, Value>) -> bool
     ensures { IsTrue result ↔ AreNotes (members_view notes.now.entries) }
-{
-    are_annotations(notes)
-}
-
-pub(crate) fn are_annotations(notes: &Map<String, Value>) -> bool
-    ensures { result ≡ are_annotations (members_view notes.now.entries) }
 {
     for (key, _) in notes.iter() {
         if !is_annotation(key.as_str()) {

@@ -1,19 +1,17 @@
 //! Rows and tables.
-ghost use Rattle.std.specs.Prelude.{◌≡◌, ◌↔◌, ◌&&◌, IsTrue, IfOk, map, not, bytes_eq};
-ghost use Rattle.schemars_shapes.specs.Shape.{shape_of, variant_of, internal_view, adjacent_view};
+ghost use Rattle.std.specs.Prelude.{◌↔◌, IsTrue, IfOk, map};
+ghost use Rattle.schemars_shapes.specs.Shape.{shape_of, enum, by_name, by_tag, by_tag_and_content, internal_view, adjacent_view};
 ghost use Rattle.schemars_types.specs.Rows.{entry_at};
 ghost use Rattle.schemars_types.specs.Effective.{expanded_shape_in};
 ghost use Rattle.schemars_documents.specs.PlainTable.{IsPlainShape, IsPlainEntry, IsPlainTable};
-ghost use Rattle.schemars_plain.specs.Decided.{all_differ, names_of_variants, are_plain_variants, are_tagged, expanded_variant_in};
 
 use crate::fields::are_plain;
 use crate::literal::is_plain_literal;
 use crate::notes::are_notes;
 use crate::parts::have_plain_parts;
-use crate::variants::{
-    are_plain_inside, are_plain_variants, are_tagged, names_differ, names_differ_inside,
-};
-use schemars_types::{Adjacent, Internal, Shape, TypeNo, Types, Variant};
+use crate::variants::{are_distinct_variants, are_plain_variants, are_tagged};
+use schemars_shapes::AnyVariant;
+use schemars_types::{Adjacent, Internal, Shape, TypeNo, Types};
 use std::alloc::{AllocError, Global};
 
 /// Returns whether a table is plain: whether it is promised that the documents of its types accept
@@ -81,41 +79,35 @@ pub fn is_plain_shape(alloc: Global, types: &Types, shape: &Shape) -> Result<boo
 }
 
 // Variants that are distinguished by their names.
-fn are_named_and_plain(
+fn are_named_and_plain<V: AnyVariant>(
     alloc: Global,
     types: &Types,
-    variants: &[Variant],
+    variants: &[V],
 ) -> Result<bool, AllocError>
-    ensures { IfOk result (λ b. b ≡ (all_differ (names_of_variants (map variant_of variants.now))
-        && are_plain_variants (map (expanded_variant_in types.now)
-        (map variant_of variants.now)))) }
+    ensures { IfOk result (λ b. IsTrue b ↔ IsPlainShape (expanded_shape_in types.now
+        (enum by_name (map V.says variants.now)))) }
 {
-    if !names_differ(alloc, variants)? {
+    if !are_distinct_variants(variants) {
         return Ok(false);
     }
     are_plain_variants(alloc, types, variants)
 }
 
 fn is_plain_internal(alloc: Global, types: &Types, value: &Internal) -> Result<bool, AllocError>
-    ensures { IfOk result (λ b. b ≡ (all_differ (names_of_variants (internal_view value.now).2)
-        && (are_plain_variants (map (expanded_variant_in types.now) (internal_view value.now).2)
-        && are_tagged (internal_view value.now).0
-        (map (expanded_variant_in types.now) (internal_view value.now).2)))) }
+    ensures { IfOk result (λ b. IsTrue b ↔ IsPlainShape (expanded_shape_in types.now
+        (enum (by_tag (internal_view value.now).0 (internal_view value.now).1)
+        (internal_view value.now).2))) }
 {
-    if !names_differ_inside(alloc, &value.variants)? {
-        return Ok(false);
-    }
-    if !are_plain_inside(alloc, types, &value.variants)? {
+    if !are_named_and_plain(alloc, types, &value.variants)? {
         return Ok(false);
     }
     are_tagged(alloc, types, value.tag.as_str(), &value.variants)
 }
 
 fn is_plain_adjacent(alloc: Global, types: &Types, value: &Adjacent) -> Result<bool, AllocError>
-    ensures { IfOk result (λ b. b
-        ≡ (not (bytes_eq (adjacent_view value.now).0 (adjacent_view value.now).1)
-        && (all_differ (names_of_variants (adjacent_view value.now).3)
-        && are_plain_variants (map (expanded_variant_in types.now) (adjacent_view value.now).3)))) }
+    ensures { IfOk result (λ b. IsTrue b ↔ IsPlainShape (expanded_shape_in types.now
+        (enum (by_tag_and_content (adjacent_view value.now).0 (adjacent_view value.now).1
+        (adjacent_view value.now).2) (adjacent_view value.now).3))) }
 {
     if value.tag == value.content {
         return Ok(false);

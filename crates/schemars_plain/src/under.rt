@@ -1,16 +1,18 @@
 //! Tables that are plain under a contract: Options and enums may be flattened too.
-ghost use Rattle.std.specs.Prelude.{◌≡◌, ◌↔◌, ◌&&◌, map, not, IsTrue, IfOk, option_map, Some, None};
-ghost use Rattle.schemars_shapes.specs.Shape.{shape_of, flattened_of, payload_of, variant_of, internal_payload_of, internal_variant_of, internal_view};
+ghost use Rattle.std.specs.Prelude.{◌≡◌, ◌↔◌, map, IsTrue, IfOk, option_map, false};
+ghost use Rattle.schemars_shapes.specs.Shape.{shape_of, flattened_of, internal_variant_of};
+ghost use Rattle.schemars_shapes.specs.AnyPayload.{any_payload_of};
 ghost use Rattle.schemars_types.specs.Rows.{entry_at};
-ghost use Rattle.schemars_documents.specs.PlainTable.{payload_parts, parts_in, may_miss, IsEntryUnder, IsPlainUnder};
-ghost use Rattle.schemars_plain.specs.Under.{payload_apart, variants_apart, shape_apart, is_bare, has_bare_units, has_no_enums, variants_have_no_enums, is_part_enum, is_part_shape, is_part_entry, is_part_under, are_parts_under, payloads_have_parts_under};
+ghost use Rattle.schemars_types.specs.Effective.{flattened_in, part_enums, expanded_payload, expanded_variant, expanded_shape_in};
+ghost use Rattle.schemars_documents.specs.PlainTable.{parts_in, variant_parts, may_miss, tag_names, enum_names_at, PayloadHasNamesApart, VariantsHaveNamesApart, ShapeHasNamesApart, IsBare, HasBareUnits, HasVariant, HasNoEnums, VariantsHaveNoEnums, IsPartShape, IsPartUnder, ArePartsUnder, IsEntryUnder, IsPlainUnder};
 
 use crate::enums::{fields_apart, flattened_enums};
 use crate::notes::{are_notes, has_no_notes};
+use crate::parts::payload_parts;
 use crate::table::is_plain_shape;
+use schemars_shapes::{AnyPayload, AnyVariant};
 use schemars_types::{
-    Contract, Flattened, Internal, InternalPayload, InternalVariant, Payload, Shape, TypeNo, Types,
-    Variant, row_inside, without_options,
+    Contract, Flattened, InternalVariant, Shape, TypeNo, Types, row_inside, without_options,
 };
 use std::alloc::{AllocError, Global};
 
@@ -66,15 +68,19 @@ pub fn is_plain_row_under(
 ///
 /// Only where memory runs out.
 pub fn has_names_apart(alloc: Global, types: &Types, shape: &Shape) -> Result<bool, AllocError>
-    ensures { IfOk result (λ b. b ≡ shape_apart types.now (shape_of shape.now)) }
+    ensures { IfOk result (λ b. IsTrue b ↔ ShapeHasNamesApart (enum_names_at types.now)
+        (expanded_shape_in types.now (shape_of shape.now))) }
 {
     match shape {
         Shape::Struct(fields) => fields_apart(alloc, types, None, fields),
         Shape::External(variants) | Shape::Untagged(variants) => {
-            variants_apart(alloc, types, variants)
+            variants_apart(alloc, types, None, variants)
         }
-        Shape::Internal(internal) => internal_apart(alloc, types, internal),
-        Shape::Adjacent(adjacent) => variants_apart(alloc, types, &adjacent.variants),
+        Shape::Internal(internal) => {
+            let tag = Some(internal.tag.as_str());
+            variants_apart(alloc, types, tag, &internal.variants)
+        }
+        Shape::Adjacent(adjacent) => variants_apart(alloc, types, None, &adjacent.variants),
         Shape::Null | Shape::Bool | Shape::Int(_) | Shape::NonZero(_) => Ok(true),
         Shape::Number | Shape::Text | Shape::Char | Shape::Formatted(_) => Ok(true),
         Shape::Any | Shape::Bytes | Shape::SchemaItself | Shape::Literal(_) => Ok(true),
@@ -85,50 +91,39 @@ pub fn has_names_apart(alloc: Global, types: &Types, shape: &Shape) -> Result<bo
     }
 }
 
-fn variants_apart(alloc: Global, types: &Types, variants: &[Variant]) -> Result<bool, AllocError>
-    ensures { IfOk result (λ b. b ≡ variants_apart types.now None (map variant_of variants.now)) }
-{
-    for variant in variants {
-        if !payload_apart(alloc, types, &variant.payload)? {
-            return Ok(false);
-        }
-    }
-    Ok(true)
-}
-
-fn payload_apart(alloc: Global, types: &Types, payload: &Payload) -> Result<bool, AllocError>
-    ensures { IfOk result (λ b. b ≡ payload_apart types.now None (payload_of payload.now)) }
-{
-    match payload {
-        Payload::Struct(fields) => fields_apart(alloc, types, None, fields),
-        Payload::Unit | Payload::Newtype(_) | Payload::Tuple(_) => Ok(true),
-    }
-}
-
-fn internal_apart(alloc: Global, types: &Types, internal: &Internal) -> Result<bool, AllocError>
-    ensures { IfOk result (λ b. b ≡ variants_apart types.now (Some (internal_view internal.now).0)
-        (internal_view internal.now).2) }
-{
-    for variant in &internal.variants {
-        if !inside_apart(alloc, types, internal.tag.as_str(), &variant.payload)? {
-            return Ok(false);
-        }
-    }
-    Ok(true)
-}
-
-fn inside_apart(
+fn variants_apart<V: AnyVariant>(
     alloc: Global,
     types: &Types,
-    tag: &str,
-    payload: &InternalPayload,
+    tag: Option<&str>,
+    variants: &[V],
 ) -> Result<bool, AllocError>
-    ensures { IfOk result (λ b. b
-        ≡ payload_apart types.now (Some tag.now) (internal_payload_of payload.now)) }
+    ensures { IfOk result (λ b. IsTrue b ↔ VariantsHaveNamesApart (enum_names_at types.now)
+        (tag_names (option_map (λ t. t.now) tag.entry))
+        (map (expanded_variant (flattened_in types.now) (part_enums types.now))
+        (map V.says variants.now))) }
+{
+    for variant in variants {
+        if !payload_apart(alloc, types, tag, variant.payload())? {
+            return Ok(false);
+        }
+    }
+    Ok(true)
+}
+
+fn payload_apart(
+    alloc: Global,
+    types: &Types,
+    tag: Option<&str>,
+    payload: AnyPayload<'_>,
+) -> Result<bool, AllocError>
+    ensures { IfOk result (λ b. IsTrue b ↔ PayloadHasNamesApart (enum_names_at types.now)
+        (tag_names (option_map (λ t. t.now) tag.entry))
+        (expanded_payload (flattened_in types.now) (part_enums types.now)
+        (any_payload_of payload.entry))) }
 {
     match payload {
-        InternalPayload::Struct(fields) => fields_apart(alloc, types, Some(tag), fields),
-        InternalPayload::Unit | InternalPayload::Newtype(_) => Ok(true),
+        AnyPayload::Struct(fields) => fields_apart(alloc, types, tag, fields),
+        AnyPayload::Unit | AnyPayload::Newtype(_) | AnyPayload::Tuple(_) => Ok(true),
     }
 }
 
@@ -138,22 +133,21 @@ fn inside_apart(
 /// # Errors
 ///
 /// Only where memory runs out.
-#[tactic(auto, using(crate::proofs::UnderContract::variants_parts))]
 pub fn has_parts_under(
     alloc: Global,
     contract: Contract,
     types: &Types,
     shape: &Shape,
 ) -> Result<bool, AllocError>
-    ensures { IfOk result (λ b. b
-        ≡ are_parts_under contract types.now (parts_in (shape_of shape.now))) }
+    ensures { IfOk result (λ b. IsTrue b
+        ↔ ArePartsUnder contract types.now (parts_in (shape_of shape.now))) }
 {
     match shape {
         Shape::Struct(fields) => are_parts_under(alloc, contract, types, &fields.flatten),
         Shape::External(variants) | Shape::Untagged(variants) => {
             variants_under(alloc, contract, types, variants)
         }
-        Shape::Internal(internal) => inside_under(alloc, contract, types, &internal.variants),
+        Shape::Internal(internal) => variants_under(alloc, contract, types, &internal.variants),
         Shape::Adjacent(adjacent) => variants_under(alloc, contract, types, &adjacent.variants),
         Shape::Null | Shape::Bool | Shape::Int(_) | Shape::NonZero(_) => Ok(true),
         Shape::Number | Shape::Text | Shape::Char | Shape::Formatted(_) => Ok(true),
@@ -165,58 +159,22 @@ pub fn has_parts_under(
     }
 }
 
-fn variants_under(
+fn variants_under<V: AnyVariant>(
     alloc: Global,
     contract: Contract,
     types: &Types,
-    variants: &[Variant],
+    variants: &[V],
 ) -> Result<bool, AllocError>
-    ensures { IfOk result (λ b. b
-        ≡ payloads_have_parts_under contract types.now (map variant_of variants.now)) }
+    ensures { IfOk result (λ b. IsTrue b
+        ↔ ArePartsUnder contract types.now (variant_parts (map V.says variants.now))) }
 {
     for variant in variants {
-        let parts = payload_parts(&variant.payload);
+        let parts = payload_parts(variant.payload());
         if !are_parts_under(alloc, contract, types, parts)? {
             return Ok(false);
         }
     }
     Ok(true)
-}
-
-fn inside_under(
-    alloc: Global,
-    contract: Contract,
-    types: &Types,
-    variants: &[InternalVariant],
-) -> Result<bool, AllocError>
-    ensures { IfOk result (λ b. b
-        ≡ payloads_have_parts_under contract types.now (map internal_variant_of variants.now)) }
-{
-    for variant in variants {
-        let parts = inside_parts(&variant.payload);
-        if !are_parts_under(alloc, contract, types, parts)? {
-            return Ok(false);
-        }
-    }
-    Ok(true)
-}
-
-fn payload_parts(payload: &Payload) -> &[Flattened]
-    ensures { map flattened_of result.now ≡ payload_parts (payload_of payload.now) }
-{
-    match payload {
-        Payload::Struct(fields) => &fields.flatten,
-        Payload::Unit | Payload::Newtype(_) | Payload::Tuple(_) => &[],
-    }
-}
-
-fn inside_parts(payload: &InternalPayload) -> &[Flattened]
-    ensures { map flattened_of result.now ≡ payload_parts (internal_payload_of payload.now) }
-{
-    match payload {
-        InternalPayload::Struct(fields) => &fields.flatten,
-        InternalPayload::Unit | InternalPayload::Newtype(_) => &[],
-    }
 }
 
 fn are_parts_under(
@@ -225,8 +183,8 @@ fn are_parts_under(
     types: &Types,
     parts: &[Flattened],
 ) -> Result<bool, AllocError>
-    ensures { IfOk result (λ b. b
-        ≡ are_parts_under contract types.now (map flattened_of parts.now)) }
+    ensures { IfOk result (λ b. IsTrue b
+        ↔ ArePartsUnder contract types.now (map flattened_of parts.now)) }
 {
     for part in parts {
         if !is_part_under(alloc, contract, types, part)? {
@@ -242,7 +200,8 @@ fn is_part_under(
     types: &Types,
     part: &Flattened,
 ) -> Result<bool, AllocError>
-    ensures { IfOk result (λ b. b ≡ is_part_under contract types.now (flattened_of part.now)) }
+    ensures { IfOk result (λ b. IsTrue b
+        ↔ IsPartUnder contract types.now (flattened_of part.now)) }
 {
     let optional = may_miss(contract, types, part);
     match types.entry(without_options(types, part.ty)) {
@@ -268,15 +227,14 @@ fn is_part_shape(
     optional: bool,
     shape: &Shape,
 ) -> Result<bool, AllocError>
-    ensures { IfOk result (λ b. b ≡ is_part_shape types.now optional (shape_of shape.now)) }
+    ensures { IfOk result (λ b. IsTrue b
+        ↔ IsPartShape types.now optional (shape_of shape.now)) }
 {
     match shape {
         Shape::Struct(fields) if fields.closed => Ok(false),
         Shape::Struct(fields) if optional => has_no_enums(alloc, types, &fields.flatten),
         Shape::Struct(_) => Ok(true),
-        Shape::External(variants) => {
-            Ok(!optional && !variants.is_empty() && has_bare_units(variants))
-        }
+        Shape::External(variants) => Ok(!optional && is_part_enum(variants)),
         Shape::Internal(internal) => is_part_internal(alloc, types, optional, &internal.variants),
         Shape::Untagged(_) | Shape::Adjacent(_) => Ok(false),
         Shape::Null | Shape::Bool | Shape::Int(_) | Shape::NonZero(_) => Ok(false),
@@ -295,18 +253,28 @@ fn is_part_internal(
     optional: bool,
     variants: &[InternalVariant],
 ) -> Result<bool, AllocError>
-    ensures { IfOk result (λ b. b ≡ (is_part_enum optional (map internal_variant_of variants.now)
-        && variants_have_no_enums types.now (map internal_variant_of variants.now))) }
+    ensures { IfOk result (λ b. IsTrue b ↔ ((optional ≡ false)
+        × HasVariant (map internal_variant_of variants.now)
+        × HasBareUnits (map internal_variant_of variants.now)
+        × VariantsHaveNoEnums types.now (map internal_variant_of variants.now))) }
 {
-    if !optional && !variants.is_empty() && has_bare_units_inside(variants) {
+    if !optional && is_part_enum(variants) {
         variants_have_no_enums(alloc, types, variants)
     } else {
         Ok(false)
     }
 }
 
-fn has_bare_units(variants: &[Variant]) -> bool
-    ensures { result ≡ has_bare_units (map variant_of variants.now) }
+// There is a variant, and units have no notes.
+fn is_part_enum<V: AnyVariant>(variants: &[V]) -> bool
+    ensures { IsTrue result
+        ↔ (HasVariant (map V.says variants.now) × HasBareUnits (map V.says variants.now)) }
+{
+    !variants.is_empty() && has_bare_units(variants)
+}
+
+fn has_bare_units<V: AnyVariant>(variants: &[V]) -> bool
+    ensures { IsTrue result ↔ HasBareUnits (map V.says variants.now) }
 {
     for variant in variants {
         if !is_bare(variant) {
@@ -316,32 +284,12 @@ fn has_bare_units(variants: &[Variant]) -> bool
     true
 }
 
-fn is_bare(variant: &Variant) -> bool
-    ensures { result ≡ is_bare (variant_of variant.now) }
+fn is_bare<V: AnyVariant>(variant: &V) -> bool
+    ensures { IsTrue result ↔ IsBare (V.says variant.now) }
 {
-    match &variant.payload {
-        Payload::Unit => has_no_notes(&variant.notes),
-        Payload::Newtype(_) | Payload::Tuple(_) | Payload::Struct(_) => true,
-    }
-}
-
-fn has_bare_units_inside(variants: &[InternalVariant]) -> bool
-    ensures { result ≡ has_bare_units (map internal_variant_of variants.now) }
-{
-    for variant in variants {
-        if !is_bare_inside(variant) {
-            return false;
-        }
-    }
-    true
-}
-
-fn is_bare_inside(variant: &InternalVariant) -> bool
-    ensures { result ≡ is_bare (internal_variant_of variant.now) }
-{
-    match &variant.payload {
-        InternalPayload::Unit => has_no_notes(&variant.notes),
-        InternalPayload::Newtype(_) | InternalPayload::Struct(_) => true,
+    match variant.payload() {
+        AnyPayload::Unit => has_no_notes(variant.notes()),
+        AnyPayload::Newtype(_) | AnyPayload::Tuple(_) | AnyPayload::Struct(_) => true,
     }
 }
 
@@ -350,11 +298,11 @@ fn variants_have_no_enums(
     types: &Types,
     variants: &[InternalVariant],
 ) -> Result<bool, AllocError>
-    ensures { IfOk result (λ b. b
-        ≡ variants_have_no_enums types.now (map internal_variant_of variants.now)) }
+    ensures { IfOk result (λ b. IsTrue b
+        ↔ VariantsHaveNoEnums types.now (map internal_variant_of variants.now)) }
 {
     for variant in variants {
-        if !has_no_enums(alloc, types, inside_parts(&variant.payload))? {
+        if !has_no_enums(alloc, types, payload_parts(variant.payload()))? {
             return Ok(false);
         }
     }
@@ -362,7 +310,8 @@ fn variants_have_no_enums(
 }
 
 fn has_no_enums(alloc: Global, types: &Types, parts: &[Flattened]) -> Result<bool, AllocError>
-    ensures { IfOk result (λ b. b ≡ has_no_enums types.now (map flattened_of parts.now)) }
+    ensures { IfOk result (λ b. IsTrue b
+        ↔ HasNoEnums types.now (map flattened_of parts.now)) }
 {
     let enums = flattened_enums(alloc, types, parts)?;
     Ok(enums.is_empty())

@@ -1,24 +1,26 @@
 //! The variants of enums.
-ghost use Rattle.std.specs.Prelude.{◌≡◌, ◌&&◌, map, IfOk};
-ghost use Rattle.serde_json.specs.View.{members_view};
-ghost use Rattle.schemars_shapes.specs.Shape.{payload_of, variant_of, internal_payload_of, internal_variant_of};
-ghost use Rattle.schemars_plain.specs.Decided.{is_plain_payload, is_plain_variant, are_plain_variants, names_of_variants, all_differ, is_tagged, are_tagged, expanded_variant_in, expanded_payload_in};
+ghost use Rattle.std.specs.Prelude.{◌↔◌, map, IsTrue, IfOk};
+ghost use Rattle.schemars_shapes.specs.AnyPayload.{any_payload_of};
+ghost use Rattle.schemars_types.specs.Effective.{flattened_in, part_enums, expanded_variant, expanded_payload};
+ghost use Rattle.schemars_documents.specs.PlainTable.{IsNoVariant, AreDistinctVariants, IsPlainPayload, ArePlainVariants, IsTagged, AreTagged};
+ghost use Rattle.schemars_schema.specs.Annotations.{AreNotes};
 
-use crate::fields::{are_plain, has_name};
-use crate::names::all_differ;
-use crate::notes::are_annotations;
-use schemars_types::{InternalPayload, InternalVariant, Payload, Types, Variant};
+use crate::fields::{are_plain, lacks};
+use crate::notes::are_notes;
+use schemars_shapes::{AnyPayload, AnyVariant};
+use schemars_types::Types;
 use std::alloc::{AllocError, Global};
 
 /// Whether the notes of the variants and of their fields are annotations alone, and the names of
 /// the fields of each all differ.
-pub fn are_plain_variants(
+pub fn are_plain_variants<V: AnyVariant>(
     alloc: Global,
     types: &Types,
-    variants: &[Variant],
+    variants: &[V],
 ) -> Result<bool, AllocError>
-    ensures { IfOk result (λ b. b
-        ≡ are_plain_variants (map (expanded_variant_in types.now) (map variant_of variants.now))) }
+    ensures { IfOk result (λ b. IsTrue b ↔ ArePlainVariants
+        (map (expanded_variant (flattened_in types.now) (part_enums types.now))
+        (map V.says variants.now))) }
 {
     for variant in variants {
         if !is_plain_variant(alloc, types, variant)? {
@@ -28,115 +30,73 @@ pub fn are_plain_variants(
     Ok(true)
 }
 
-fn is_plain_variant(alloc: Global, types: &Types, variant: &Variant) -> Result<bool, AllocError>
-    ensures { IfOk result (λ b. b
-        ≡ is_plain_variant (expanded_variant_in types.now (variant_of variant.now))) }
+fn is_plain_variant<V: AnyVariant>(
+    alloc: Global,
+    types: &Types,
+    variant: &V,
+) -> Result<bool, AllocError>
+    ensures { IfOk result (λ b. IsTrue b ↔ (AreNotes (V.says variant.now).notes
+        × IsPlainPayload (expanded_payload (flattened_in types.now) (part_enums types.now)
+        (V.says variant.now).payload))) }
 {
-    if !are_annotations(&variant.notes) {
+    if !are_notes(variant.notes()) {
         return Ok(false);
     }
-    is_plain_payload(alloc, types, &variant.payload)
+    is_plain_payload(alloc, types, variant.payload())
 }
 
-fn is_plain_payload(alloc: Global, types: &Types, payload: &Payload) -> Result<bool, AllocError>
-    ensures { IfOk result (λ b. b
-        ≡ is_plain_payload (expanded_payload_in types.now (payload_of payload.now))) }
+fn is_plain_payload(
+    alloc: Global,
+    types: &Types,
+    payload: AnyPayload<'_>,
+) -> Result<bool, AllocError>
+    ensures { IfOk result (λ b. IsTrue b ↔ IsPlainPayload
+        (expanded_payload (flattened_in types.now) (part_enums types.now)
+        (any_payload_of payload.entry))) }
 {
     match payload {
-        Payload::Struct(fields) => are_plain(alloc, types, fields),
-        Payload::Unit | Payload::Newtype(_) | Payload::Tuple(_) => Ok(true),
+        AnyPayload::Struct(fields) => are_plain(alloc, types, fields),
+        AnyPayload::Unit | AnyPayload::Newtype(_) | AnyPayload::Tuple(_) => Ok(true),
     }
 }
 
 /// Whether the names of the variants all differ.
-pub fn names_differ(alloc: Global, variants: &[Variant]) -> Result<bool, AllocError>
-    ensures { IfOk result (λ b. b ≡ all_differ (names_of_variants (map variant_of variants.now))) }
+pub fn are_distinct_variants<V: AnyVariant>(variants: &[V]) -> bool
+    ensures { IsTrue result ↔ AreDistinctVariants (map V.says variants.now) }
 {
-    let names = variant_names(alloc, variants)?;
-    Ok(all_differ(&names))
-}
-
-/// The names of the variants.
-pub fn variant_names(alloc: Global, variants: &[Variant]) -> Result<Vec<&str>, AllocError>
-    ensures { IfOk result (λ v. map (λ n. n.now) v.items
-        ≡ names_of_variants (map variant_of variants.now)) }
-{
-    let mut names = Vec::new(alloc);
-    for variant in variants {
-        names.push(variant.name.as_str())?;
-    }
-    Ok(names)
-}
-
-/// The same for variants that are tagged inside their maps.
-pub fn are_plain_inside(
-    alloc: Global,
-    types: &Types,
-    variants: &[InternalVariant],
-) -> Result<bool, AllocError>
-    ensures { IfOk result (λ b. b ≡ are_plain_variants
-        (map (expanded_variant_in types.now) (map internal_variant_of variants.now))) }
-{
-    for variant in variants {
-        if !is_plain_inside(alloc, types, variant)? {
-            return Ok(false);
+    for (n, variant) in variants.iter().enumerate() {
+        if !is_no_variant(variant.name(), &variants[n + 1..]) {
+            return false;
         }
     }
-    Ok(true)
+    true
 }
 
-fn is_plain_inside(
-    alloc: Global,
-    types: &Types,
-    variant: &InternalVariant,
-) -> Result<bool, AllocError>
-    ensures { IfOk result (λ b. b
-        ≡ is_plain_variant (expanded_variant_in types.now (internal_variant_of variant.now))) }
+// Whether no variant has this name.
+fn is_no_variant<V: AnyVariant>(name: &str, variants: &[V]) -> bool
+    ensures { IsTrue result ↔ IsNoVariant name.now (map V.says variants.now) }
 {
-    if !are_annotations(&variant.notes) {
-        return Ok(false);
-    }
-    is_plain_content(alloc, types, &variant.payload)
-}
-
-fn is_plain_content(
-    alloc: Global,
-    types: &Types,
-    payload: &InternalPayload,
-) -> Result<bool, AllocError>
-    ensures { IfOk result (λ b. b
-        ≡ is_plain_payload (expanded_payload_in types.now (internal_payload_of payload.now))) }
-{
-    match payload {
-        InternalPayload::Struct(fields) => are_plain(alloc, types, fields),
-        InternalPayload::Unit | InternalPayload::Newtype(_) => Ok(true),
-    }
-}
-
-/// Whether the names of the variants all differ.
-pub fn names_differ_inside(alloc: Global, variants: &[InternalVariant]) -> Result<bool, AllocError>
-    ensures { IfOk result (λ b. b
-        ≡ all_differ (names_of_variants (map internal_variant_of variants.now))) }
-{
-    let mut names = Vec::new(alloc);
     for variant in variants {
-        names.push(variant.name.as_str())?;
+        if variant.name() == name {
+            return false;
+        }
     }
-    Ok(all_differ(&names))
+    true
 }
 
 /// Whether each variant is a unit, or has fields of which none is named as the tag.
-pub fn are_tagged(
+pub fn are_tagged<V: AnyVariant>(
     alloc: Global,
     types: &Types,
     tag: &str,
-    variants: &[InternalVariant],
+    variants: &[V],
 ) -> Result<bool, AllocError>
-    ensures { IfOk result (λ b. b ≡ are_tagged tag.now
-        (map (expanded_variant_in types.now) (map internal_variant_of variants.now))) }
+    ensures { IfOk result (λ b. IsTrue b ↔ AreTagged tag.now
+        (map (expanded_variant (flattened_in types.now) (part_enums types.now))
+        (map V.says variants.now))) }
 {
     for variant in variants {
-        if !is_tagged(alloc, types, tag, &variant.payload)? {
+        if !is_tagged(alloc, types, tag, variant.payload())? {
             return Ok(false);
         }
     }
@@ -147,17 +107,15 @@ fn is_tagged(
     alloc: Global,
     types: &Types,
     tag: &str,
-    payload: &InternalPayload,
+    payload: AnyPayload<'_>,
 ) -> Result<bool, AllocError>
-    ensures { IfOk result (λ b. b
-        ≡ is_tagged tag.now (expanded_payload_in types.now (internal_payload_of payload.now))) }
+    ensures { IfOk result (λ b. IsTrue b ↔ IsTagged tag.now
+        (expanded_payload (flattened_in types.now) (part_enums types.now)
+        (any_payload_of payload.entry))) }
 {
     match payload {
-        InternalPayload::Unit => Ok(true),
-        InternalPayload::Newtype(_) => Ok(false),
-        InternalPayload::Struct(fields) => {
-            let named = has_name(alloc, types, fields, tag)?;
-            Ok(!named)
-        }
+        AnyPayload::Unit => Ok(true),
+        AnyPayload::Newtype(_) | AnyPayload::Tuple(_) => Ok(false),
+        AnyPayload::Struct(fields) => lacks(alloc, types, fields, tag),
     }
 }

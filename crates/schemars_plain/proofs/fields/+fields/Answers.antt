@@ -1,9 +1,9 @@
 use Rattle.std.proofs.Common.{◌≡◌, ◌∙◌, ◌++◌, ◌-◌, suc, sym, ap, map, arith}
 use Rattle.std.proofs.lemmas.Result.{on_ok_weaker}
-use Rattle.schemars_shapes.specs.Shape.{fields_of, field_of}
+use Rattle.schemars_shapes.specs.Shape.{field_of}
 use Rattle.schemars_types.specs.Effective.{fields_within}
-use Rattle.schemars_plain.specs.Decided.{as_said}
-use Rattle.schemars_plain.proofs.Said.{within_none, some_struct, no_struct, adds_none, part_step}
+use Rattle.schemars_plain.specs.Said.{as_said}
+use Rattle.schemars_plain.proofs.Said.{no_steps, no_row, some_row, part_step}
 use Rattle.schemars_plain.proofs.fields.+fields.Goals as goal
 
 pub add_fields-loop-part-preserved : goal.add_fields-loop-part-preserved
@@ -12,23 +12,17 @@ add_fields-loop-part-preserved t c =
     c.without_options.result _ _ c.loop-part-test.true c.without_options.ensures c.in_ok-add_row.ensures c.loop-part.invariant
 
 pub add_row-returns-then-steps-eq0 : goal.add_row-returns-then-steps-eq0
-add_row-returns-then-steps-eq0 t c =
-    let rows = c.args.types.now in
-    adds_none _ (fields_within rows c.args.steps c.args.n)
-    (ap (λ k. fields_within rows k c.args.n) c.if-steps-eq0.true ∙ within_none rows c.args.n)
+add_row-returns-then-steps-eq0 t c = no_steps _ c.args.types.now c.args.steps c.args.n c.if-steps-eq0.true
 
 pub add_row-returns-in-Some : goal.add_row-returns-in-Some
 add_row-returns-in-Some t c =
-    let rows = c.args.types.now in
     let one : suc (c.args.steps - 1) ≡ c.args.steps = omega arith in
-    let same = some_struct rows c.args.steps (c.args.steps - 1) c.args.n (fields_of c.in-Some.fields.now) one c.in-Some.ensures in
-    on_ok_weaker c.add_fields.result
-    (λ added. added ∙ ap (λ fs. map (λ f. as_said (field_of f.now)) c.args.found.now.items ++ map as_said fs) (sym same))
-    c.add_fields.ensures
+    on_ok_weaker c.add_shape.result
+    (λ added. added ∙ ap (λ fs. map as_said (map (λ f. field_of f.now) c.args.found.now.items) ++ map as_said fs)
+    (sym (some_row c.args.types.now c.args.steps (c.args.steps - 1) c.args.n _ one c.in-Some.ensures)))
+    c.add_shape.ensures
 
 pub add_row-returns-in-None : goal.add_row-returns-in-None
 add_row-returns-in-None t c =
-    let rows = c.args.types.now in
     let one : suc (c.args.steps - 1) ≡ c.args.steps = omega arith in
-    adds_none _ (fields_within rows c.args.steps c.args.n)
-    (no_struct rows c.args.steps (c.args.steps - 1) c.args.n one c.in-None.ensures)
+    no_row _ c.args.types.now c.args.steps (c.args.steps - 1) c.args.n one c.in-None.ensures

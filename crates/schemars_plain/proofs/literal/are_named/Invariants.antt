@@ -1,8 +1,10 @@
 -- The names that are left decide.
 use Rattle.std.proofs.Common.{◌≡◌, drop}
+use Rattle.std.specs.Prelude.{is_some}
+use Rattle.serde_json.specs.Data.{array}
 use Rattle.serde_json.specs.View.{items_view}
-use Rattle.schemars_plain.specs.Decided.{are_named}
+use Rattle.schemars_schema.specs.Acceptance.{types_in}
 use Rattle.schemars_plain.proofs.literal.are_named.Given as goal
 
 abbrev pub invariant-loop-name : goal.invariant-loop-name
-invariant-loop-name l = are_named (items_view (drop l.name-index l.names)) ≡ are_named (items_view l.names)
+invariant-loop-name l = is_some (types_in (array (items_view (drop l.name-index l.names)))) ≡ is_some (types_in (array (items_view l.names)))

@@ -1,10 +1,10 @@
 -- The variants that are left decide.
-use Rattle.std.proofs.Common.{◌≡◌, map, drop}
-use Rattle.schemars_shapes.specs.Shape.{variant_of}
-use Rattle.schemars_plain.specs.Decided.{payloads_have_plain_parts}
+use Rattle.std.proofs.Common.{drop, map}
+use Rattle.std.specs.Prelude.{◌↔◌}
+use Rattle.schemars_documents.specs.PlainTable.{variant_parts, ArePlainParts}
 use Rattle.schemars_plain.proofs.parts.of_variants.Given as goal
 
 abbrev pub invariant-loop-variant : goal.invariant-loop-variant
-invariant-loop-variant l =
-    payloads_have_plain_parts l.types (map variant_of (drop l.variant-index l.variants))
-    ≡ payloads_have_plain_parts l.types (map variant_of l.variants)
+invariant-loop-variant g l =
+    ArePlainParts l.types (variant_parts (map g.V.AnyVariant.says (drop l.variant-index l.variants)))
+    ↔ ArePlainParts l.types (variant_parts (map g.V.AnyVariant.says l.variants))

@@ -1,10 +1,9 @@
 -- The variants that are left decide.
-use Rattle.std.proofs.Common.{◌≡◌, drop, map}
-use Rattle.schemars_shapes.specs.Shape.{variant_of}
-use Rattle.schemars_plain.specs.Under.{has_bare_units}
+use Rattle.std.proofs.Common.{drop, map}
+use Rattle.std.specs.Prelude.{◌↔◌}
+use Rattle.schemars_documents.specs.PlainTable.{HasBareUnits}
 use Rattle.schemars_plain.proofs.under.has_bare_units.Given as goal
 
 abbrev pub invariant-loop-variant : goal.invariant-loop-variant
-invariant-loop-variant l =
-    has_bare_units (map variant_of (drop l.variant-index l.variants))
-    ≡ has_bare_units (map variant_of l.variants)
+invariant-loop-variant g l =
+    HasBareUnits (map g.V.AnyVariant.says (drop l.variant-index l.variants)) ↔ HasBareUnits (map g.V.AnyVariant.says l.variants)

@@ -1,10 +1,13 @@
 -- The variants that are left decide.
-use Rattle.std.proofs.Common.{◌≡◌, drop, map, None}
-use Rattle.schemars_shapes.specs.Shape.{variant_of}
-use Rattle.schemars_plain.specs.Under.{variants_apart}
+use Rattle.std.proofs.Common.{drop, map}
+use Rattle.std.specs.Prelude.{◌↔◌, option_map}
+use Rattle.schemars_types.specs.Effective.{flattened_in, part_enums, expanded_variant}
+use Rattle.schemars_documents.specs.PlainTable.{enum_names_at, tag_names, VariantsHaveNamesApart}
 use Rattle.schemars_plain.proofs.under.variants_apart.Given as goal
 
 abbrev pub invariant-loop-variant : goal.invariant-loop-variant
-invariant-loop-variant l =
-    variants_apart l.types None (map variant_of (drop l.variant-index l.variants))
-    ≡ variants_apart l.types None (map variant_of l.variants)
+invariant-loop-variant g l =
+    VariantsHaveNamesApart (enum_names_at l.types) (tag_names (option_map (λ t. t.now) l.tag))
+    (map (expanded_variant (flattened_in l.types) (part_enums l.types)) (map g.V.AnyVariant.says (drop l.variant-index l.variants)))
+    ↔ VariantsHaveNamesApart (enum_names_at l.types) (tag_names (option_map (λ t. t.now) l.tag))
+    (map (expanded_variant (flattened_in l.types) (part_enums l.types)) (map g.V.AnyVariant.says l.variants))

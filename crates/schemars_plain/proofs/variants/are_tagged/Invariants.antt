@@ -1,10 +1,12 @@
 -- The variants that are left decide.
-use Rattle.std.proofs.Common.{◌≡◌, map, drop}
-use Rattle.schemars_shapes.specs.Shape.{internal_variant_of}
-use Rattle.schemars_plain.specs.Decided.{are_tagged, expanded_variant_in}
+use Rattle.std.proofs.Common.{drop, map}
+use Rattle.std.specs.Prelude.{◌↔◌}
+use Rattle.schemars_types.specs.Effective.{flattened_in, part_enums, expanded_variant}
+use Rattle.schemars_documents.specs.PlainTable.{AreTagged}
 use Rattle.schemars_plain.proofs.variants.are_tagged.Given as goal
 
 abbrev pub invariant-loop-variant : goal.invariant-loop-variant
-invariant-loop-variant l =
-    are_tagged l.tag (map (expanded_variant_in l.types) (map internal_variant_of (drop l.variant-index l.variants)))
-    ≡ are_tagged l.tag (map (expanded_variant_in l.types) (map internal_variant_of l.variants))
+invariant-loop-variant g l =
+    AreTagged l.tag (map (expanded_variant (flattened_in l.types) (part_enums l.types))
+    (map g.V.AnyVariant.says (drop l.variant-index l.variants)))
+    ↔ AreTagged l.tag (map (expanded_variant (flattened_in l.types) (part_enums l.types)) (map g.V.AnyVariant.says l.variants))

@@ -1,9 +1,0 @@
--- The lists that are left decide.
-use Rattle.std.proofs.Common.{◌≡◌, drop, map}
-use Rattle.schemars_plain.specs.Under.{apart_from}
-use Rattle.schemars_plain.proofs.names.apart_from.Given as goal
-
-abbrev pub invariant-loop-list : goal.invariant-loop-list
-invariant-loop-list l =
-    apart_from (map (λ n. n.now) l.names) (map (λ names. map (λ n. n.now) names.items) (drop l.list-index l.lists))
-    ≡ apart_from (map (λ n. n.now) l.names) (map (λ names. map (λ n. n.now) names.items) l.lists)

@@ -1,0 +1,10 @@
+-- The fields that are left decide.
+use Rattle.std.proofs.Common.{drop, map}
+use Rattle.std.specs.Prelude.{◌↔◌}
+use Rattle.schemars_shapes.specs.Shape.{field_of}
+use Rattle.schemars_documents.specs.PlainTable.{IsNoName}
+use Rattle.schemars_plain.proofs.names.is_no_name.Given as goal
+
+abbrev pub invariant-loop-field : goal.invariant-loop-field
+invariant-loop-field l =
+    IsNoName l.name (map (λ f. field_of f.now) (drop l.field-index l.fields)) ↔ IsNoName l.name (map (λ f. field_of f.now) l.fields)

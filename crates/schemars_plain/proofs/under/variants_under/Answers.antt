@@ -1,0 +1,10 @@
+use Rattle.std.proofs.Common.{arith}
+use Rattle.std.proofs.lemmas.Grind.{common_steps}
+use Rattle.schemars_plain.proofs.Flattened.{all_append, all_first, all_rest}
+use Rattle.schemars_plain.proofs.under.variants_under.Goals as goal
+
+pub returns-then-not-branch : goal.returns-then-not-branch
+returns-then-not-branch g c = grind (arith, common_steps, all_first)
+
+pub loop-variant-preserved : goal.loop-variant-preserved
+loop-variant-preserved g c = grind (arith, common_steps, all_append, all_rest)

@@ -1,0 +1,9 @@
+-- The variants that are left decide.
+use Rattle.std.proofs.Common.{drop, map}
+use Rattle.std.specs.Prelude.{◌↔◌}
+use Rattle.schemars_documents.specs.PlainTable.{AreDistinctVariants}
+use Rattle.schemars_plain.proofs.variants.are_distinct_variants.Given as goal
+
+abbrev pub invariant-loop-n : goal.invariant-loop-n
+invariant-loop-n g l =
+    AreDistinctVariants (map g.V.AnyVariant.says (drop l.n l.variants)) ↔ AreDistinctVariants (map g.V.AnyVariant.says l.variants)
