@@ -13,7 +13,7 @@ deriver = crates/schemaderive/out/schemaderive
 retries = crates/schemars_retries/out/schemars_retries
 library = out/library
 # the crates below the programs, lowest first
-libraries = $(shell sed -n '/^schemagen:/q; s/^\([a-z_]*\):.*/\1/p' crates.txt) schemalint_run schemars_validator schemars_membership $(shell sed -n 's/^\(schemaderive_[a-z]*\):.*/\1/p' crates.txt | grep -v '_cases\|_proved')
+libraries = $(shell sed -n '/^schemagen:/q; s/^\([a-z_]*\):.*/\1/p' crates.txt) schemalint_run schemars_readable schemars_validator schemars_membership $(shell sed -n 's/^\(schemaderive_[a-z]*\):.*/\1/p' crates.txt | grep -v '_cases\|_proved')
 
 help:
 	@echo 'make run [TABLE="FILE.."] [DIALECT=..] [FLAGS=..] prints the document of each table, without proofs'

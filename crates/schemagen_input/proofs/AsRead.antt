@@ -1,22 +1,7 @@
 -- What is read from a text has whole numbers of 64 bits and finite floats, and keys in order, each once.
 use Rattle.std.proofs.Common.{◌≡◌, ℕ, zero, suc, List, Bool, true, false, Option, Some, None, Ordering, Less, Equal, Greater, nat_cmp, refl, subst, arith}
-use Rattle.std.proofs.lemmas.Bool.{cond_both, leb-true, ltb-true}
-use Rattle.std.proofs.lemmas.Option.{option_and_then_some}
-use Rattle.std.specs.Prelude.{◌^◌, ◌&&◌, ◌==◌, drop, slice_index, nat_lt, nat_le, option_map, option_and_then, if◌then◌else◌, ⊤}
-use Rattle.std.specs.Option.{IfSome}
-use Rattle.std.specs.Ordering.{match_ordering}
-use Rattle.std.specs.Cmp.Lexicographic.{slice_cmp}
-use Rattle.fast_float.specs.Text.{Parts, digits_of, minus, nearest, scan, with_sign}
-use Rattle.std.specs.Float.{binary64, float_is_finite}
+use Rattle.schemagen_input.proofs.Words.{cond_both, leb-true, ltb-true, option_and_then_some, ◌^◌, ◌&&◌, ◌==◌, drop, slice_index, nat_lt, nat_le, option_map, option_and_then, if◌then◌else◌, ⊤, IfSome, match_ordering, slice_cmp, Parts, digits_of, minus, nearest, scan, with_sign, binary64, float_is_finite, tokens, Num, unsigned, negative, float, Data, number, object, array, item, Members, no_members, member, put, is_integer, float_of, number_from, number_of, of_json, of_items, of_members, max_depth, read, IsNumber, Text, IsSorted, sorted-put, IsAsRead, AreAsRead, AreMembersAsRead, if_mapped, if_next}
 use Rattle.json.specs.Json as json
-use Rattle.json.specs.Lex.{tokens}
-use Rattle.serde_json.specs.Data.{Num, unsigned, negative, float, Data, number, object, array, item, Members, no_members, member, put}
-use Rattle.serde_json.specs.Read.{is_integer, float_of, number_from, number_of, of_json, of_items, of_members, max_depth, read}
-use Rattle.schemars_schema.specs.Numbers.{IsNumber}
-use Rattle.schemars_schema.specs.Json.{Text}
-use Rattle.schemars_schema.proofs.SortedMembers.{IsSorted, sorted-put}
-use Rattle.schemagen_input.specs.SampleInput.{IsAsRead, AreAsRead, AreMembersAsRead}
-use Rattle.schemars_sample.proofs.Results.{if_mapped, if_next}
 
 -- ---- numbers
 

@@ -1,14 +1,7 @@
 -- What the definition of an input says of some texts.
 use Rattle.std.proofs.Common.{◌≡◌, ℕ, List, [], ◌∷◌, true, false, Option, Some, None, option_and_then, codes, refl}
-use Rattle.serde_json.specs.Read.{read}
-use Rattle.serde_json.proofs.OnLiterals.{serde_json_on_literals}
-use Rattle.schemars_schema.specs.Json.{Text}
-use Rattle.serde_json.specs.Data.{null, boolean, number, unsigned, string, array, no_items, item, Members, no_members, member}
+use Rattle.schemagen_input.proofs.Words.{read, serde_json_on_literals, Text, null, boolean, number, unsigned, string, array, no_items, item, Members, no_members, member, Shape, Field, Flattened, Fields, Required, bare_fields, without_notes, in_place, int, non_zero, formatted, char, any, option, seq, struct, enum, by_name, by_nothing, by_tag, Payload, Variant, no_payload, newtype_payload, tuple_payload, struct_payload, by_tag_and_content, Row, required, input_of}
 use Rattle.schemars_shapes.specs.declared.shape.IntKind.TheVariants.{U8, I32, I128}
-use Rattle.schemars_shapes.specs.Shape.{Shape, Field, Flattened, Fields, Required, bare_fields, without_notes, in_place, int, non_zero, formatted, char, any, option, seq, struct, enum, by_name, by_nothing, by_tag, Payload, Variant, no_payload, newtype_payload, tuple_payload, struct_payload, by_tag_and_content}
-use Rattle.schemars_types.specs.Rows.{Row}
-use Rattle.schemagen_input.specs.Forms.{required}
-use Rattle.schemagen_input.specs.Input.{input_of}
 
 row : Text → Text → Shape → Row
 row id name shape = record { id = id; name = name; entry = Some (in_place shape) }

@@ -1,22 +1,6 @@
 -- What is said of a field, a struct, a variant, an enum, a row and one member, with one member more.
 use Rattle.std.proofs.Common.{◌≡◌, List, [], ◌∷◌, ◌++◌, map, Bor, true, false, ◌&&◌, Option, Some, None, option_map, option_and_then, codes, string_bytes, refl, ap, ◌∙◌, sym, subst, true≢false, Ordering, Less, Equal, Greater, is_eq, nat_cmp}
-use Rattle.std.specs.Cmp.Lexicographic.{slice_cmp}
-use Rattle.std.specs.Option.{option_map_or}
-use Rattle.std.specs.Ordering.{match_ordering}
-use Rattle.std.specs.Str.{bytes_eq}
-use Rattle.std.proofs.lemmas.Cmp.{nat_list_cmp_total, tied_itself}
-use Rattle.std.proofs.lemmas.Map.Text.{is_eq-slice_cmp}
-use Rattle.std.proofs.lemmas.Slice.Eq.{bytes_eq-Decides}
-use Rattle.serde_json.specs.Data.{Data, no_items, Members, no_members, member, object, put}
-use Rattle.serde_json.specs.Find.{as_array, as_bool, as_object, as_str, get}
-use Rattle.serde_json.specs.View.{items_of, members_view}
-use Rattle.schemars_schema.specs.Json.{Text}
-use Rattle.schemars_shapes.specs.Shape.{field_of, flattened_of, no_payload, payload_of, required_of, shape_of}
-use Rattle.schemars_text.specs.OrderedText.{is_listed}
-use Rattle.schemagen_input.specs.Forms.{adjacent_names, field_in, field_names, flattened_from, internal_names, number_in, optional_member, payload_in, read_each, read_list, required, required_in, variant_keys}
-use Rattle.schemagen_input.specs.Gathered.{AreOfField, AreOfStruct, AreOfVariant, AreOfEnum, AreOfTagged, AreOfRow, AreSeveral, can_be_lone}
-use Rattle.schemagen_input.specs.Input.{row_names, shape_in}
-use Rattle.schemagen_input.specs.Tokens.{listed, with_last}
+use Rattle.schemagen_input.proofs.Words.{slice_cmp, option_map_or, match_ordering, bytes_eq, nat_list_cmp_total, tied_itself, is_eq-slice_cmp, bytes_eq-Decides, Data, no_items, Members, no_members, member, object, put, as_array, as_bool, as_object, as_str, get, items_of, members_view, Text, field_of, flattened_of, no_payload, payload_of, required_of, shape_of, is_listed, adjacent_names, field_in, field_names, flattened_from, internal_names, number_in, optional_member, payload_in, read_each, read_list, required, required_in, variant_keys, AreOfField, AreOfStruct, AreOfVariant, AreOfEnum, AreOfTagged, AreOfRow, AreSeveral, can_be_lone, row_names, shape_in, listed, with_last}
 use Rattle.schemagen_input.specs.declared.tokens.enums.EnumMembers.{EnumMembers}
 use Rattle.schemagen_input.specs.declared.tokens.field.FieldMembers.{FieldMembers}
 use Rattle.schemagen_input.specs.declared.tokens.fields.StructMembers.{StructMembers}

@@ -1,6 +1,5 @@
 -- The lemmas of the proofs.
 pub mod Bounds
-mod Lists
 pub mod RowByRow
 pub mod TableMembers
 pub mod Written
@@ -14,3 +13,4 @@ mod Roots
 pub mod OneMember
 pub mod OtherKinds
 pub mod Gathering
+mod Words

@@ -1,16 +1,6 @@
 -- What is read has the library's shapes.
 use Rattle.std.proofs.Common.{◌≡◌, List, [], ◌∷◌, Bool, true, false, Option, Some, None, is_some, option_map, option_and_then, cond, codes, refl, subst}
-use Rattle.std.specs.List.{list_all}
-use Rattle.std.specs.Option.{option_map_or}
-use Rattle.serde_json.specs.Data.{Data, null, boolean, number, string, array, object, Items, no_items, item, Members}
-use Rattle.serde_json.specs.Find.{get}
-use Rattle.schemars_schema.specs.Json.{Text}
-use Rattle.schemars_shapes.specs.Shape.{Payload, no_payload, newtype_payload, tuple_payload, struct_payload, Variant, Entry, enum, by_tag}
-use Rattle.schemars_types.specs.Rows.{Row, with_entry}
-use Rattle.schemagen_json.specs.Members.{lone_in}
-use Rattle.schemagen_input.specs.Forms.{read_each, items_under, variant_in, variant_inside, payload_inside, internal_variant_in, internals_in, needed_member, internal_in, adjacent_in}
-use Rattle.schemagen_input.specs.Input.{shape_named, shape_under, plain_under, list_under, fixed_under, literal_in, shape_in, entry_in, heading_in, row_in, rows_in}
-use Rattle.schemagen_input.specs.Written.{is_library_shape, has_library_shape}
+use Rattle.schemagen_input.proofs.Words.{list_all, option_map_or, Data, null, boolean, number, string, array, object, Items, no_items, item, Members, get, Text, Payload, no_payload, newtype_payload, tuple_payload, struct_payload, Variant, Entry, enum, by_tag, Row, with_entry, lone_in, read_each, items_under, variant_in, variant_inside, payload_inside, internal_variant_in, internals_in, needed_member, internal_in, adjacent_in, shape_named, shape_under, plain_under, list_under, fixed_under, literal_in, shape_in, entry_in, heading_in, row_in, rows_in, is_library_shape, has_library_shape}
 
 -- what is said, if anything, passes
 record Passes {A : Type 0} (p : A → Bool) (o : Option A) : Type 0 where

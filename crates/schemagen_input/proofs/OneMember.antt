@@ -1,16 +1,6 @@
 -- What the members of an object say with one member more, of which the last one of a name counts.
 use Rattle.std.proofs.Common.{◌≡◌, ◌≢◌, List, Bool, true, false, ◌&&◌, Option, Some, option_and_then, cond, refl, ap, ◌∙◌, sym, true≢false}
-use Rattle.std.specs.Option.{option_map_or}
-use Rattle.std.specs.Str.{bytes_eq}
-use Rattle.std.proofs.lemmas.Slice.Eq.{bytes_eq-Decides}
-use Rattle.serde_json.specs.Data.{Data, Members, object, put}
-use Rattle.serde_json.specs.Find.{get}
-use Rattle.serde_json.proofs.Views.{get_member-put, get_member-put_other}
-use Rattle.schemars_schema.specs.Json.{Text}
-use Rattle.schemars_text.specs.OrderedText.{is_listed}
-use Rattle.schemagen_json.specs.Members.{has_only}
-use Rattle.schemagen_json.proofs.Members.{are_listed-put}
-use Rattle.schemagen_input.specs.Forms.{needed_member, optional_member}
+use Rattle.schemagen_input.proofs.Words.{option_map_or, bytes_eq, bytes_eq-Decides, Data, Members, object, put, get, get_member-put, get_member-put_other, Text, is_listed, has_only, are_listed-put, needed_member, optional_member}
 
 pub other_name : (k l : Text) → bytes_eq k l ≡ false → l ≢ k
 other_name k l other = λ is. true≢false (sym ((bytes_eq-Decides k l).1 (sym is)) ∙ other)

@@ -1,16 +1,9 @@
 -- What a value is not, by its first token: only a list begins with the token that opens one, and so on.
 use Rattle.std.proofs.Common.{◌≡◌, ◌≢◌, ℕ, zero, suc, ◌-◌, List, ◌∷◌, Bool, Bor, Option, Some, None, refl, ap, ◌∙◌, sym, arith}
-use Rattle.json.specs.Json.{parse_map, value}
-use Rattle.json.specs.Reads.{token_of}
+use Rattle.schemagen_input.proofs.Words.{parse_map, value, token_of, value_is, Data, Num, null, boolean, number, string, array, object, Items, Members, as_array, as_bool, as_object, as_str, of_json, converted, number_of, externally_tagged, string_read, boolean_read, null_read, number_read, number_refused, array_opened, object_opened, array_too_deep, object_too_deep, items_at, members_at}
 use Rattle.json.specs.Token as spec
 use Rattle.json.specs.declared.token.Token.{Token}
 use Rattle.json.specs.declared.token.Token.TheVariants.{BeginObject, EndObject, BeginArray, EndArray, Key, String, Number, Bool as Truth, Null, Bad}
-use Rattle.json.proofs.Grammar.{value_is}
-use Rattle.serde_json.specs.Data.{Data, Num, null, boolean, number, string, array, object, Items, Members}
-use Rattle.serde_json.specs.Find.{as_array, as_bool, as_object, as_str}
-use Rattle.serde_json.specs.Read.{of_json, converted, number_of}
-use Rattle.schemagen_input.specs.Forms.{externally_tagged}
-use Rattle.schemagen_json.proofs.Reading.{string_read, boolean_read, null_read, number_read, number_refused, array_opened, object_opened, array_too_deep, object_too_deep, items_at, members_at}
 
 abbrev Read : Type 0
 Read = Option (Data × List spec.Token)

@@ -1,9 +1,6 @@
 -- The root of a table is one of its rows, or it is no table.
 use Rattle.std.proofs.Common.{◌≡◌, ◌<◌, ◌≤◌, ℕ, nat_lt, List, length, true, false, Some, None, subst, arith}
-use Rattle.std.proofs.lemmas.Bool.Decides.{nat_tests}
-use Rattle.serde_json.specs.Data.{Data}
-use Rattle.schemars_types.specs.Rows.{Row}
-use Rattle.schemagen_input.specs.Input.{is_complete, is_table, table_in, input_of}
+use Rattle.schemagen_input.proofs.Words.{nat_tests, Data, Row, is_complete, is_table, table_in, input_of}
 
 below : (m n : ℕ) → m < n → nat_lt m n ≡ true
 below m n h = grind (arith, nat_tests)

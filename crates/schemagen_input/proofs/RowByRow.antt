@@ -1,27 +1,8 @@
 -- Why the headings and the entries that are read row by row give the table that the rows say.
 use Rattle.std.proofs.Common.{◌≡◌, ◌+◌, ◌<◌, ℕ, zero, suc, nat_lt, nat_le, List, [], ◌∷◌, ◌++◌, length, slice_get, Bool, true, false, not, ◌||◌, ◌&&◌, Option, Some, None, option_map, option_and_then, is_some, cond, codes, refl, ap, ◌∙◌, sym, arith, append_assoc, append-nil}
-use Rattle.std.specs.List.{list_all, list_any, position_from, find}
-use Rattle.std.specs.Option.{option_map_or}
-use Rattle.std.specs.Str.{bytes_eq}
-use Rattle.std.proofs.lemmas.List.Folds.{list_all-append}
-use Rattle.std.proofs.lemmas.Bool.Decides.{nat_tests}
-use Rattle.std.proofs.lemmas.Slice.Eq.{bytes_eq-Decides}
-use Rattle.std.proofs.lemmas.Bool.{and_parts, not-true}
-use Rattle.std.proofs.Math.Bool.{and-false, or-true}
-use Rattle.serde_json.specs.Data.{Data, Items, no_items, item}
-use Rattle.serde_json.specs.Find.{as_str}
-use Rattle.serde_json.specs.View.{items_of}
-use Rattle.schemars_schema.specs.Json.{Text}
-use Rattle.schemars_text.proofs.Members.{flipped}
-use Rattle.schemagen_json.specs.Members.{has_only}
-use Rattle.schemars_shapes.specs.Shape.{Entry, numbers_of}
-use Rattle.schemars_types.specs.Rows.{Row, place_of, with_entry, defined, reserved, unknown_in, holds_another}
-use Rattle.schemars_types.specs.Refusals.{refusal_of}
+use Rattle.schemagen_input.proofs.Words.{list_all, list_any, position_from, find, option_map_or, bytes_eq, list_all-append, nat_tests, bytes_eq-Decides, and_parts, not-true, and-false, or-true, Data, Items, no_items, item, as_str, items_of, Text, flipped, has_only, Entry, numbers_of, Row, place_of, with_entry, defined, reserved, unknown_in, holds_another, refusal_of, needed_member, read_each, unentered, row_names, heading_in, entry_in, row_in, rows_in, ids_differ, ids_of, refers_within, all_fit, is_complete, headings_in, AreListed, BeginsNoTable, IsNoTable, IsTableOf}
 use Rattle.schemars_types.specs.declared.error.TypesError.{TypesError}
 use Rattle.schemars_types.specs.declared.error.TypesError.TheVariants.{UnknownType, AlreadyDefined}
-use Rattle.schemagen_input.specs.Forms.{needed_member, read_each}
-use Rattle.schemagen_input.specs.Input.{unentered, row_names, heading_in, entry_in, row_in, rows_in, ids_differ, ids_of, refers_within, all_fit, is_complete}
-use Rattle.schemagen_input.specs.Listing.{headings_in, AreListed, BeginsNoTable, IsNoTable, IsTableOf}
 
 -- ---- options
 

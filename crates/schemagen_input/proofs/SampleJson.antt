@@ -1,21 +1,7 @@
 -- The JSON of the example that a JSON value is, is that value.
 use Rattle.std.proofs.Common.{◌≡◌, List, [], ◌∷◌, Option, Some, None, Greater, nat_cmp, pos, negsuc, refl, ap, ◌∙◌, subst, arith}
-use Rattle.std.specs.Option.{IfSome}
-use Rattle.std.proofs.lemmas.Bool.{le-leb, cond_both}
-use Rattle.std.proofs.lemmas.Cmp.{nat_list_cmp_total}
-use Rattle.std.specs.Prelude.{◌^◌, ◌-◌, ◌&&◌, option_map}
-use Rattle.std.specs.Float.{two_to, minus_two_to}
-use Rattle.std.specs.Float.Ieee.{lt}
-use Rattle.std.specs.Ordering.{ordering_reverse}
-use Rattle.std.specs.Cmp.Lexicographic.{slice_cmp}
-use Rattle.serde_json.specs.Data.{Data, null, boolean, number, unsigned, negative, float, string, array, object, Items, no_items, item, Members, no_members, member, put}
-use Rattle.serde_json.specs.View.{items_of}
-use Rattle.schemars_schema.specs.Json.{Text, IsAbove}
-use Rattle.schemars_schema.specs.SchemaData.{put_members}
-use Rattle.schemars_sample.specs.Example.{Example, decimal, seq, struct, Examples, example, Entries, entry}
-use Rattle.schemars_sample.specs.SampleJson.{sample_json, items_json, entries_json}
-use Rattle.schemagen_input.specs.SampleInput.{sample_input, items_input, members_input, IsAsRead, AreAsRead, AreMembersAsRead}
-use Rattle.schemars_sample.proofs.Results.{if_mapped, if_next}
+use Rattle.schemagen_input.proofs.Words.{IfSome, le-leb, cond_both, nat_list_cmp_total, ◌^◌, ◌-◌, ◌&&◌, option_map, two_to, minus_two_to, lt, ordering_reverse, slice_cmp, Data, null, boolean, number, unsigned, negative, float, string, array, object, Items, no_items, item, Members, no_members, member, put, items_of, Text, IsAbove, put_members, Example, decimal, Examples, example, Entries, entry, sample_json, items_json, entries_json, sample_input, items_input, members_input, IsAsRead, AreAsRead, AreMembersAsRead, if_mapped, if_next}
+use Rattle.schemars_sample.specs.Example.{seq, struct}
 
 -- a member before all that are put in stays the first
 put_members-first : (k : Text) (d : Data) (new ms : Members) → IsAbove k new

@@ -1,7 +1,6 @@
 -- Examples that are read one after another.
 use Rattle.std.proofs.Common.{◌≡◌, List, [], ◌∷◌, ◌++◌, Option, Some, None, refl, ap, String, Global}
-use Rattle.std.specs.Prelude.{option_map, string_bytes}
-use Rattle.schemars_sample.specs.Example.{example_of, examples_view, entries_view, Examples, no_examples, example, Entries, no_entries, entry}
+use Rattle.schemagen_input.proofs.Words.{option_map, string_bytes, example_of, examples_view, entries_view, Examples, no_examples, example, Entries, no_entries, entry}
 use Rattle.schemars_sample.specs.declared.sample.Sample.{Sample}
 
 -- those that were read stand before the rest

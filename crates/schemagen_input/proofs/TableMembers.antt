@@ -1,18 +1,6 @@
 -- What the members of an object say, one after another, is the table that it says.
 use Rattle.std.proofs.Common.{◌≡◌, ℕ, List, [], ◌∷◌, Bool, true, false, ◌&&◌, Option, Some, None, option_and_then, cond, codes, refl, ap, ◌∙◌, sym, subst}
-use Rattle.std.specs.Str.{bytes_eq}
-use Rattle.serde_json.specs.Data.{Data, Items, Members, no_items, item, object, put}
-use Rattle.serde_json.specs.Find.{as_array, get}
-use Rattle.serde_json.specs.View.{items_of}
-use Rattle.serde_json.proofs.Views.{get_member-put, get_member-put_other}
-use Rattle.schemars_schema.specs.Json.{Text}
-use Rattle.schemars_text.specs.OrderedText.{is_listed}
-use Rattle.schemars_types.specs.Rows.{Row}
-use Rattle.schemagen_json.specs.Members.{has_only, are_listed}
-use Rattle.schemagen_json.proofs.Members.{are_listed-put}
-use Rattle.schemagen_input.specs.Forms.{number_in, needed_member}
-use Rattle.schemagen_input.specs.Input.{rows_in, is_complete, table_in}
-use Rattle.schemagen_input.specs.Listing.{AreBegun, AreMembersOf, IsNoTable, IsListIn}
+use Rattle.schemagen_input.proofs.Words.{bytes_eq, Data, Items, Members, no_items, item, object, put, as_array, get, items_of, get_member-put, get_member-put_other, Text, is_listed, Row, has_only, are_listed, are_listed-put, number_in, needed_member, rows_in, is_complete, table_in, AreBegun, AreMembersOf, IsNoTable, IsListIn}
 use Rattle.schemagen_input.specs.declared.listing.Listing.{Listing}
 use Rattle.schemagen_input.specs.declared.table_members.TableMembers.{TableMembers}
 use Rattle.schemagen_input.proofs.OneMember.{other_name}

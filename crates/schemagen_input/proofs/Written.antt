@@ -1,18 +1,9 @@
 -- The JSON of a table reads back as that table.
 use Rattle.std.proofs.Common.{◌≡◌, ◌≢◌, ◌<◌, ℕ, nat_lt, List, [], ◌∷◌, map, length, true, false, Option, Some, None, is_some, refl, ap, ◌∙◌, sym, arith}
-use Rattle.std.proofs.lemmas.Bool.Decides.{nat_tests}
-use Rattle.std.proofs.lemmas.Bool.{and_parts}
-use Rattle.std.specs.List.{list_all}
-use Rattle.std.specs.Option.{option_map_or}
-use Rattle.serde_json.specs.Data.{Data}
-use Rattle.serde_json.specs.View.{items_of}
+use Rattle.schemagen_input.proofs.Words.{nat_tests, and_parts, list_all, option_map_or, Data, items_of, Field, Flattened, Payload, Variant, Shape, Entry, no_payload, newtype_payload, tuple_payload, struct_payload, bool, int, non_zero, text, char, formatted, any, bytes, schema_itself, option, seq, set, up_to, tuple, struct, newtype, result, bound, range, either, map_from, enum, by_name, by_nothing, by_tag, by_tag_and_content, literal, Row, read_each, number_in, kind_in, field_in, flattened_from, payload_in, variant_in, payload_inside, internal_variant_in, shape_in, row_in, rows_in, refers_within, all_fit, ids_differ, ids_of, table_in, input_of, whole, field_json, flattened_json, payload_json, variant_json, kind_json, shape_json, row_json, json_of, is_library_shape, has_library_shape, CanBeWritten}
 use Rattle.schemars_shapes.specs.declared.shape.IntKind.{IntKind}
 use Rattle.schemars_shapes.specs.declared.shape.IntKind.TheVariants.{I8, I16, I32, I64, I128, Isize, U8, U16, U32, U64, U128, Usize}
-use Rattle.schemars_shapes.specs.Shape.{Field, Flattened, Payload, Variant, Shape, Entry, no_payload, newtype_payload, tuple_payload, struct_payload, null as null_shape, bool, int, non_zero, number as number_shape, text, char, formatted, any, bytes, schema_itself, option, seq, set, array as array_shape, up_to, tuple, struct, newtype, result, bound, range, either, map_from, enum, by_name, by_nothing, by_tag, by_tag_and_content, literal}
-use Rattle.schemars_types.specs.Rows.{Row}
-use Rattle.schemagen_input.specs.Forms.{read_each, number_in, kind_in, field_in, flattened_from, payload_in, variant_in, payload_inside, internal_variant_in}
-use Rattle.schemagen_input.specs.Input.{shape_in, row_in, rows_in, refers_within, all_fit, ids_differ, ids_of, table_in, input_of}
-use Rattle.schemagen_input.specs.Written.{whole, field_json, flattened_json, payload_json, variant_json, kind_json, shape_json, row_json, json_of, is_library_shape, has_library_shape, CanBeWritten}
+use Rattle.schemars_shapes.specs.Shape.{null as null_shape, number as number_shape, array as array_shape}
 
 -- ---- lists
 

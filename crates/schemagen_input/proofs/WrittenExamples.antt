@@ -1,14 +1,8 @@
 -- Texts that are the JSON of tables.
 use Rattle.std.proofs.Common.{◌≡◌, [], ◌∷◌, true, false, Some, codes, refl}
-use Rattle.serde_json.specs.Read.{read}
-use Rattle.serde_json.proofs.OnLiterals.{serde_json_on_literals}
-use Rattle.schemars_schema.specs.Json.{Text}
-use Rattle.serde_json.specs.Data.{boolean, string, no_members, member}
+use Rattle.schemagen_input.proofs.Words.{read, serde_json_on_literals, Text, boolean, string, no_members, member, Shape, Field, Fields, Variant, without_notes, newtype_payload, int, struct, enum, by_tag, by_tag_and_content, literal, Row, required, json_of}
 use Rattle.schemars_shapes.specs.declared.shape.IntKind.TheVariants.{U8}
-use Rattle.schemars_shapes.specs.Shape.{Shape, Field, Fields, Variant, without_notes, newtype_payload, int, array, struct, enum, by_tag, by_tag_and_content, literal}
-use Rattle.schemars_types.specs.Rows.{Row}
-use Rattle.schemagen_input.specs.Forms.{required}
-use Rattle.schemagen_input.specs.Written.{json_of}
+use Rattle.schemars_shapes.specs.Shape.{array}
 
 -- a row that has its name for an id
 named : Text → Shape → Row

@@ -6,8 +6,9 @@ use Rattle.serde_json.specs.View.{members_view}
 use Rattle.schemars_schema.specs.Json.{Text}
 use Rattle.schemars_shapes.specs.Shape.{field_of, flattened_of, no_payload, payload_of, required_of, shape_of}
 use Rattle.schemagen_json.specs.Members.{has_only}
-use Rattle.schemagen_input.specs.Forms.{needed_member, optional_member, read_list, field_names, number_in, notes_in, required, required_in, fields_in, all_flattened_in, variant_keys, payload_in, internal_names, adjacent_names}
-use Rattle.schemagen_input.specs.Input.{row_names, shape_in}
+use Rattle.schemagen_shapes.specs.Forms.{needed_member, optional_member, read_list, field_names, number_in, notes_in, required, required_in, fields_in, all_flattened_in, variant_keys, payload_in, internal_names, adjacent_names}
+use Rattle.schemagen_input.specs.Input.{row_names}
+use Rattle.schemagen_shapes.specs.Shapes.{shape_in}
 use Rattle.schemagen_input.specs.declared.tokens.enums.EnumMembers.{EnumMembers}
 use Rattle.schemagen_input.specs.declared.tokens.field.FieldMembers.{FieldMembers}
 use Rattle.schemagen_input.specs.declared.tokens.fields.StructMembers.{StructMembers}

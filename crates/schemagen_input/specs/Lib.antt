@@ -1,6 +1,4 @@
 -- The definitions that contracts cite.
-pub mod Forms
-pub mod Errors
 pub mod Input
 pub mod Written
 pub mod Listing
@@ -8,3 +6,4 @@ pub mod SampleInput
 pub mod Texts
 pub mod Tokens
 pub mod Gathered
+pub mod Words

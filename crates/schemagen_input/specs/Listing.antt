@@ -6,8 +6,9 @@ use Rattle.serde_json.specs.View.{items_of}
 use Rattle.schemagen_json.specs.Members.{has_only}
 use Rattle.schemars_shapes.specs.Shape.{Entry, entry_of}
 use Rattle.schemars_types.specs.Rows.{Row}
-use Rattle.schemagen_input.specs.Forms.{needed_member, read_each, number_in}
-use Rattle.schemagen_input.specs.Input.{heading_in, entry_in, row_in, rows_in, unentered, ids_differ, ids_of, is_complete}
+use Rattle.schemagen_shapes.specs.Forms.{needed_member, read_each, number_in}
+use Rattle.schemagen_input.specs.Input.{heading_in, row_in, rows_in, unentered, ids_differ, ids_of, is_complete}
+use Rattle.schemagen_shapes.specs.Shapes.{entry_in}
 use Rattle.schemagen_input.specs.declared.listing.Listing.{Listing}
 use Rattle.schemagen_input.specs.declared.listing.NewRow.{NewRow}
 use Rattle.schemagen_input.specs.declared.table_members.TableMembers.{TableMembers}

@@ -5,7 +5,7 @@ use Rattle.json.specs.Json.{value}
 use Rattle.serde_json.specs.Data.{Data, Members, object}
 use Rattle.serde_json.specs.Find.{as_array, as_object}
 use Rattle.serde_json.specs.Read.{of_json, converted}
-use Rattle.schemagen_input.specs.Forms.{read_each}
+use Rattle.schemagen_shapes.specs.Forms.{read_each}
 
 -- the tokens begin with this value, in which lists and objects nest at most so deep, and go on with the rest
 abbrev pub IsNext : ℕ → List Token → Data → List Token → Type 0

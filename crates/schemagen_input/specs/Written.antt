@@ -11,7 +11,7 @@ use Rattle.schemars_shapes.specs.declared.shape.IntKind.{IntKind}
 use Rattle.schemars_shapes.specs.declared.shape.IntKind.TheVariants.{I8, I16, I32, I64, I128, Isize, U8, U16, U32, U64, U128, Usize}
 use Rattle.schemars_shapes.specs.Shape.{Required, Field, Flattened, Fields, Payload, Variant, Shape, Entry, no_payload, newtype_payload, tuple_payload, struct_payload, null, bool, int, non_zero, number as number_shape, text, char, formatted, any, bytes, schema_itself, option, seq, set, array as array_shape, up_to, tuple, struct, newtype, result, bound, range, either, map_from, enum, by_name, by_nothing, by_tag, by_tag_and_content, literal}
 use Rattle.schemars_types.specs.Rows.{Row}
-use Rattle.schemagen_input.specs.Forms.{payload_inside}
+use Rattle.schemagen_shapes.specs.Forms.{payload_inside}
 use Rattle.schemagen_input.specs.Input.{is_complete}
 
 -- ---- forms

@@ -1,13 +1,10 @@
 //! The table that a JSON value says.
 ghost use Rattle.std.specs.Prelude.{◌≡◌, ◌≢◌, ◌<◌, ℕ, List, true, None, Some, IfOk, IfErr, length};
-ghost use Rattle.schemagen_json.specs.BorrowedValue.{data_of};
-ghost use Rattle.schemagen_input.specs.Input.{is_complete, table_in, input_of};
-ghost use Rattle.schemagen_input.specs.Written.{json_of, CanBeWritten};
-ghost use Rattle.schemars_types.specs.Rows.{Row};
+ghost use Rattle.schemagen_input.specs.Words.{data_of, is_complete, table_in, input_of, json_of, CanBeWritten, Row};
 
-use crate::error::InputError;
 use crate::table_members::TableMembers;
 use schemagen_json::BorrowedValue;
+use schemagen_shapes::InputError;
 use schemars_types::{TypeNo, Types};
 use std::alloc::Global;
 

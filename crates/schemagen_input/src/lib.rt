@@ -1,20 +1,14 @@
-//! Reads tables of types, and example values, from JSON values.
+//! Reads tables of types from texts and JSON values, and example values from JSON values.
 #![tactic(auto)]
 
-mod error;
-mod fields;
 mod input;
 mod listing;
-mod members;
 mod sample;
-mod shapes;
 mod table_members;
 mod text;
 mod tokens;
-mod variants;
 
-pub use error::InputError;
 pub use input::read_input;
-pub use members::{kind_in, text_in};
 pub use sample::{SampleError, read_sample};
+pub use schemagen_shapes::{InputError, kind_in, text_in};
 pub use text::{TextError, read_table};

@@ -1,15 +1,9 @@
 //! The rows of a table, read one after another.
 ghost use Rattle.std.specs.Prelude.{◌≡◌, ◌++◌, ◌∷◌, [], List, Some, Err, OnOk, IfOk, IfErr, option_map, map};
-ghost use Rattle.serde_json.specs.Data.{Data};
-ghost use Rattle.schemagen_json.specs.BorrowedValue.{data_of};
-ghost use Rattle.schemagen_input.specs.Input.{heading_in, unentered};
-ghost use Rattle.schemars_shapes.specs.Shape.{entry_of};
-ghost use Rattle.schemagen_input.specs.Listing.{AreListed, IsListing, AreBegun, IsRowIn, BeginsNoTable, IsTableOf, IsNoTable};
+ghost use Rattle.schemagen_input.specs.Words.{Data, data_of, heading_in, unentered, entry_of, AreListed, IsListing, AreBegun, IsRowIn, BeginsNoTable, IsTableOf, IsNoTable};
 
-use crate::error::{InputError, if_said};
-use crate::members::text_in;
-use crate::shapes::entry_in;
 use schemagen_json::BorrowedValue;
+use schemagen_shapes::{InputError, entry_in, if_said, text_in};
 use schemars_types::{TypeEntry, Types};
 use std::alloc::{AllocError, Global};
 

@@ -1,10 +1,6 @@
 //! Example values, as JSON gives them.
 ghost use Rattle.std.specs.Prelude.{◌≡◌, Some, None, Err, IfOk, IfErr};
-ghost use Rattle.serde_json.specs.Data.{float};
-ghost use Rattle.serde_json.specs.View.{view, number_view, items_view, members_view};
-ghost use Rattle.schemars_sample.specs.Example.{example_of, examples_view, entries_view};
-ghost use Rattle.schemars_sample.specs.SampleJson.{sample_json};
-ghost use Rattle.schemagen_input.specs.SampleInput.{sample_input, number_input, items_input, members_input, IsAsRead};
+ghost use Rattle.schemagen_input.specs.Words.{float, view, number_view, items_view, members_view, example_of, examples_view, entries_view, sample_json, sample_input, number_input, items_input, members_input, IsAsRead};
 
 use schemars_sample::Sample;
 use serde_json::{Map, Number, Value};

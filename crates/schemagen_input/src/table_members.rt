@@ -1,20 +1,13 @@
 //! The members of a table's object, of which a text is read row by row.
 ghost use Rattle.std.specs.Prelude.{◌≡◌, ◌<◌, Some, None, Err, IfOk, IfErr, OnOk, List, length, true};
-ghost use Rattle.json.specs.Json.{value, items};
-ghost use Rattle.serde_json.specs.Data.{Data, object};
-ghost use Rattle.serde_json.specs.Read.{of_items, converted, read as read_text};
-ghost use Rattle.serde_json.specs.View.{items_of};
-ghost use Rattle.schemagen_json.specs.BorrowedValue.{data_of};
-ghost use Rattle.schemagen_input.specs.Input.{table_in, is_complete};
-ghost use Rattle.schemagen_input.specs.Listing.{AreBegun, IsListIn, AreMembersOf};
-ghost use Rattle.schemagen_input.specs.Tokens.{IsNext, IsNoValue};
+ghost use Rattle.schemagen_input.specs.Words.{value, items, Data, object, of_items, converted, items_of, data_of, table_in, is_complete, AreBegun, IsListIn, AreMembersOf, IsNext, IsNoValue};
+ghost use Rattle.serde_json.specs.Read.{read as read_text};
 
-use crate::error::InputError;
 use crate::listing::{Listing, list_rows, with_row};
-use crate::members::number_of;
 use crate::tokens::{ObjectMembers, read_members, read_number, read_row};
 use json::{Reader, Scratch, Token};
 use schemagen_json::{BorrowedValue, MAX_DEPTH, ParseError, read_value, read_value_from};
+use schemagen_shapes::{InputError, number_of};
 use schemars_types::{TypeNo, Types};
 use std::alloc::{AllocError, Global};
 

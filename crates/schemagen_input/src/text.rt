@@ -1,14 +1,11 @@
 //! The table that a text says.
 ghost use Rattle.std.specs.Prelude.{◌≡◌, ◌≢◌, true, None, Some, Err, IfOk};
-ghost use Rattle.serde_json.specs.Data.{Data};
-ghost use Rattle.schemagen_input.specs.Input.{is_table, input_of};
-ghost use Rattle.schemagen_input.specs.Listing.{AreMembersOf};
-ghost use Rattle.schemagen_input.specs.Texts.{IsTableText, IsNoJson, IsBadTable};
+ghost use Rattle.schemagen_input.specs.Words.{Data, is_table, input_of, AreMembersOf, IsTableText, IsNoJson, IsBadTable};
 
-use crate::error::InputError;
 use crate::table_members::{TableMembers, read_text_members};
 use json::Scratch;
 use schemagen_json::ParseError;
+use schemagen_shapes::InputError;
 use schemars_types::{TypeNo, Types};
 use std::alloc::Global;
 

@@ -1,23 +1,7 @@
 -- The members of a borrowed value, of which the last one of a name counts.
 use Rattle.std.proofs.Common.{◌≡◌, ◌⊎◌, ℕ, List, [], ◌∷◌, ◌++◌, map, Bool, true, false, ◌&&◌, Some, None, is_some, ◌+◌, ◌<◌, zero, suc, length, take, get_or, arith, take_all, Bor, Ordering, Less, Equal, Greater, bytes_eq, nat_cmp, refl, sym, ap, ◌∙◌, rules, true≢false, is_eq, inl, inr}
-use Rattle.std.proofs.lemmas.Cmp.{nat_list_cmp_total, tied_itself}
-use Rattle.std.proofs.lemmas.Map.Text.{is_eq-slice_cmp}
-use Rattle.std.proofs.lemmas.Bool.{and_parts}
-use Rattle.std.proofs.lemmas.List.{take_more}
-use Rattle.std.proofs.lemmas.List.Folds.{list_all-append}
-use Rattle.schemars_text.proofs.Members.{differ}
-use Rattle.std.proofs.lemmas.Slice.Eq.{bytes_eq-Decides}
-use Rattle.std.specs.Cmp.Lexicographic.{slice_cmp}
-use Rattle.std.specs.Ordering.{match_ordering}
-use Rattle.serde_json.specs.Data.{Data, array, object, Members, no_members, member, put}
-use Rattle.serde_json.specs.Find.{get_member}
-use Rattle.serde_json.proofs.Views.{get_member-put, get_member-put_other}
-use Rattle.std.specs.List.{list_all}
-use Rattle.schemars_schema.specs.Json.{Text}
-use Rattle.schemars_text.specs.OrderedText.{is_listed}
-use Rattle.schemagen_json.specs.Members.{are_listed, lone_in}
+use Rattle.schemagen_json.proofs.Words.{nat_list_cmp_total, tied_itself, is_eq-slice_cmp, and_parts, take_more, list_all-append, differ, bytes_eq-Decides, slice_cmp, match_ordering, Data, array, object, Members, no_members, member, put, get_member, get_member-put, get_member-put_other, list_all, Text, is_listed, are_listed, lone_in, put_each, data_of, items_data, members_data}
 use Rattle.schemagen_json.specs.declared.borrowed_value.BorrowedValue.{BorrowedValue, Array, Object, the_lemmas}
-use Rattle.schemagen_json.specs.BorrowedValue.{put_each, data_of, items_data, members_data}
 
 abbrev pub Member : Type 0
 Member = Bor (List ℕ) × BorrowedValue

@@ -1,12 +1,7 @@
 -- What the grammar reads, by the first token, under the conversion to data.
 use Rattle.std.proofs.Common.{◌≡◌, ℕ, zero, suc, ◌-◌, ◌<◌, ◌≤◌, List, [], ◌∷◌, ◌++◌, Bool, Option, Some, None, option_map, option_and_then, length, refl, ap, ◌∙◌}
-use Rattle.json.specs.Token.{Token}
+use Rattle.schemagen_json.proofs.Words.{Token, Parse, parse_map, after_end_array, read_key, items_step, value, items, members, value_is, value-begin_array, value-begin_object, items_end, items_more, members_end, members_more, members_no_key, Data, Num, null, boolean, number, string, array, object, Items, no_items, item, Members, no_members, put, of_json, of_items, of_members, converted, number_of, items_of}
 use Rattle.json.specs.Json as json
-use Rattle.json.specs.Json.{Parse, parse_map, after_end_array, read_key, items_step, value, items, members}
-use Rattle.json.proofs.Grammar.{value_is, value-begin_array, value-begin_object, items_end, items_more, members_end, members_more, members_no_key}
-use Rattle.serde_json.specs.Data.{Data, Num, null, boolean, number, string, array, object, Items, no_items, item, Members, no_members, put}
-use Rattle.serde_json.specs.Read.{of_json, of_items, of_members, converted, number_of}
-use Rattle.serde_json.specs.View.{items_of}
 
 -- ---- the conversion
 

@@ -1,3 +1,4 @@
 -- The definitions that contracts cite.
 pub mod BorrowedValue
 pub mod Members
+pub mod Words

@@ -1,9 +1,8 @@
 -- Words that a run knows, for those who make them.
 use Rattle.std.proofs.Common.{◌≡◌, refl, ap, ◌∙◌, List, [], ◌∷◌, Bool, map, codes, String, Global, string_bytes}
-use Rattle.schemars_schema.specs.Json.{Text}
+use Rattle.schemagen_run.proofs.Vocabulary.{Text, IsDialect, AreFlagsFor, AskForTypes, AskForSample}
 use Rattle.schemars_types.specs.declared.contract.Contract.{Contract}
 use Rattle.schemagen_run.specs.declared.words.Dialect.TheVariants.{Draft2020_12, Draft2019_09, Draft07, OpenApi3}
-use Rattle.schemagen_run.specs.Words.{IsDialect, AreFlagsFor, AskForTypes, AskForSample}
 
 pub names_2020_12 : IsDialect (codes "2020-12")
 names_2020_12 = (Draft2020_12, refl)

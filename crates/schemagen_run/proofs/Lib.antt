@@ -6,3 +6,4 @@ pub mod Asking
 pub mod Samples
 pub mod Writing
 mod Outputs
+mod Vocabulary

@@ -1,21 +1,11 @@
 -- What is made for a row is its output.
 use Rattle.std.proofs.Common.{◌≡◌, ◌≢◌, ℕ, List, true, false, refl, ap, ◌∙◌, sym, subst, String, Global, string_bytes}
-use Rattle.serde_json.specs.Data.{Data, Members}
-use Rattle.serde_json.specs.Written.{members_have_float}
-use Rattle.schemars_text.specs.OrderedText.{definitions_text}
-use Rattle.schemars_types.specs.Rows.{Row}
-use Rattle.schemars_types.specs.Faults.{IsAccepted}
+use Rattle.schemagen_run.proofs.Vocabulary.{Data, Members, members_have_float, definitions_text, Row, IsAccepted, Generator, state, transforms_of, IsTextOf, State, is_table, IsWrittenDocument, AreDefinitionsOf, IsLineIn, fresh, transforms_of_dialect, IsOutputOf, IsFreshFor}
 use Rattle.schemars_transform.specs.declared.no_transform.NoTransform.{NoTransform}
-use Rattle.schemars_generate.specs.Generator.{Generator, state, transforms_of}
-use Rattle.schemars_generate.specs.RootText.{IsTextOf}
-use Rattle.schemars_headline.specs.State.{State}
-use Rattle.schemagen_input.specs.Input.{is_table}
 use Rattle.schemagen_run.specs.declared.words.Asked.{Asked}
 use Rattle.schemagen_run.specs.declared.words.Dialect.{Dialect}
 use Rattle.schemagen_run.specs.declared.words.Dialect.TheVariants.{OpenApi3}
 use Rattle.schemagen_run.specs.declared.output.Output.TheVariants as output
-use Rattle.schemagen_run.specs.Run.{IsWrittenDocument, AreDefinitionsOf, IsLineIn, fresh, transforms_of_dialect}
-use Rattle.schemagen_run.specs.Output.{IsOutputOf, IsFreshFor}
 use Rattle.schemagen_run.proofs.Runs.{in_draft}
 
 pub text_is_output : (asked : Asked) (rows : List Row) (root : ℕ) (d : Data) (s : String Global) → asked.dialect ≢ OpenApi3

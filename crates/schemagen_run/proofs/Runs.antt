@@ -1,30 +1,18 @@
 -- Which words a run knows, and what it refuses.
 use Rattle.std.proofs.Common.{◌≡◌, ◌≢◌, ◌⊎◌, refl, inl, inr, ℕ, map, List, [], ◌∷◌, ◌++◌, append-nil, subst, Option, Some, None, length, get_or, ◌&&◌, true, String, Global, string_bytes, codes, sym, ap, ◌∙◌, arith, Bool, false, nat_lt, ◌||◌, true≢false}
-use Rattle.std.specs.Str.{bytes_eq}
-use Rattle.std.proofs.lemmas.Slice.Eq.{bytes_eq-Decides}
-use Rattle.schemars_types.specs.Rows.{Row}
-use Rattle.schemars_types.specs.Faults.{IsAccepted, Refusal}
-use Rattle.schemars_documents.specs.PlainTable.{HasPlainNotes}
+use Rattle.schemagen_run.proofs.Vocabulary.{bytes_eq, bytes_eq-Decides, Row, IsAccepted, Refusal, HasPlainNotes, code_of, error_of, HasFault, IsValueFault, IsReadFault, IsTableFault, IsLineFault, IsOutside, input_of, MatchOption, AskFor, AskForTypes, AskForExample, AskForSample, IsAskedBy, IsKnown, IsDialect, word_for, IsLineOf, IsLineIn, IsDocumentLine, IsRefusal, IsLineRefusal, GivesAll, IsNoJson, IsBadTable, IsTableText, IsAcceptedText, IsNotedText, IsFaultyTable, Tells, IsTableLine, IsSampleLineOf, IsSampleLine, IsAsRead, is_as_read, Data}
 use Rattle.schemars_types.specs.declared.error.TypesError as types
 use Rattle.schemars_types.specs.declared.error.TypesError.TheVariants as of_types
 use Rattle.schemars_generate.specs.declared.error.GenerateError.{GenerateError}
 use Rattle.schemars_generate.specs.declared.error.GenerateError.TheVariants.{OutOfMemory, DefinitionsPath}
-use Rattle.schemars_generate.specs.Refusals.{code_of, error_of, HasFault}
 use Rattle.schemagen_run.specs.declared.fault.Fault.{Fault}
 use Rattle.schemagen_run.specs.declared.fault.Fault.TheVariants.{Refused, Usage}
 use Rattle.schemars_generate.specs.declared.error.TheConstants.{OUT_OF_MEMORY, DEFINITIONS_PATH}
 use Rattle.schemagen_run.specs.declared.fault.TheConstants.{NOT_JSON, BAD_TABLE, WRITE}
-use Rattle.schemagen_run.specs.Fault.{IsValueFault, IsReadFault, IsTableFault, IsLineFault, IsOutside}
-use Rattle.schemagen_input.specs.Input.{input_of}
 use Rattle.schemagen_run.specs.declared.words.Asked.{Asked}
-use Rattle.std.specs.Prelude.{MatchOption}
 use Rattle.schemagen_run.specs.declared.words.Dialect.{Dialect}
 use Rattle.schemagen_run.specs.declared.words.Dialect.TheVariants.{Draft2020_12, Draft2019_09, Draft07, OpenApi3}
-use Rattle.schemagen_run.specs.Words.{AskFor, AskForTypes, AskForExample, AskForSample, IsAskedBy, IsKnown, IsDialect, word_for}
-use Rattle.schemagen_run.specs.Run.{IsLineOf, IsLineIn, IsDocumentLine, IsRefusal, IsLineRefusal, GivesAll, IsNoJson, IsBadTable, IsTableText, IsAcceptedText, IsNotedText, IsFaultyTable, Tells, IsTextOf, IsTableLine, IsSampleLineOf, IsSampleLine}
-use Rattle.schemagen_input.specs.SampleInput.{IsAsRead}
-use Rattle.schemagen_input.proofs.AsRead.{is_as_read}
-use Rattle.serde_json.specs.Data.{Data}
+use Rattle.schemagen_run.specs.Run.{IsTextOf}
 
 is_word : (a u : String Global) (t : List ℕ) → a ≡ u → bytes_eq (string_bytes a) t ≡ true → string_bytes u ≡ t
 is_word a u t same is = ap string_bytes (sym same) ∙ (bytes_eq-Decides (string_bytes a) t).0 is
@@ -286,10 +274,6 @@ of_no_reading e (inr (inr (inr is))) = ap is_read_fault is
 
 pub read_is_of_no_table : (e : Fault) → IsReadFault e → IsTableFault e → ⊥
 read_is_of_no_table e read table = true≢false (sym (of_reading e read) ∙ of_no_reading e table)
-
-pub read_is_no_usage : (e : Fault) → IsReadFault e → e ≡ Usage → ⊥
-unfolding is_read_fault
-read_is_no_usage e read is = true≢false (sym (of_reading e read) ∙ ap is_read_fault is)
 
 pub read_is_no_write : (e : Fault) → IsReadFault e → e ≡ Refused WRITE → ⊥
 unfolding is_read_fault

@@ -1,22 +1,13 @@
 -- The root document of an example, in each dialect.
 use Rattle.std.proofs.Common.{◌≡◌, inl, inr, List, Result, Ok, Err, Some, IfOk, IfErr, false, refl, sym, ap, ◌∙◌, subst}
-use Rattle.serde_json.specs.Data.{Data, Members, no_members}
-use Rattle.schemars_schema.specs.Acceptance.{draft2020_12, draft2019_09, draft07}
-use Rattle.schemars_sample.specs.Example.{Example}
+use Rattle.schemagen_run.proofs.Vocabulary.{Data, Members, no_members, draft2020_12, draft2019_09, draft07, Example, members_have_float, dialect_of, AcceptsExampleUnder, Settings, IsSampleRoot, IsSampleRefused, some_own, made_by, settings_of_dialect, transforms_of_dialect, AcceptsIn, AcceptsUnder, IsUntransformedExample, IsSampleDocument}
 use Rattle.schemars_headline.specs.Drafts as drafts
-use Rattle.serde_json.specs.Written.{members_have_float}
-use Rattle.schemars_headline.specs.Drafts.{dialect_of, AcceptsExampleUnder}
-use Rattle.schemars_headline.specs.State.{Settings}
 use Rattle.schemars_generate.specs.declared.error.GenerateError.{GenerateError}
 use Rattle.schemars_generate.specs.declared.error.GenerateError.TheVariants.{OutOfMemory}
-use Rattle.schemars_generate.specs.Samples.{IsSampleRoot, IsSampleRefused}
 use Rattle.schemars_transform.specs.declared.gen_transform.GenTransform.{GenTransform}
 use Rattle.schemars_transform.specs.declared.no_transform.NoTransform.{NoTransform}
-use Rattle.schemars_transform.specs.Member.{some_own}
-use Rattle.schemars_transform.specs.BuiltIn.{made_by}
 use Rattle.schemagen_run.specs.declared.words.Dialect.{Dialect}
 use Rattle.schemagen_run.specs.declared.words.Dialect.TheVariants.{Draft2020_12, Draft2019_09, Draft07, OpenApi3}
-use Rattle.schemagen_run.specs.Run.{settings_of_dialect, transforms_of_dialect, AcceptsIn, AcceptsUnder, IsUntransformedExample, IsSampleDocument}
 use Rattle.schemagen_run.proofs.Tables.{none_own, for_draft, IsMadeWhole}
 
 accepts_in : (dialect : Dialect) (x : Example) (d : Data) → IsSampleRoot (settings_of_dialect dialect) no_members x d

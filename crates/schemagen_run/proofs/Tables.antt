@@ -1,36 +1,16 @@
 -- What the generator asks of a table holds of each input, and what it answers is the root document of a row.
 use Rattle.std.proofs.Common.{◌≡◌, ◌≢◌, ◌⊎◌, ◌↔◌, ◌<◌, ◌≤◌, ℕ, codes, nat_lt, List, [], length, Bool, true, false, ◌&&◌, Some, refl, ap, ◌∙◌, subst, sym, inl, inr, Result, Ok, Err, IfOk, IfErr, arith}
-use borrow.Author.Tests.{ltb-true}
-use Rattle.serde_json.specs.Data.{Data, Members, no_members}
-use Rattle.serde_json.specs.Written.{has_float}
-use Rattle.schemars_types.specs.Rows.{Row}
-use Rattle.schemars_types.specs.Faults.{IsAccepted}
-use Rattle.schemars_schema.specs.Acceptance.{draft2020_12, draft2019_09, draft07}
+use Rattle.schemagen_run.proofs.Vocabulary.{ltb-true, Data, Members, no_members, has_float, Row, IsAccepted, draft2020_12, draft2019_09, draft07, Draft, dialect_of, some_own, made_by, IsMadeBy, HasFault, Headline, IsDraftPath, CannotPlace, IsPlainTable, HasPlainNotes, HasNoFloat, TransformStep, IsDefinitionsRefusal, Generator, Transforms, generator_over, settings_of, state, IsUntransformed, IsRefused, State, stripped, path_of, HasOwnDefinitions, components, transforms_openapi3, is_complete, is_table, settings_for, transforms_of_dialect, fresh, Means, IsWrittenDocument, IsUnplaced, IsRefusal, settings_of_dialect, AreTakenAt, AreTaken, AreDefinitionsOf}
 use Rattle.schemars_types.specs.declared.contract.Contract.{Contract}
 use Rattle.schemars_headline.specs.Drafts as drafts
-use Rattle.schemars_headline.specs.Drafts.{Draft, dialect_of}
 use Rattle.schemars_transform.specs.declared.gen_transform.GenTransform.{GenTransform}
 use Rattle.schemars_transform.specs.declared.no_transform.NoTransform.{NoTransform}
-use Rattle.schemars_transform.specs.Member.{some_own}
-use Rattle.schemars_transform.specs.BuiltIn.{made_by, IsMadeBy}
 use Rattle.schemagen_run.specs.declared.words.Asked.{Asked}
 use Rattle.schemagen_run.specs.declared.words.Dialect.{Dialect}
 use Rattle.schemagen_run.specs.declared.words.Dialect.TheVariants.{Draft2020_12, Draft2019_09, Draft07, OpenApi3}
 use Rattle.schemars_generate.specs.declared.error.GenerateError.{GenerateError}
 use Rattle.schemars_generate.specs.declared.error.GenerateError.TheVariants.{OutOfMemory, UnknownType, DefinitionsPath}
-use Rattle.schemars_generate.specs.Refusals.{HasFault}
-use Rattle.schemars_headline.specs.Headline.{Headline, IsDraftPath, CannotPlace}
-use Rattle.schemars_documents.specs.PlainTable.{IsPlainTable, HasPlainNotes, HasNoFloat}
 use Rattle.schemars_generate.specs.declared.settings.SchemaSettings.{SchemaSettings}
-use Rattle.schemars_generate.proofs.Words.{TransformStep}
-use Rattle.schemars_generate.specs.DefinitionsText.{IsDefinitionsRefusal}
-use Rattle.schemars_generate.specs.Generator.{Generator, Transforms, generator_over, settings_of, state}
-use Rattle.schemars_generate.specs.Through.{IsUntransformed, IsRefused}
-use Rattle.schemars_headline.specs.State.{State, stripped, path_of, HasOwnDefinitions}
-use Rattle.schemars_laws.specs.Paths.{components}
-use Rattle.schemars_generate.specs.Settings.{transforms_openapi3}
-use Rattle.schemagen_input.specs.Input.{is_complete, is_table}
-use Rattle.schemagen_run.specs.Run.{settings_for, transforms_of_dialect, fresh, Means, IsWrittenDocument, IsUnplaced, IsRefusal, settings_of_dialect, AreTakenAt, AreTaken, AreDefinitionsOf}
 
 pub both : (a b : Bool) → a && b ≡ true → (a ≡ true) × (b ≡ true)
 both true b e = (refl, e)

@@ -1,27 +1,13 @@
 -- A line is a text and its newline, and what a sink holds after both.
 use Rattle.std.proofs.Common.{◌≡◌, ◌≢◌, ◌⊎◌, inl, inr, ℕ, List, [], ◌∷◌, ◌++◌, Bool, false, Option, Result, Ok, Err, IfErr, refl, subst, ◌∙◌}
-use Rattle.std.specs.Prelude.{IsTrue}
-use Rattle.std.specs.Io.KnownBytes.{Appends}
-use Rattle.std.proofs.KnownBytes.{Appends-trans}
-use Rattle.std.proofs.lemmas.Result.{IfErr-at_err, on_ok_weaker}
-use Rattle.schemars_types.specs.Rows.{Row}
-use Rattle.schemars_types.specs.Faults.{IsAccepted}
-use Rattle.schemars_documents.specs.PlainTable.{HasPlainNotes}
-use Rattle.schemars_schema.specs.Json.{Text}
-use Rattle.schemars_text.specs.Sent.{IsSent, IsSentInPart}
-use Rattle.schemars_text.specs.Sink.{AppendsBeginning}
+use Rattle.schemagen_run.proofs.Vocabulary.{IsTrue, Appends, Appends-trans, IfErr-at_err, on_ok_weaker, Row, IsAccepted, HasPlainNotes, Text, IsSent, IsSentInPart, AppendsBeginning, begun_longer, begun_after, IsTableFault, IsTypesFault, IsOutside, fault_of_writing, GivesAll, IsTableText, IsFaultyTable, IsUnplaced, IsLineRefusal, WritesLine, WritesLineFor}
 use Rattle.schemars_text.specs.declared.error.OrderedError.{OrderedError}
 use Rattle.schemars_text.specs.declared.error.OrderedError.TheVariants as ordered
-use Rattle.schemars_text.proofs.Begun.{begun_longer, begun_after}
 use Rattle.schemagen_run.specs.declared.words.Asked.{Asked}
 use Rattle.schemagen_run.specs.declared.fault.Fault.{Fault}
 use Rattle.schemagen_run.specs.declared.fault.Fault.TheVariants.{Refused}
 use Rattle.schemars_generate.specs.declared.error.TheConstants.{OUT_OF_MEMORY, DEFINITIONS_PATH}
 use Rattle.schemagen_run.specs.declared.fault.TheConstants.{WRITE}
-use Rattle.schemagen_run.specs.Fault.{IsTableFault, IsTypesFault, IsOutside, fault_of_writing}
-use Rattle.schemagen_run.specs.Run.{GivesAll, IsTableText, IsFaultyTable, IsUnplaced, IsLineRefusal}
-use Rattle.schemagen_run.specs.Writing.{WritesLine}
-use Rattle.schemagen_run.specs.Promises.{WritesLineFor}
 use Rattle.schemagen_run.proofs.Runs.{is_line_fault, line_is_no_other, read_is_faulty, has_no_place, is_outside}
 
 -- a text, which is the stated one where there are no floats, and a newline

@@ -1,7 +1,8 @@
 -- The definitions that contracts cite.
 pub mod Fault
 pub mod Run
-pub mod Words
+pub mod CommandLine
 pub mod Writing
 pub mod Promises
 pub mod Output
+pub mod Vocabulary

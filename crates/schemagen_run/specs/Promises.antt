@@ -9,7 +9,7 @@ use Rattle.schemagen_run.specs.declared.fault.Fault.TheVariants.{Usage, Refused}
 use Rattle.schemars_generate.specs.declared.error.TheConstants.{DEFINITIONS_PATH}
 use Rattle.schemagen_run.specs.declared.fault.TheConstants.{NOT_JSON, BAD_TABLE, NOT_WHOLE, READ, WRITE}
 use Rattle.schemagen_run.specs.Fault.{IsTableFault, IsOutside}
-use Rattle.schemagen_run.specs.Words.{AskForTypes, AskForSample, AreCommands}
+use Rattle.schemagen_run.specs.CommandLine.{AskForTypes, AskForSample, AreCommands}
 use Rattle.schemagen_run.specs.Run.{GivesAll, IsNoJson, IsBadTable, IsFaultyTable, IsUnplacedFor, IsNotWhole, IsAcceptedText, IsNotedText, IsSampleText}
 
 -- which words are refused, and that the source then stays as it was

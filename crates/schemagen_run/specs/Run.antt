@@ -30,7 +30,7 @@ use Rattle.schemars_generate.specs.Settings.{settings07, settings2019_09, settin
 use Rattle.schemagen_run.specs.declared.words.Asked.{Asked}
 use Rattle.schemagen_run.specs.declared.words.Dialect.{Dialect}
 use Rattle.schemagen_run.specs.declared.words.Dialect.TheVariants.{Draft2020_12, Draft2019_09, Draft07, OpenApi3}
-use Rattle.schemagen_run.specs.Words.{AskFor, AskForExample}
+use Rattle.schemagen_run.specs.CommandLine.{AskFor, AskForExample}
 use Rattle.schemagen_run.specs.declared.fault.Fault.{Fault}
 use Rattle.schemagen_run.specs.declared.fault.Fault.TheVariants.{Refused}
 use Rattle.schemars_generate.specs.declared.error.TheConstants.{OUT_OF_MEMORY, DEFINITIONS_PATH}

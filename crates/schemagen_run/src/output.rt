@@ -1,8 +1,6 @@
 //! What a run writes.
 ghost use Rattle.std.specs.Prelude.{◌≡◌, ◌≢◌, Err, IsTrue, IfErr, OnOk, [], ◌∷◌, false};
-ghost use Rattle.schemars_text.specs.Sent.{IsSent, IsSentInPart};
-ghost use Rattle.schemagen_run.specs.Output.{output_has_float, output_text, IsOutputLine};
-ghost use Rattle.schemagen_run.specs.Writing.{WritesLine};
+ghost use Rattle.schemagen_run.specs.Vocabulary.{IsSent, IsSentInPart, output_has_float, output_text, IsOutputLine, WritesLine};
 
 use crate::fault::{Fault, WRITE};
 use crate::streams::{Failed, Sink};

@@ -1,14 +1,7 @@
 //! A run of the program over its words, a source and a sink.
 ghost use Rattle.std.specs.Prelude.{◌≡◌, ◌≢◌, ◌⊎◌, ◌↔◌, ℕ, List, Some, None, true, Err, IsTrue, IfOk, IfErr, OnOk, [], ◌∷◌, ◌<◌, length};
-ghost use Rattle.std.specs.Io.KnownBytes.{Consumes, IsAtEnd};
-ghost use Rattle.serde_json.specs.View.{view, members_view};
-ghost use Rattle.schemars_transform.specs.Member.{some_own};
+ghost use Rattle.schemagen_run.specs.Vocabulary.{Consumes, IsAtEnd, view, members_view, some_own, IsAccepted, HasFault, settings_of, state, transforms_of, example_of, sample_json, is_table, sample_input, IsAsRead, GivesAll, IsTextOf, IsNoJson, IsBadTable, IsTableText, IsAcceptedText, IsNotedText, IsFaultyTable, IsRefusal, IsLineRefusal, settings_for, settings_of_dialect, transforms_of_dialect, fresh, IsLineOf, IsTableLine, IsUnplacedText, AreTaken, IsNotWhole, IsSampleText, IsSampleDocument, IsExampleLine, IsSampleLineOf, IsSampleLine, IsLineFor, WritesLine, RefusesWords, RefusesInput, RefusesDocument, WritesLineFor, RefusesOnlyOutside, IsOutputOf, IsFreshFor, IsValueFault, IsReadFault, IsTableFault, IsOutside, IsTypesFault, IsSampleFault, IsFault};
 ghost use Rattle.schemagen_run.specs.declared.words.Dialect.TheVariants.{OpenApi3};
-ghost use Rattle.schemagen_run.specs.Run.{IsAccepted, HasFault, settings_of, state, transforms_of, example_of, sample_json, is_table, sample_input, IsAsRead, GivesAll, IsTextOf, IsNoJson, IsBadTable, IsTableText, IsAcceptedText, IsNotedText, IsFaultyTable, IsRefusal, IsLineRefusal, settings_for, settings_of_dialect, transforms_of_dialect, fresh, IsLineOf, IsTableLine, IsUnplacedText, AreTaken, IsNotWhole, IsSampleText, IsSampleDocument, IsExampleLine, IsSampleLineOf, IsSampleLine, IsLineFor};
-ghost use Rattle.schemagen_run.specs.Writing.{WritesLine};
-ghost use Rattle.schemagen_run.specs.Promises.{RefusesWords, RefusesInput, RefusesDocument, WritesLineFor, RefusesOnlyOutside};
-ghost use Rattle.schemagen_run.specs.Output.{IsOutputOf, IsFreshFor};
-ghost use Rattle.schemagen_run.specs.Fault.{IsValueFault, IsReadFault, IsTableFault, IsOutside, IsTypesFault, IsSampleFault, IsFault};
 
 use crate::fault::{
     BAD_TABLE, DEFINITIONS_PATH, Fault, NOT_JSON, NOT_WHOLE, OUT_OF_MEMORY, READ, WRITE,

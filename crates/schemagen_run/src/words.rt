@@ -1,6 +1,6 @@
 //! What the words of a run ask for.
 ghost use Rattle.std.specs.Prelude.{◌≡◌, ◌↔◌, IsTrue, MatchOption, bytes_eq, codes, [], ◌∷◌};
-ghost use Rattle.schemagen_run.specs.Words.{AskFor, AskForTypes, AskForExample, AskForSample, AreCommands, Asks, word_for, IsDialect, IsAskedBy, IsKnown};
+ghost use Rattle.schemagen_run.specs.CommandLine.{AskFor, AskForTypes, AskForExample, AskForSample, AreCommands, Asks, word_for, IsDialect, IsAskedBy, IsKnown};
 
 use schemars::Contract;
 

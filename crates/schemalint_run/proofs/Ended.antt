@@ -1,12 +1,6 @@
 -- Lines whose last one ends in a newline.
 use Rattle.std.proofs.Common.{◌≡◌, ℕ, List, [], ◌∷◌, ◌++◌, ◌-◌, inr, true, false, true≢false, sym, ap, ◌∙◌, length, take, drop}
-use Rattle.std.proofs.lemmas.List.{take-append-drop}
-use Rattle.std.proofs.lemmas.Bool.{and_parts}
-use Rattle.std.proofs.lemmas.Bool.Decides.{Decides-eqb}
-use Rattle.std.specs.Cmp.Lexicographic.{pointwise}
-use Rattle.std.specs.List.{ends_with}
-use Rattle.std.specs.Prelude.{◌==◌}
-use Rattle.schemalint_run.specs.Lint.{AreLines}
+use Rattle.schemalint_run.proofs.Words.{take-append-drop, and_parts, Decides-eqb, pointwise, ends_with, ◌==◌, AreLines}
 
 newline : (xs : List ℕ) → pointwise (λ a b. a == b) (10 ∷ []) xs ≡ true → xs ≡ 10 ∷ []
 newline (x ∷ []) h = ap (λ y. y ∷ []) (sym ((Decides-eqb 10 x).0 (and_parts _ _ h).0))

@@ -1,18 +1,10 @@
 -- A text says one table at most, so a verdict on that table is one on the text.
 use Rattle.std.proofs.Common.{◌≡◌, ℕ, List, Option, Some, None, Bool, true, false, true≢false, IsTrue, option_and_then, refl, sym, ap, ◌∙◌, subst}
-use Rattle.std.specs.Prelude.{◌↔◌}
-use Rattle.serde_json.specs.Read.{read}
-use Rattle.schemars_types.specs.Rows.{Row}
-use Rattle.schemars_types.specs.Faults.{IsAccepted}
+use Rattle.schemalint_run.proofs.Words.{◌↔◌, read, Row, IsAccepted, IsPlainTable, IsPlainUnder, plain_under, input_of, IsTableText, Judges, IsVerdictOf, is_under, verdict_for}
 use Rattle.schemars_types.specs.declared.contract.Contract.{Contract}
 use Rattle.schemars_types.specs.declared.contract.Contract.TheVariants.{Deserialize, Serialize}
-use Rattle.schemars_documents.specs.PlainTable.{IsPlainTable, IsPlainUnder}
-use Rattle.schemars_documents.proofs.OpenStructs.{plain_under}
-use Rattle.schemagen_input.specs.Input.{input_of}
-use Rattle.schemagen_input.specs.Texts.{IsTableText}
 use Rattle.schemalint_run.specs.declared.judging.Verdict.{Verdict}
 use Rattle.schemalint_run.specs.declared.judging.Verdict.TheVariants.{Refused, Plain}
-use Rattle.schemalint_run.specs.Lint.{Judges, IsVerdictOf, is_under, verdict_for}
 
 abbrev rows_or : List Row → Option (List Row × ℕ) → List Row
 rows_or rows None = rows

@@ -1,3 +1,4 @@
 -- The lemmas of the proofs.
 mod Judged
 pub mod Ended
+mod Words

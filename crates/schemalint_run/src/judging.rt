@@ -1,10 +1,7 @@
 //! The judgement of a text.
 ghost use Rattle.std.specs.Prelude.{◌≡◌, ◌≢◌, ◌↔◌, ◌++◌, IfOk, IsTrue, string_bytes};
-ghost use Rattle.schemars_schema.specs.Json.{Text};
+ghost use Rattle.schemalint_run.specs.Words.{Text, IsAccepted, IsAcceptedText, AreLines, IsPlainText, IsTextPlainUnder, Judges, IsVerdictOf, is_under, verdict_for, verdict_line};
 ghost use Rattle.schemars_types.specs.declared.contract.Contract.{Contract as Which};
-ghost use Rattle.schemars_types.specs.Faults.{IsAccepted};
-ghost use Rattle.schemagen_input.specs.Texts.{IsAcceptedText};
-ghost use Rattle.schemalint_run.specs.Lint.{AreLines, IsPlainText, IsTextPlainUnder, Judges, IsVerdictOf, is_under, verdict_for, verdict_line};
 
 use crate::as_text::add_lines;
 use crate::faults::{add_refusal, add_row_fault};

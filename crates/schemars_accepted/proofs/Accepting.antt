@@ -1,17 +1,7 @@
 -- What belongs to a row is accepted.
 use Rattle.std.proofs.Common.{◌≡◌, ◌≤◌, ℕ, List, ap, ◌∙◌}
-use Rattle.std.specs.Str.{IsUtf8}
-use Rattle.serde_json.specs.Data.{Data}
-use Rattle.schemars_schema.specs.Json.{Text, IsJson}
-use Rattle.schemars_schema.specs.Acceptance.{Dialect, Patterns, accepts, bound}
-use Rattle.schemars_schema.specs.Verdict.{verdict, Yes}
-use Rattle.schemars_types.specs.Meaning.{belongs}
+use Rattle.schemars_accepted.proofs.Words.{IsUtf8, Data, Text, IsJson, Dialect, Patterns, accepts, bound, verdict, Yes, belongs, State, path_of, HasOwnDefinitions, RootHeadline, IsDraftPath, IsPlainFor, Row, BelongsUnder, BelongsAsReadUnder, IsAcceptedUnder, IsAcceptedAsRead}
 use Rattle.schemars_types.specs.declared.contract.Contract.TheVariants.{Serialize}
-use Rattle.schemars_headline.specs.State.{State, path_of, HasOwnDefinitions}
-use Rattle.schemars_headline.specs.Headline.{RootHeadline, IsDraftPath, IsPlainFor}
-use Rattle.schemars_types.specs.Rows.{Row}
-use Rattle.schemars_written.specs.Writes.{BelongsUnder, BelongsAsReadUnder}
-use Rattle.schemars_accepted.specs.Accepted.{IsAcceptedUnder, IsAcceptedAsRead}
 use Rattle.schemars_accepted.proofs.ReadJson.{read_is_json}
 
 pub accepted : (reading : Patterns → Type 0) (rows : List Row) (n : ℕ) (v : Data) → BelongsUnder reading rows n v → IsJson v

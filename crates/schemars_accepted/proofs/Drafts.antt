@@ -1,13 +1,8 @@
 -- The settings of the drafts and of OpenAPI, made ones for what is written.
 use Rattle.std.proofs.Common.{◌≡◌, [], inl, inr, ap}
 use Rattle.schemars_types.specs.declared.contract.Contract.TheVariants.{Serialize}
-use Rattle.schemars_headline.specs.Drafts.{Draft2020_12, Draft2019_09, Draft07}
-use Rattle.schemars_headline.specs.State.{Settings, settings2020_12, stripped}
-use Rattle.schemars_generate.specs.Generator.{settings_of}
-use Rattle.schemars_generate.specs.Settings.{settings07, settings2019_09, settings_openapi3, transforms07, transforms2019_09, transforms_openapi3}
+use Rattle.schemars_accepted.proofs.Words.{Draft2020_12, Draft2019_09, Draft07, Settings, settings2020_12, stripped, settings_of, settings07, settings2019_09, settings_openapi3, transforms07, transforms2019_09, transforms_openapi3, AreForWriting, AreForOpenApi}
 use Rattle.schemars_generate.specs.declared.settings.SchemaSettings.{SchemaSettings}
-use Rattle.schemars_accepted.specs.Rooted.{AreForWriting}
-use Rattle.schemars_accepted.specs.Taken.{AreForOpenApi}
 
 pub written_2020_12 : {O : Type 0} (s : SchemaSettings O) → settings_of s ≡ record settings2020_12 { contract = Serialize }
     → s.transforms.items ≡ [] → AreForWriting Draft2020_12 s

@@ -1,14 +1,8 @@
 -- The strings and the keys of a text that is UTF-8 are UTF-8: as lexemes, as tokens and in the tree.
 use Rattle.std.proofs.Common.{◌≡◌, ℕ, zero, suc, Bool, true, false, cond, ◌==◌, List, [], ◌∷◌, ◌++◌, length, Option, Some, None, option_and_then, refl, sym, subst, arith, append_assoc, eqb-true}
-use Rattle.std.specs.Option.{IfSome}
-use Rattle.std.specs.Prelude.{⊤}
-use Rattle.std.specs.Str.{IsUtf8}
-use Rattle.json.specs.Token.{Token, begin_object, end_object, begin_array, end_array, key, string, number, boolean, null, bad}
-use Rattle.json.specs.Text.{content, plain}
-use Rattle.json.specs.Word.{after_number, ends_word, head, is_operator, is_space, number_before, word}
-use Rattle.json.specs.Lex.{Lexeme, token, comma, colon, Class, quote, backslash, operator, space, other, class, operator_lexeme, string_token, Mode, between, in_word, in_string, in_escape, lex_byte, lex}
-use Rattle.json.specs.Lex.{Place, fresh, after_value, after_comma, after_key, begins_colon, may_begin, may_close, if_allowed, place_token, punctuate, tokens}
-use Rattle.json.specs.Json.{Json, array, object, Items, no_items, item, Members, no_members, member, Parse, parse_map, after_end_array, read_key, items_step, members_step, items, members, value_with, value, if_last}
+use Rattle.schemars_accepted.proofs.Words.{IfSome, ⊤, IsUtf8, Token, begin_object, end_object, begin_array, end_array, key, string, boolean, null, bad, content, plain, after_number, ends_word, head, is_operator, is_space, number_before, word, Lexeme, token, comma, colon, Class, quote, backslash, operator, space, other, class, operator_lexeme, string_token, Mode, between, in_word, in_string, in_escape, lex_byte, lex, Place, fresh, after_value, after_comma, after_key, begins_colon, may_begin, may_close, if_allowed, place_token, punctuate, tokens, Json, Items, no_items, item, member, Parse, parse_map, after_end_array, read_key, items_step, members_step, items, members, value_with, value, if_last}
+use Rattle.json.specs.Token.{number}
+use Rattle.json.specs.Json.{array, object, Members, no_members}
 use Rattle.schemars_accepted.proofs.Unescaped.{content_is_utf8, parted}
 
 -- ---- lexemes

@@ -1,20 +1,8 @@
 -- What a text is read as is JSON.
 use Rattle.std.proofs.Common.{◌≡◌, ℕ, zero, suc, List, Bool, true, false, Option, Some, None, Ordering, Less, Equal, Greater, nat_cmp, subst, arith}
-use Rattle.std.proofs.lemmas.Bool.{and_parts, cond_both, leb-true, ltb-true}
-use Rattle.std.specs.Prelude.{◌^◌, ◌&&◌, ◌==◌, drop, slice_index, nat_lt, nat_le, option_map, option_and_then, ⊤}
-use Rattle.std.specs.Option.{IfSome}
-use Rattle.std.specs.Ordering.{match_ordering}
-use Rattle.std.specs.Cmp.Lexicographic.{slice_cmp}
-use Rattle.std.specs.Str.{IsUtf8}
-use Rattle.fast_float.specs.Text.{Parts, digits_of, minus, nearest, scan, with_sign}
-use Rattle.std.specs.Float.{binary64, float_is_finite}
+use Rattle.schemars_accepted.proofs.Words.{and_parts, cond_both, leb-true, ltb-true, ◌^◌, ◌&&◌, ◌==◌, drop, slice_index, nat_lt, nat_le, option_map, option_and_then, ⊤, IfSome, match_ordering, slice_cmp, IsUtf8, Parts, digits_of, minus, nearest, scan, with_sign, binary64, float_is_finite, tokens, unsigned, negative, float, Data, number, object, array, Members, no_members, put, is_integer, float_of, number_from, number_of, of_json, of_items, of_members, max_depth, read, IsNumber, Text, IsJson, AreJson, AreJsonMembers, IsSorted, sorted-put}
 use Rattle.json.specs.Json as json
-use Rattle.json.specs.Lex.{tokens}
-use Rattle.serde_json.specs.Data.{unsigned, negative, float, Data, number, object, array, item, Members, no_members, member, put}
-use Rattle.serde_json.specs.Read.{is_integer, float_of, number_from, number_of, of_json, of_items, of_members, max_depth, read}
-use Rattle.schemars_schema.specs.Numbers.{IsNumber}
-use Rattle.schemars_schema.specs.Json.{Text, IsJson, AreJson, AreJsonMembers}
-use Rattle.schemars_schema.proofs.SortedMembers.{IsSorted, sorted-put}
+use Rattle.serde_json.specs.Data.{item, member}
 use Rattle.schemars_accepted.proofs.Lexed.{HasTexts, ItemsHaveTexts, MembersHaveTexts, tree_has_texts}
 
 -- ---- numbers

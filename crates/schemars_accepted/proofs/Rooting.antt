@@ -1,22 +1,7 @@
 -- The root document of a type accepts what is written.
 use Rattle.std.proofs.Common.{◌≡◌, ℕ, List, Some, inl, sym, ap, ◌∙◌}
-use Rattle.serde_json.specs.Data.{Data}
-use Rattle.schemars_schema.specs.Json.{IsJson}
-use Rattle.schemars_schema.specs.Acceptance.{Patterns}
-use Rattle.schemars_schema.specs.Verdict.{verdict}
-use Rattle.schemars_types.specs.Meaning.{belongs}
-use Rattle.schemars_types.specs.Rows.{Row, place_of}
-use Rattle.schemars_types.specs.Faults.{IsChecked}
+use Rattle.schemars_accepted.proofs.Words.{Data, IsJson, Patterns, verdict, belongs, Row, place_of, IsChecked, IsPlainTable, Draft, Settings, stripped, MeansType, IsJoined, Dictionary, TypeRow, IsIn, BelongsUnder, AreAsTold, IsToldIn, follows_told, AcceptsWritten}
 use Rattle.schemars_types.specs.declared.contract.Contract.TheVariants.{Serialize}
-use Rattle.schemars_documents.specs.PlainTable.{IsPlainTable}
-use Rattle.schemars_headline.specs.Drafts.{Draft}
-use Rattle.schemars_headline.specs.State.{Settings, stripped}
-use Rattle.schemars_generate.specs.ByType.{MeansType, IsJoined}
-use Rattle.schemars_impls.specs.Dictionary.{Dictionary, TypeRow, IsIn}
-use Rattle.schemars_written.specs.Writes.{BelongsUnder}
-use Rattle.schemars_described.specs.Told.{AreAsTold, IsToldIn}
-use Rattle.schemars_described.specs.Laws.{follows_told}
-use Rattle.schemars_accepted.specs.Rooted.{AcceptsWritten}
 
 -- the row of a type that has joined a table describes the type
 pub joined_row : (t : TypeRow) (told : Dictionary → Type 0) (R : List Row → ℕ → Type 0) → ((d : Dictionary) → told d → IsIn t d)

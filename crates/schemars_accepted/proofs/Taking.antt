@@ -1,37 +1,9 @@
 -- Definitions that are taken for OpenAPI accept what is written.
 use Rattle.std.proofs.Common.{◌≡◌, ◌<◌, ℕ, zero, suc, [], List, Option, Some, None, true, false, inr, IfOk, Result, Ok, Err, refl, sym, ap, arith, ◌∙◌, subst}
-use Rattle.std.specs.Prelude.{is_some}
-use Rattle.serde_json.specs.Data.{Data, null, boolean, number, string, array, object, Members, no_members}
-use Rattle.serde_json.specs.Find.{get_member}
-use Rattle.schemars_schema.specs.Json.{Text, IsJson}
-use Rattle.schemars_schema.specs.Lookup.{resolved}
-use Rattle.schemars_schema.specs.SchemaData.{IsSchema}
-use Rattle.schemars_schema.specs.Verdict.{verdict, Yes, No}
-use Rattle.schemars_schema.specs.Acceptance.{Dialect, Patterns, openapi3, accepts, bound, read_data, follow}
-use Rattle.schemars_schema.proofs.Placings.{plain-components, resolved-definition}
-use Rattle.schemars_types.specs.Meaning.{belongs}
-use Rattle.schemars_types.specs.Rows.{Row, place_of}
-use Rattle.schemars_types.specs.Edges.{is_inline_at}
+use Rattle.schemars_accepted.proofs.Words.{is_some, Data, number, array, object, Members, no_members, get_member, Text, IsJson, resolved, IsSchema, verdict, Yes, No, Dialect, openapi3, Patterns, accepts, bound, read_data, follow, plain-components, resolved-definition, belongs, Row, place_of, is_inline_at, TypeRow, reference, IsPlainTable, IsOneToOne, name_of, is_in_place, IsKey, reference_to, components, components_of, components-found, TransformStep, IsReferenceOf, State, path_of, HasOwnDefinitions, MeanTheirRows, TakenHeadline, HasSameKeys, KeepsDefinitions, IsJoined, IsSubschemaOfType, with_rows, Generator, Transforms, held_transforms, settings_of, state, AreTransformed, AreGone, IsTakeRefusal, BelongsUnder, IsForOpenApi, DefinitionAccepts, ReferenceAccepts, TakenAccepts, HasJoined, AreTaken, IsNotTaken, IsTakenRefusal}
+use Rattle.serde_json.specs.Data.{null, boolean, string}
 use Rattle.schemars_types.specs.declared.contract.Contract.TheVariants.{Serialize}
-use Rattle.schemars_impls.specs.Dictionary.{TypeRow}
-use Rattle.schemars_documents.specs.Documents.{reference}
-use Rattle.schemars_documents.specs.PlainTable.{IsPlainTable}
-use Rattle.schemars_build.specs.Naming.{IsOneToOne, name_of}
-use Rattle.schemars_build.specs.Placed.{is_in_place}
-use Rattle.schemars_build.specs.Registry.{IsKey, reference_to}
-use Rattle.schemars_laws.specs.Paths.{components, components_of}
-use Rattle.schemars_laws.proofs.Chain.{components-found}
-use Rattle.schemars_walk.specs.Walk.{TransformStep}
-use Rattle.schemars_headline.specs.Calls.{IsReferenceOf}
-use Rattle.schemars_headline.specs.State.{State, path_of, HasOwnDefinitions}
-use Rattle.schemars_headline.specs.Taken.{MeanTheirRows, TakenHeadline, HasSameKeys}
-use Rattle.schemars_generate.specs.Answers.{KeepsDefinitions}
-use Rattle.schemars_generate.specs.ByType.{IsJoined, IsSubschemaOfType, with_rows}
-use Rattle.schemars_generate.specs.Generator.{Generator, Transforms, held_transforms, settings_of, state}
-use Rattle.schemars_generate.specs.Through.{AreTransformed, AreGone, IsTakeRefusal}
 use Rattle.schemars_generate.specs.declared.error.GenerateError.{GenerateError}
-use Rattle.schemars_written.specs.Writes.{BelongsUnder}
-use Rattle.schemars_accepted.specs.Taken.{IsForOpenApi, DefinitionAccepts, ReferenceAccepts, TakenAccepts, HasJoined, AreTaken, IsNotTaken, IsTakenRefusal}
 
 -- ---- references
 

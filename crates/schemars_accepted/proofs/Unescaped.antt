@@ -1,12 +1,6 @@
 -- The content of a string in a text that is UTF-8 is UTF-8.
 use Rattle.std.proofs.Common.{◌≡◌, ℕ, ◌+◌, ◌<◌, ◌≤◌, Bool, true, false, cond, ◌&&◌, ◌||◌, ◌==◌, nat_lt, nat_le, List, [], ◌∷◌, ◌++◌, length, drop, get_or, Option, Some, None, option_and_then, inl, inr, refl, sym, ap, ◌∙◌, subst, arith, append_assoc, append-nil, length-append, get_or-append-add, take_at, drop_at, drop-drop, eqb-true, ltb-true, ltb-false, leb-true, leb-false}
-use Rattle.std.proofs.lemmas.Bool.{and_cases, and_parts, cases_lt, cond_both}
-use Rattle.std.proofs.lemmas.Str.{IsUtf8-append, IsUtf8-drop, IsUtf8-encode, IsUtf8-take, IsCharBoundary-after_ascii, IsCharBoundary-before_ascii, encode_ascii}
-use Rattle.std.specs.Char.{digit_value, encode_utf8, is_digit}
-use Rattle.std.specs.Option.{IfSome}
-use Rattle.std.specs.Str.{IsUtf8}
-use lib.Utf8.{low_scalar, scalar}
-use Rattle.json.specs.Text.{Within, after_backslash, after_high, after_u, code_unit, content, is_high_surrogate, is_low_surrogate, plain, prepend, short_escape, surrogate_pair}
+use Rattle.schemars_accepted.proofs.Words.{and_cases, and_parts, cases_lt, cond_both, IsUtf8-append, IsUtf8-drop, IsUtf8-encode, IsUtf8-take, IsCharBoundary-after_ascii, IsCharBoundary-before_ascii, encode_ascii, digit_value, encode_utf8, is_digit, IfSome, IsUtf8, low_scalar, scalar, Within, after_backslash, after_high, after_u, code_unit, content, is_high_surrogate, is_low_surrogate, plain, prepend, short_escape, surrogate_pair}
 
 -- a text at an ASCII byte
 pub parted : (xs ys : List ℕ) (x : ℕ) → IsUtf8 (xs ++ x ∷ ys) → x < 128 → IsUtf8 xs × IsUtf8 ys

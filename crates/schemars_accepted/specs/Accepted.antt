@@ -4,7 +4,9 @@ use Rattle.serde_json.specs.Data.{Data}
 use Rattle.serde_json.specs.Read.{read}
 use Rattle.schemars_schema.specs.Json.{Text}
 use Rattle.schemars_schema.specs.Verdict.{Yes}
-use Rattle.schemars_schema.specs.Acceptance.{Dialect, Patterns, accepts, bound}
+use Rattle.schemars_schema.specs.Dialects.{Dialect}
+use Rattle.schemars_schema.specs.Judges.{Patterns}
+use Rattle.schemars_schema.specs.Acceptance.{accepts, bound}
 use Rattle.schemars_types.specs.Rows.{Row}
 use Rattle.schemars_types.specs.declared.contract.Contract.TheVariants.{Serialize}
 use Rattle.schemars_headline.specs.Headline.{AcceptsItsValues}

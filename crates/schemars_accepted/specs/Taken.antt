@@ -4,11 +4,13 @@ use Rattle.serde_json.specs.Data.{Data, Members}
 use Rattle.serde_json.specs.Find.{get_member}
 use Rattle.schemars_schema.specs.Json.{Text}
 use Rattle.schemars_schema.specs.Verdict.{Yes}
-use Rattle.schemars_schema.specs.Acceptance.{Patterns, openapi3, accepts, bound}
+use Rattle.schemars_schema.specs.Dialects.{openapi3}
+use Rattle.schemars_schema.specs.Judges.{Patterns}
+use Rattle.schemars_schema.specs.Acceptance.{accepts, bound}
 use Rattle.schemars_types.specs.Rows.{place_of}
 use Rattle.schemars_types.specs.declared.contract.Contract.TheVariants.{Serialize}
 use Rattle.schemars_impls.specs.Dictionary.{TypeRow}
-use Rattle.schemars_documents.specs.Documents.{reference}
+use Rattle.schemars_templates.specs.Finished.{reference}
 use Rattle.schemars_build.specs.Naming.{name_of}
 use Rattle.schemars_build.specs.Placed.{is_in_place}
 use Rattle.schemars_build.specs.Registry.{reference_to}

@@ -1,10 +1,6 @@
 //! What is written for a value, and that the schemas of its type accept it.
 ghost use Rattle.std.specs.Prelude.{◌≡◌, ◌<◌, length, IfOk, IfErr, string_bytes};
-ghost use Rattle.serde_json.specs.View.{view};
-ghost use Rattle.schemars_types.specs.Faults.{IsChecked};
-ghost use Rattle.schemars_written.specs.Readings.{IsAmong};
-ghost use Rattle.schemars_written.specs.Writes.{IsWritten, IsWrittenText};
-ghost use Rattle.schemars_accepted.specs.Accepted.{IsAcceptedUnder, IsAcceptedAsRead};
+ghost use Rattle.schemars_accepted.specs.Words.{view, IsChecked, IsAmong, IsWritten, IsWrittenText, IsAcceptedUnder, IsAcceptedAsRead};
 
 use schemars_agreement::{Agrees, WriteError, to_member_string, to_member_value};
 use schemars_types::{TypeNo, Types};

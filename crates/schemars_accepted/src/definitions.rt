@@ -1,13 +1,6 @@
 //! The definitions of a type for OpenAPI, and a value that they accept.
 ghost use Rattle.std.specs.Prelude.{◌≡◌, [], false, IfOk, IfErr};
-ghost use Rattle.serde_json.specs.View.{view, members_view};
-ghost use Rattle.schemars_schema.specs.Json.{Text};
-ghost use Rattle.schemars_generate.specs.Generator.{Generator, generator_over, held_transforms, settings_of, state};
-ghost use Rattle.schemars_written.specs.Readings.{IsAmong};
-ghost use Rattle.schemars_written.specs.Writes.{IsWritten};
-ghost use Rattle.schemars_described.specs.Told.{IsToldIn, telling};
-ghost use Rattle.schemars_accepted.specs.Rooted.{RefusesRoot};
-ghost use Rattle.schemars_accepted.specs.Taken.{AreForOpenApi, AreTaken, IsForOpenApi, IsLeft, IsTakenRefusal, ReferenceAccepts, TakenAccepts};
+ghost use Rattle.schemars_accepted.specs.Words.{view, members_view, Text, Generator, generator_over, held_transforms, settings_of, state, IsAmong, IsWritten, IsToldIn, telling, RefusesRoot, AreForOpenApi, AreTaken, IsForOpenApi, IsLeft, IsTakenRefusal, ReferenceAccepts, TakenAccepts};
 
 use crate::error::RootError;
 use schemars_agreement::WriteError;

@@ -1,14 +1,6 @@
 //! The root document of a type, and a value that it accepts.
 ghost use Rattle.std.specs.Prelude.{◌≡◌, [], IfOk, IfErr};
-ghost use Rattle.serde_json.specs.View.{view};
-ghost use Rattle.schemars_headline.specs.Drafts.{Draft};
-ghost use Rattle.schemars_headline.specs.State.{path_of, stripped};
-ghost use Rattle.schemars_generate.specs.ByType.{IsJoined, IsRootOfTypeRefusal};
-ghost use Rattle.schemars_generate.specs.Generator.{Generator, generator_over, held_transforms, settings_of, state};
-ghost use Rattle.schemars_written.specs.Readings.{IsAmong};
-ghost use Rattle.schemars_written.specs.Writes.{IsWritten};
-ghost use Rattle.schemars_described.specs.Told.{IsToldIn, telling};
-ghost use Rattle.schemars_accepted.specs.Rooted.{AcceptsWritten, AreForWriting, IsBeforeDocument, IsForWriting, RefusesRoot};
+ghost use Rattle.schemars_accepted.specs.Words.{view, Draft, path_of, stripped, IsJoined, IsRootOfTypeRefusal, Generator, generator_over, held_transforms, settings_of, state, IsAmong, IsWritten, IsToldIn, telling, AcceptsWritten, AreForWriting, IsBeforeDocument, IsForWriting, RefusesRoot};
 
 use crate::error::RootError;
 use schemars_agreement::WriteError;

@@ -1,19 +1,10 @@
 -- The members that fields are, with those of rows that are flattened.
 use Rattle.std.proofs.Common.{◌≡◌, ℕ, suc, List, [], ◌∷◌, ◌++◌, Option, Some, None, Bool, true, false, refl, sym, ap, ◌∙◌, map, append_assoc, append-nil, ◌<◌, ◌+◌, length, get_or, drop}
-use Rattle.std.specs.Prelude.{◌&&◌, is_some, if◌then◌else◌, option_and_then}
-use Rattle.std.proofs.lemmas.List.{map-append, drop_more}
-use Rattle.std.specs.Option.{option_map_or}
+use Rattle.schemars_belonging.proofs.Words.{◌&&◌, is_some, if◌then◌else◌, option_and_then, map-append, drop_more, option_map_or, Shape, Field, Flattened, Fields, Required, flattened_of, Entry, Row, entry_at, option_at, without_options, fields_within, effective, flattened_fields, part_fields, required_only_if, shape_fields, is_required, Given, of_row, field_given, still_needed, struct_of}
 use Rattle.schemars_shapes.specs.Shape as shape
-use Rattle.schemars_shapes.specs.Shape.{Shape, Field, Flattened, Fields, Required, flattened_of}
-use Rattle.schemars_shapes.specs.Shape.{Entry}
 use Rattle.schemars_shapes.specs.declared.shape.Flattened as src
-use Rattle.schemars_types.specs.Rows.{Row, entry_at}
-use Rattle.schemars_types.specs.Edges.{option_at}
-use Rattle.schemars_types.specs.Effective.{without_options, fields_within, effective, flattened_fields, part_fields, required_only_if, shape_fields}
-use Rattle.schemars_types.specs.Meaning.{is_required}
 use Rattle.schemars_types.specs.declared.contract.Contract.{Contract}
 use Rattle.schemars_types.specs.declared.contract.Contract.TheVariants.{Deserialize, Serialize}
-use Rattle.schemars_belonging.specs.Asked.{Given, of_row, field_given, still_needed, struct_of}
 
 and_assoc : (a b c : Bool) → a && (b && c) ≡ (a && b) && c
 and_assoc true b c = refl

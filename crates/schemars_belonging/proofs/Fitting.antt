@@ -1,14 +1,6 @@
 -- Maps with fields, and with enums among their members.
 use Rattle.std.proofs.Common.{◌≡◌, ℕ, List, [], ◌∷◌, ◌++◌, Option, Some, Bool, true, false, ap, ◌∙◌, map}
-use Rattle.std.specs.Prelude.{◌&&◌, not}
-use Rattle.serde_json.specs.Data.{Data, Members}
-use Rattle.serde_json.specs.Find.{as_object}
-use Rattle.schemars_text.specs.OrderedText.{is_listed}
-use Rattle.schemars_schema.specs.Json.{Text}
-use Rattle.schemars_shapes.specs.Shape.{Fields}
-use Rattle.schemars_types.specs.Effective.{effective, flattened_in, flattened_enums, part_enums, enum_at}
-use Rattle.schemars_types.specs.Meaning.{Member, VariantMatch, holds, every_part, matches_of, are_members, has_members, has_members_with, has_fields, has_tagged, tag_member, excludes_key, is_key_of_match}
-use Rattle.schemars_belonging.specs.Asked.{Asked, Given, has, offers, member_of, field_given, tag_given, allows, all_claims, has_fields_of}
+use Rattle.schemars_belonging.proofs.Words.{◌&&◌, not, Data, Members, as_object, is_listed, Text, Fields, effective, flattened_in, flattened_enums, part_enums, enum_at, Member, VariantMatch, holds, every_part, matches_of, are_members, has_members, has_members_with, has_fields, has_tagged, tag_member, excludes_key, is_key_of_match, Asked, Given, has, offers, member_of, field_given, tag_given, allows, all_claims, has_fields_of}
 use Rattle.schemars_belonging.proofs.Members.{field_members}
 use Rattle.schemars_belonging.proofs.Offers.{all_listed}
 

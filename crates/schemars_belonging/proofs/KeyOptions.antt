@@ -1,25 +1,8 @@
 -- What the options of a row say of a key.
-use Rattle.std.proofs.Common.{◌≡◌, ℕ, suc, List, [], ◌∷◌, Option, Some, None, Bool, true, false, refl, sym, ap, ◌∙◌, option_map, length, true≢false}
-use Rattle.std.specs.Prelude.{◌||◌, not, filter, bytes_eq, option_and_then, is_some, if◌then◌else◌}
-use Rattle.std.specs.List.{list_any}
-use Rattle.std.specs.Option.{option_map_or}
-use Rattle.std.proofs.lemmas.List.Folds.{list_any-append}
-use Rattle.std.proofs.lemmas.Slice.Eq.{bytes_eq-Decides}
-use Rattle.serde_json.specs.Data.{Items}
-use Rattle.schemars_text.specs.OrderedText.{is_listed}
-use Rattle.schemars_text.proofs.FixedMembers.{is_listed-append}
-use Rattle.schemars_schema.specs.Json.{Text}
-use Rattle.schemars_schema.specs.Edits.{holds_text}
-use Rattle.schemars_schema.specs.Acceptance.{Patterns, matches, texts_in, when}
-use Rattle.schemars_validate.specs.Texts.{are_texts, texts_of}
-use Rattle.schemars_validate.proofs.Texts.{texts_found, holds_listed}
-use Rattle.schemars_shapes.specs.Shape.{Entry}
-use Rattle.schemars_shapes.specs.IntegerKeys.{pattern_of}
+use Rattle.std.proofs.Common.{◌≡◌, ℕ, suc, List, [], ◌∷◌, Option, Some, None, Bool, true, false, refl, sym, ap, ◌∙◌, option_map, length}
+use Rattle.schemars_belonging.proofs.Words.{◌||◌, not, filter, bytes_eq, option_and_then, if◌then◌else◌, list_any, option_map_or, list_any-append, bytes_eq-Decides, is_listed, is_listed-append, Text, Patterns, matches, Entry, pattern_of, Row, entry_at, KeyOptions, keys, any_text, either_options, either_integers, is_key_allowed, key_options, options_within, shape_options, once, distinct_options, or_any_text, Said, said, said_by, either_said, nothing_said, allowed, or-false}
 use Rattle.schemars_shapes.specs.declared.shape.IntegerKeys.{IntegerKeys}
 use Rattle.schemars_shapes.specs.declared.shape.IntegerKeys.TheVariants.{Unsigned, Signed}
-use Rattle.schemars_types.specs.Rows.{Row, entry_at}
-use Rattle.schemars_types.specs.KeyOptions.{KeyOptions, keys, any_text, either_options, either_integers, is_key_allowed, key_options, options_within, shape_options, once, distinct_options, or_any_text, texts_options}
-use Rattle.schemars_belonging.specs.Keys.{Said, said, said_by, either_said, nothing_said, allowed}
 
 -- ---- rows
 
@@ -72,10 +55,6 @@ or_assoc : (a b c : Bool) → (a || b) || c ≡ a || (b || c)
 or_assoc true b c = refl
 or_assoc false b c = refl
 
-or_false : (a : Bool) → a || false ≡ a
-or_false true = refl
-or_false false = refl
-
 integers_assoc : (i j k : Option IntegerKeys) → either_integers (either_integers i j) k ≡ either_integers i (either_integers j k)
 integers_assoc None j k = refl
 integers_assoc (Some Signed) j k = refl
@@ -98,12 +77,8 @@ said_assoc a b c = λ k. record { found = or_assoc a.found b.found c.found k; in
 abbrev pub joined : Said → Option Said → Option Said
 joined a o = option_map (either_said a) o
 
-pub nothing_joined : (o : Option Said) → joined nothing_said o ≡ o
-nothing_joined None = refl
-nothing_joined (Some s) = refl
-
 pub all_joined : (a : Said) → joined a (Some nothing_said) ≡ Some a
-all_joined a = λ k. Some (record { found = or_false a.found k; integers = integers_none a.integers k })
+all_joined a = λ k. Some (record { found = or-false a.found k; integers = integers_none a.integers k })
 
 pub one_joined : (patterns : Patterns) (key : Text) (a more : Said) (first rest : Option KeyOptions)
     → Some more ≡ said_by patterns key first
@@ -118,11 +93,6 @@ one_joined patterns key a more (Some o) (Some p) is =
   where
     some_same : (x y : Said) → Some x ≡ Some y → x ≡ y
     some_same x y h = cc
-
-pub none_joined : (patterns : Patterns) (key : Text) (a : Said) (first rest : Option KeyOptions) → None ≡ said_by patterns key first
-    → joined a (said_by patterns key (option_and_then (λ o. option_map (either_options o) rest) first)) ≡ None
-none_joined patterns key a None rest is = refl
-none_joined patterns key a (Some o) rest is = cc
 
 -- ---- each text once
 
@@ -193,18 +163,3 @@ any_key rows patterns n key is = go (options_within rows (length rows) n) is
         → true ≡ is_key_allowed patterns (distinct_options (or_any_text o)) key
     go None h = refl
     go (Some o) h = cc
-
--- ---- texts of a literal
-
-pub listed_says : (patterns : Patterns) (key : Text) (ds : Items) → is_some (texts_in ds) ≡ true
-    → record { found = holds_text key ds; integers = None } ≡ said patterns key (texts_options ds)
-listed_says patterns key ds texts = go (are_texts ds) refl
-  where
-    options : Option (List Text) → KeyOptions
-    options o = elim o [ Some ts ↦ keys false ts None [] | None ↦ any_text ]
-
-    go : (b : Bool) → are_texts ds ≡ b → record { found = holds_text key ds; integers = None } ≡ said patterns key (texts_options ds)
-    go true is = ap (λ (b : Bool). record { found = b; integers = None })
-        (holds_listed key ds ∙ sym (or_false (is_listed key (texts_of ds))))
-        ∙ sym (ap (λ (o : Option (List Text)). said patterns key (options o)) (texts_found ds ∙ ap (λ b. when b (texts_of ds)) is))
-    go false is = absurd (true≢false (sym texts ∙ ap is_some (texts_found ds ∙ ap (λ b. when b (texts_of ds)) is)))

@@ -1,7 +1,4 @@
 -- Lemmas that several proofs share.
-pub mod OfKind
-pub mod Counts
-pub mod Types
 pub mod KeyOptions
 pub mod EnumsWithin
 pub mod FieldMembers
@@ -10,3 +7,4 @@ pub mod Offers
 pub mod Rows
 pub mod Fitting
 pub mod Variants
+mod Words

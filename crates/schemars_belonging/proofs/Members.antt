@@ -1,13 +1,6 @@
 -- Members as they are given, in the words of the meaning.
 use Rattle.std.proofs.Common.{◌≡◌, ℕ, List, [], ◌∷◌, ◌++◌, Option, Some, None, Bool, true, false, refl, sym, ap, ◌∙◌, map, option_map}
-use Rattle.std.specs.Prelude.{◌&&◌, ◌||◌, not, is_some, bytes_eq, if◌then◌else◌}
-use Rattle.std.specs.Option.{option_map_or}
-use Rattle.serde_json.specs.Data.{Data, Members}
-use Rattle.serde_json.specs.Find.{get_member}
-use Rattle.schemars_schema.specs.Json.{Text}
-use Rattle.schemars_shapes.specs.Shape.{Field}
-use Rattle.schemars_types.specs.Meaning.{Member, member_named, has_each, field_member, must_have}
-use Rattle.schemars_belonging.specs.Asked.{Asked, Given, has, has_values, member_of, member_says, given_named, has_each_given, field_given}
+use Rattle.schemars_belonging.proofs.Words.{◌&&◌, ◌||◌, not, is_some, bytes_eq, if◌then◌else◌, option_map_or, Data, Members, get_member, Text, Field, Member, member_named, has_each, field_member, must_have, Asked, Given, has, has_values, member_of, member_says, given_named, has_each_given, field_given}
 
 -- ---- those that fields are
 

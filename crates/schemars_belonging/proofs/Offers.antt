@@ -1,17 +1,6 @@
 -- The keys that variants claim which fit.
 use Rattle.std.proofs.Common.{◌≡◌, ℕ, zero, suc, List, [], ◌∷◌, ◌++◌, Option, Some, None, Bool, true, false, refl, sym, ap, ◌∙◌, map, append_assoc, drop, get_or, length, ◌<◌, ◌+◌}
-use Rattle.std.proofs.lemmas.List.{drop_more}
-use Rattle.std.specs.Prelude.{◌&&◌, ◌||◌, is_some, bytes_eq, if◌then◌else◌}
-use Rattle.serde_json.specs.Data.{Data}
-use Rattle.schemars_text.specs.OrderedText.{is_listed}
-use Rattle.schemars_text.proofs.FixedMembers.{is_listed-append}
-use Rattle.schemars_text.proofs.Members.{bytes_eq_comm}
-use Rattle.schemars_schema.specs.Json.{Text}
-use Rattle.schemars_shapes.specs.Shape.{Shape, Entry, Field, Variant, enum, by_name, by_tag}
-use Rattle.schemars_types.specs.Rows.{entry_at}
-use Rattle.schemars_types.specs.Effective.{enum_at, expanded_shape_in}
-use Rattle.schemars_types.specs.Meaning.{VariantMatch, exactly_one, every_part, field_named, tagged_fields, claimed_by, is_key_of_match, matches_of, external_choice, internal_choice, shape_choices, choices_within}
-use Rattle.schemars_belonging.specs.Asked.{Asked, has, offers, claimed, shape_claims, claims, all_claims, fits_of}
+use Rattle.schemars_belonging.proofs.Words.{drop_more, ◌&&◌, ◌||◌, is_some, bytes_eq, if◌then◌else◌, Data, is_listed, is_listed-append, bytes_eq_comm, Text, Shape, Entry, Field, Variant, enum, by_name, by_tag, entry_at, enum_at, expanded_shape_in, VariantMatch, exactly_one, every_part, field_named, tagged_fields, claimed_by, is_key_of_match, matches_of, external_choice, internal_choice, shape_choices, choices_within, Asked, has, offers, claimed, shape_claims, claims, all_claims, fits_of}
 
 or_false : (b : Bool) → b || false ≡ b
 or_false true = refl

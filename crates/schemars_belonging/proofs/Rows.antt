@@ -1,13 +1,6 @@
 -- The meaning row by row.
 use Rattle.std.proofs.Common.{◌≡◌, ℕ, suc, List, [], ◌++◌, Option, Some, None, Bool, false, refl, sym, ap, ◌∙◌, append-nil}
-use Rattle.serde_json.specs.Data.{Data}
-use Rattle.std.specs.Prelude.{Result, Ok, Err, IfOk}
-use Rattle.schemars_schema.specs.Json.{Text}
-use Rattle.schemars_shapes.specs.Shape.{Entry}
-use Rattle.schemars_types.specs.Rows.{entry_at}
-use Rattle.schemars_types.specs.Effective.{expanded_shape_in}
-use Rattle.schemars_types.specs.Meaning.{VariantMatch, shape_choices, belongs_within, choices_within}
-use Rattle.schemars_belonging.specs.Asked.{Asked, has, offers, has_shape_of, shape_claims, claims}
+use Rattle.schemars_belonging.proofs.Words.{Data, Result, Ok, Err, IfOk, Text, Entry, entry_at, expanded_shape_in, VariantMatch, shape_choices, belongs_within, choices_within, Asked, has, offers, has_shape_of, shape_claims, claims}
 
 module _ (a : Asked) (n : ℕ) (v : Data) where
   abbrev has_of : ℕ → Option Entry → Bool

@@ -1,10 +1,6 @@
 -- A unit, and a variant that has more than its name.
 use Rattle.std.proofs.Common.{◌≡◌, ℕ, [], ◌∷◌, Bool, true, false, refl, sym, true≢false}
-use Rattle.serde_json.specs.Data.{Data}
-use Rattle.schemars_schema.specs.Json.{Text}
-use Rattle.schemars_shapes.specs.Shape.{Payload, no_payload, newtype_payload, tuple_payload, struct_payload}
-use Rattle.schemars_types.specs.Meaning.{has_external, has_adjacent, has_member, is_text}
-use Rattle.schemars_belonging.specs.Asked.{Asked, has, offers, bare, variant_in, has_beside_of, tag_given, is_unit}
+use Rattle.schemars_belonging.proofs.Words.{Data, Text, Payload, no_payload, newtype_payload, tuple_payload, struct_payload, has_external, has_adjacent, has_member, is_text, Asked, has, offers, bare, variant_in, has_beside_of, tag_given, is_unit}
 
 module _ (a : Asked) (steps : ℕ) where
   pub external_unit : (name : Text) (p : Payload) (v : Data) → is_unit p ≡ true

@@ -1,13 +1,12 @@
 -- The parts of the meaning of a type, as they are decided one by one.
-use Rattle.std.specs.Prelude.{ℕ, zero, suc, List, [], ◌∷◌, ◌++◌, map, find, Bool, true, false, not, ◌&&◌, ◌||◌, ◌==◌, nat_le, Option, Some, None, is_some, bytes_eq, if◌then◌else◌, string_bytes}
+use Rattle.std.specs.Prelude.{ℕ, zero, suc, List, [], ◌∷◌, ◌++◌, map, find, Bool, true, false, not, ◌&&◌, ◌||◌, Option, Some, None, is_some, bytes_eq, if◌then◌else◌, string_bytes}
 use Rattle.std.specs.List.{list_all}
 use Rattle.std.specs.Option.{option_map_or}
-use Rattle.serde_json.specs.Data.{Data, Items, Members, no_members}
-use Rattle.serde_json.specs.Events.{items_len}
+use Rattle.serde_json.specs.Data.{Data, Members, no_members}
 use Rattle.serde_json.specs.Find.{get_member}
 use Rattle.schemars_text.specs.OrderedText.{is_listed}
-use Rattle.schemars_schema.specs.Json.{Text, are_distinct}
-use Rattle.schemars_schema.specs.Acceptance.{Patterns}
+use Rattle.schemars_schema.specs.Json.{Text}
+use Rattle.schemars_schema.specs.Judges.{Patterns}
 use Rattle.schemars_shapes.specs.Shape.{Field, Fields, Flattened, Shape, Variant, Payload, Tagging, no_payload, newtype_payload, tuple_payload, struct_payload, struct, enum, by_name, by_nothing, by_tag, by_tag_and_content}
 use Rattle.schemars_types.specs.Rows.{Row, entry_at}
 use Rattle.schemars_types.specs.Edges.{option_at}
@@ -18,10 +17,8 @@ use Rattle.schemars_types.specs.declared.contract.Contract.{Contract}
 use Rattle.schemars_belonging.specs.declared.given.Given as src
 use Rattle.schemars_belonging.specs.declared.given.Values as src-values
 use Rattle.schemars_belonging.specs.declared.given.Values.TheVariants as values
-use Rattle.schemars_belonging.specs.declared.scalars.Limit as src-limit
-use Rattle.schemars_belonging.specs.declared.scalars.Limit.TheVariants as limit
-use Rattle.schemars_belonging.specs.declared.decide.By as src-by
-use Rattle.schemars_belonging.specs.declared.decide.By.TheVariants as by
+use Rattle.schemars_belonging.specs.declared.decide.variants.By as src-by
+use Rattle.schemars_belonging.specs.declared.decide.variants.By.TheVariants as by
 
 -- of which table, by which contract and under which reading of patterns
 pub record Asked : Type 0 where
@@ -189,14 +186,6 @@ abbrev pub one_of_seen : Bool → Bool → List Bool → Bool
 one_of_seen one true bs = false
 one_of_seen true false bs = none bs
 one_of_seen false false bs = exactly_one bs
-
--- ---- lists
-
-abbrev pub within : src-limit.Limit → Items → Bool
-within limit.Nothing vs = true
-within limit.Distinct vs = are_distinct vs
-within (limit.Exactly len) vs = items_len vs == len
-within (limit.AtMost cap) vs = nat_le (items_len vs) cap
 
 -- ---- variants
 

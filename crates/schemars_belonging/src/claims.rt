@@ -1,9 +1,6 @@
 //! Which variants of an enum fit among the members of a map, and the keys that they claim.
 ghost use Rattle.std.specs.Prelude.{◌≡◌, ◌++◌, ◌∷◌, ◌&&◌, [], List, Bool, if◌then◌else◌, map, OnOk};
-ghost use Rattle.schemars_shapes.specs.Shape.{internal_payload_of, payload_of, fields_of};
-ghost use Rattle.schemars_types.specs.Effective.{effective, flattened_in};
-ghost use Rattle.schemars_types.specs.Meaning.{exactly_one, tagged_fields};
-ghost use Rattle.schemars_belonging.specs.Asked.{given_of, is_unit, payload_expanded, one_of_seen};
+ghost use Rattle.schemars_belonging.specs.Words.{internal_payload_of, payload_of, fields_of, effective, flattened_in, exactly_one, tagged_fields, given_of, is_unit, payload_expanded, one_of_seen};
 
 use crate::fields::field_members;
 use crate::given::Given;

@@ -1,10 +1,6 @@
 //! The members that the fields of a struct are, with those of the rows that are flattened into it.
 ghost use Rattle.std.specs.Prelude.{◌≡◌, ◌++◌, true, map, IfOk, OnOk, option_map, option_and_then};
-ghost use Rattle.schemars_shapes.specs.Shape.{required_of, flattened_of, fields_of};
-ghost use Rattle.schemars_types.specs.Rows.{entry_at};
-ghost use Rattle.schemars_types.specs.Effective.{fields_within, effective, part_fields, flattened_in};
-ghost use Rattle.schemars_types.specs.Meaning.{is_required};
-ghost use Rattle.schemars_belonging.specs.Asked.{given_of, field_given, still_needed, struct_of};
+ghost use Rattle.schemars_belonging.specs.Words.{required_of, flattened_of, fields_of, entry_at, fields_within, effective, part_fields, flattened_in, is_required, given_of, field_given, still_needed, struct_of};
 
 use crate::given::{Given, Values};
 use schemars_types::{

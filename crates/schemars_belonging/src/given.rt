@@ -1,13 +1,9 @@
 //! The members that a map may have.
 ghost use Rattle.std.specs.Prelude.{◌≡◌, ◌&&◌, bytes_eq, map, option_map, is_some, IfOk};
-ghost use Rattle.serde_json.specs.Data.{object};
-ghost use Rattle.serde_json.specs.Find.{get_member};
-ghost use Rattle.schemars_types.specs.Meaning.{holds, is_text};
-ghost use Rattle.serde_json.specs.View.{view, members_view};
-ghost use Rattle.schemars_schema.specs.Edits.{without};
-ghost use Rattle.schemars_belonging.specs.Asked.{given_of, given_named, has_each_given, tag_given, needed, allows};
+ghost use Rattle.schemars_belonging.specs.Words.{object, get_member, holds, is_text, view, members_view, without, given_of, given_named, has_each_given, tag_given, needed, allows};
 
-use crate::scalars::is_text;
+use schemars_assertions::member;
+use schemars_literals::is_text;
 use schemars_schema::edits::is_listed;
 use schemars_types::TypeNo;
 use serde_json::{Map, Value};
@@ -103,14 +99,6 @@ fn is_there(members: &Map<String, Value>, key: &str) -> bool
     ensures { result ≡ is_some (get_member key.now (members_view members.now.entries)) }
 {
     member(members, key).is_some()
-}
-
-/// The member at a key.
-pub fn member<'m>(members: &'m Map<String, Value>, key: &str) -> Option<&'m Value>
-    ensures { option_map (λ v. view v.now) result
-        ≡ get_member key.now (members_view members.now.entries) }
-{
-    members.get(key)
 }
 
 /// Whether a map has a text under a key.

@@ -1,15 +1,9 @@
 //! Which keys a map may have, by the row of its keys.
 ghost use Rattle.std.specs.Prelude.{◌≡◌, None, Some, if◌then◌else◌, map, option_map};
-ghost use Rattle.std.specs.List.{list_all};
-ghost use Rattle.schemars_text.specs.OrderedText.{is_listed};
-ghost use Rattle.schemars_schema.specs.Acceptance as accepting;
-ghost use Rattle.schemars_shapes.specs.Shape.{shape_of, variant_of, payload_of};
-ghost use Rattle.schemars_shapes.specs.Units.{is_bare_unit};
-ghost use Rattle.schemars_types.specs.KeyOptions.{is_key_allowed, key_options, options_within, shape_options, external_options, untagged_options, members_options, member_options};
-ghost use Rattle.schemars_belonging.specs.Keys.{said_of, said_by, any_said, allowed};
+ghost use Rattle.schemars_belonging.specs.Words.{list_all, is_listed, shape_of, variant_of, payload_of, is_bare_unit, is_key_allowed, key_options, options_within, shape_options, external_options, untagged_options, members_options, member_options, said_of, said_by, any_said, allowed};
+ghost use Rattle.schemars_schema.specs.Judges as accepting;
 
-use crate::literal_keys::literal_says;
-use crate::said::{Said, any_said, either_said, found_said, integers_said};
+use schemars_literals::{Said, any_said, either_said, found_said, integers_said, literal_says};
 use schemars_shapes::is_bare_unit;
 use schemars_types::{IntegerKeys, Payload, Shape, TypeNo, Types, Variant};
 use schemars_validate::Patterns;

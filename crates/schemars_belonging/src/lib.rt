@@ -7,11 +7,6 @@ mod enums;
 mod fields;
 mod given;
 mod keys;
-mod literal;
-mod literal_keys;
-mod named_types;
-mod said;
-mod scalars;
 mod steps;
 
 pub use steps::belongs;

@@ -1,8 +1,6 @@
 //! Whether a value belongs to a row of a table.
 ghost use Rattle.std.specs.Prelude.{◌≡◌, ◌+◌, ◌*◌, length, IfOk, IfSome};
-ghost use Rattle.serde_json.specs.Data.{depth};
-ghost use Rattle.serde_json.specs.View.{view};
-ghost use Rattle.schemars_types.specs.Meaning.{belongs};
+ghost use Rattle.schemars_belonging.specs.Words.{depth, view, belongs};
 
 use crate::decide::{Table, row};
 use schemars_types::{Contract, TypeNo, Types};

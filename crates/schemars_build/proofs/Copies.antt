@@ -1,8 +1,7 @@
 -- Names and rows that are copied one by one say the same.
 use Rattle.std.proofs.Common.{◌≡◌, List, [], ◌∷◌, length, suc, String, Global, string_bytes, refl}
-use Rattle.std.specs.List.{AllZip}
+use Rattle.schemars_build.proofs.Words.{AllZip, naming_of}
 use Rattle.schemars_build.specs.declared.names.Owner.{Owner}
-use Rattle.schemars_build.specs.Owners.{naming_of}
 
 pub as_long : {A : Type 0} (Q : A → A → Type 0) (xs ys : List A) → AllZip Q xs ys → length ys ≡ length xs
 as_long Q [] [] h = refl

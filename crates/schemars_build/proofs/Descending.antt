@@ -1,16 +1,7 @@
 -- How the recursion that makes documents goes down.
 use Rattle.std.proofs.Common.{◌≡◌, ◌<◌, ◌≤◌, ◌+◌, ◌*◌, ◌∙◌, ℕ, zero, suc, List, [], ◌∷◌, ◌++◌, length, Bool, true, false, Some, refl, ap, sym, subst, arith, Contains, inl, inr}
-use Rattle.schemars_build.proofs.Words.{if◌then◌else◌, ◌||◌, ◌&&◌, not, nat_eq, option_map_or, nat_tests, Entry, Row, entry_at, is_inline_at, IsChecked, is_pending, pending_in, is_in_place, Plan, Registry, Ask, part, members_of, content, missing, IsAskedIn, measure_of_part, measure_of_own_document, measure_of_filled, measure_of_asked}
-use Rattle.std.proofs.Math.Nat.{mul-le-mul_right}
-use Rattle.std.proofs.lemmas.List.Folds.{list_any-append}
-use Rattle.indexmap.specs.IndexSet.{insert_key}
-use Rattle.schemars_shapes.specs.Shape.{numbers_of}
-use Rattle.schemars_types.specs.Edges.{numbers_at, asked_in, asked_at, height}
-use Rattle.schemars_documents.specs.Describes.{without_options}
-use Rattle.schemars_build.specs.Missing.{failing_below, idle, depth_in_place, IsLower}
-use Rattle.schemars_build.specs.Measure.{width, places, measure_of_definition, measure_of_members, measure_of_content}
+use Rattle.schemars_build.proofs.Words.{if◌then◌else◌, ◌||◌, ◌&&◌, not, nat_eq, option_map_or, nat_tests, Entry, Row, entry_at, is_inline_at, IsChecked, is_pending, pending_in, is_in_place, Plan, Registry, Ask, part, members_of, content, missing, IsAskedIn, measure_of_part, measure_of_own_document, measure_of_filled, measure_of_asked, mul-le-mul_right, list_any-append, insert_key, numbers_of, numbers_at, asked_in, asked_at, height, without_options, failing_below, idle, depth_in_place, IsLower, width, places, measure_of_definition, measure_of_members, measure_of_content, closer}
 use Rattle.schemars_build.proofs.Counting.{failing-fewer, failing-less}
-use Rattle.schemars_meaning.proofs.Following.{closer}
 
 -- ---- what is asked in a document
 

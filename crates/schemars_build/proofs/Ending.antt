@@ -1,9 +1,7 @@
 -- How the list of documents that wait comes to an end.
 use Rattle.std.proofs.Common.{◌≡◌, ◌<◌, ◌≤◌, ◌+◌, ◌*◌, ◌∙◌, ◌^◌, ℕ, zero, suc, List, [], ◌∷◌, length, map, Bool, true, false, Some, None, refl, ap, sym, subst, arith, string_bytes, get_or, All}
-use Rattle.schemars_build.proofs.Words.{if◌then◌else◌, nat_eq, nat_tests, option_map_or, length-append, Data, get_member, Text, IsChecked, name_of, pending_in, Plan, Registry, Step, basis_of_plan, without_last, Ask, asks_of, ask_of, entry_template, IsAskedIn, measure_of_own_document, measure_of_part, measure_of_filled, measure_of_asked, document_rank, IsWithin, Wanted, IsBegun, IsTemplate, IsOpened, IsInMaking, HasAnswered, IsRepliedBy, HasReplied, answer, document, get_member-replaced_other, get_member-replaced, mul-le-mul_right, mul-le-mul_left, pow-le-pow_right, pow-succ', one-le-pow, length-map, get_or-map, width, places, asks_at, sum_below, weight, unanswered_in, pending_around, left_waiting, left_going, measure_of_reply, IsLess, Reply}
-use Rattle.schemars_documents.specs.declared.template.Ask as src-ask
-use Rattle.schemars_build.specs.Missing.{missing}
-use Rattle.schemars_build.specs.Measure.{breadth}
+use Rattle.schemars_build.proofs.Words.{if◌then◌else◌, nat_eq, nat_tests, option_map_or, length-append, Data, get_member, Text, IsChecked, name_of, pending_in, Plan, Registry, Step, basis_of_plan, without_last, Ask, asks_of, ask_of, entry_template, IsAskedIn, measure_of_own_document, measure_of_part, measure_of_filled, measure_of_asked, document_rank, IsWithin, Wanted, IsBegun, IsTemplate, IsOpened, IsInMaking, HasAnswered, IsRepliedBy, HasReplied, answer, document, get_member-replaced_other, get_member-replaced, mul-le-mul_right, mul-le-mul_left, pow-le-pow_right, pow-succ', one-le-pow, length-map, get_or-map, width, places, asks_at, sum_below, weight, unanswered_in, pending_around, left_waiting, left_going, measure_of_reply, IsLess, Reply, missing, breadth}
+use Rattle.schemars_templates.specs.declared.template.Ask as src-ask
 use Rattle.schemars_build.specs.declared.build.Document.{Document}
 use Rattle.schemars_build.specs.declared.build.Purpose.{Purpose}
 use Rattle.schemars_build.specs.declared.build.Purpose.TheVariants as purpose

@@ -1,11 +1,8 @@
 -- Names that are given stay, and are found.
 use Rattle.std.proofs.Common.{◌≡◌, ℕ, List, [], ◌∷◌, ◌++◌, Bool, true, false, Some, None, refl, sym, ap, ◌∙◌, arith, subst, find, option_map, append-nil, append_assoc}
-use Rattle.schemars_build.proofs.Words.{◌&&◌, nat_tests, Text, Row, NamedRow, Naming, is_of, name_of, GivesNames}
-use Rattle.std.specs.Prelude.{◌==◌, cond}
+use Rattle.schemars_build.proofs.Words.{◌&&◌, nat_tests, Text, Row, NamedRow, Naming, is_of, name_of, GivesNames, ◌==◌, cond, is_same_contract, IsGiven, AreGiven}
 use Rattle.schemars_types.specs.declared.contract.Contract.{Contract}
 use Rattle.schemars_types.specs.declared.contract.Contract.TheVariants.{Deserialize, Serialize}
-use Rattle.schemars_types.specs.SameContract.{is_same_contract}
-use Rattle.schemars_build.specs.Registry.{IsGiven, AreGiven}
 use Rattle.schemars_build.proofs.NamingLemmas.{same_contract-equal}
 
 pub name_of-joined : (n : ℕ) (c : Contract) (old more : Naming) (name : Text) → name_of n c old ≡ Some name
@@ -68,10 +65,6 @@ given-append rows old (x ∷ first) second h g =
 
 pub gives-none : (rows : List Row) (names : Naming) → GivesNames rows names names
 gives-none rows names = record { more = []; joined = sym (append-nil names); given = tt }
-
-pub gives-one : (rows : List Row) (names : Naming) (x : NamedRow) (new : Naming) → IsGiven rows names x → new ≡ names ++ x ∷ []
-    → GivesNames rows names new
-gives-one rows names x new h e = record { more = x ∷ []; joined = e; given = (h, tt) }
 
 pub gives-trans : (rows : List Row) (a b c : Naming) → GivesNames rows a b → GivesNames rows b c → GivesNames rows a c
 gives-trans rows a b c h g =

@@ -2,7 +2,7 @@
 use Rattle.std.proofs.Common.{◌≡◌, ◌≢◌, inl, inr, ◌<◌, ◌≤◌, ◌+◌, ℕ, List, [], ◌∷◌, ◌++◌, length, map, take, Bool, true, false, not, Option, Some, None, refl, ap, sym, ◌∙◌, subst, arith, string_bytes, All, get_or, reverse, slice_index_or, ◌-◌}
 use Rattle.schemars_build.proofs.Words.{◌&&◌, ◌||◌, if◌then◌else◌, length-append, IsAskedIn, row_asked, entry_at, Data, boolean, get_member, get_member-put, Text, references, is_inline_at, IsChecked, reference, Ask, part, members_of, content, asks_of, filled, ask_of, are_optional, entry_template, name_of, is_pending, pending_in, is_in_place, Plan, Registry, Step, GivesNames, rolled_back, reference_to, basis_of_plan, without_last, AreReached, IsPart, IsFilledIn, IsAnswer, AreAnswers, Wanted, own, IsBegun, IsTemplate, IsOpened, ComesFrom, IsInMaking, HasAnswered, answer, document, IsRepliedBy, HasReplied, IsTaken, document_rank, measure_of_turn, IsWithin, String, IsUtf8, none-some, take_all, length-map, get_or-map, string, opened_inside, must_be_in_place, flattened_part, template_view, without_options, IsOwn, IsMade, defined, flattened, asked, wanted_for, IsReply, IsTemplateAt, IsNext, AreWaiting, Reply, IsGivenBack, GoesOn, AreMaking, HasFirst, left_waiting, measure_of_reply, measure_of_making, IsLess}
 use Rattle.std.specs.declared.alloc.Global.{Global}
-use Rattle.schemars_documents.specs.declared.template.Ask as src-ask
+use Rattle.schemars_templates.specs.declared.template.Ask as src-ask
 use Rattle.schemars_build.proofs.Asked.{asks_in_order}
 use Rattle.schemars_types.specs.declared.contract.Contract.{Contract}
 use Rattle.schemars_build.proofs.Given.{gives-keeps}

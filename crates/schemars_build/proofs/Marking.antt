@@ -1,8 +1,6 @@
 -- Whether a row is pending, by its mark.
 use Rattle.std.proofs.Common.{◌≡◌, ◌++◌, ◌∷◌, [], ◌∙◌, ℕ, List, Bool, true, false, Some, None, inl, inr, refl, sym, ap, subst, arith, length, slice_get, true≢false}
-use Rattle.schemars_build.proofs.Words.{◌⊎◌, nat_eq, nat_tests, is_pending}
-use Rattle.std.proofs.lemmas.Option.{same_Some}
-use Rattle.schemars_build.specs.Marks.{AreMarked}
+use Rattle.schemars_build.proofs.Words.{◌⊎◌, nat_eq, nat_tests, is_pending, same_Some, AreMarked}
 use Rattle.schemars_build.proofs.Elements.{last_or_before, never_among, place_of_any}
 
 equal_numbers : (m n : ℕ) → nat_eq m n ≡ true → m ≡ n

@@ -1,9 +1,7 @@
 -- Members of many keys, taken out again.
 use Rattle.std.proofs.Common.{◌≡◌, ◌⊎◌, inl, inr, zero, suc, List, [], ◌∷◌, ◌++◌, Bool, true, false, None, refl, ap, ◌∙◌, arith, Contains}
 use Rattle.std.specs.Prelude.{bytes_eq}
-use Rattle.schemars_build.proofs.Words.{bytes_eq-Decides, Data, Members, put, get_member, Text, replaced, without_all}
-use Rattle.schemars_schema.specs.Edits.{without}
-use Rattle.schemars_definitions.proofs.Members.{without-put, without-replaced, without-replaced_other}
+use Rattle.schemars_build.proofs.Words.{bytes_eq-Decides, Data, Members, put, get_member, Text, replaced, without_all, without, without-put, without-replaced, without-replaced_other}
 
 pub without_all-joined : (ks : List Text) (k : Text) (ms : Members) → without_all (ks ++ k ∷ []) ms ≡ without_all ks (without k ms)
 without_all-joined [] k ms = refl

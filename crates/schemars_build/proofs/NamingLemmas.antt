@@ -1,8 +1,7 @@
 -- The names against the sets that hold them, and candidates: which differ, and that one of them is not used.
 use Rattle.std.proofs.Common.{◌≡◌, ◌<◌, ◌≤◌, ◌+◌, ◌^◌, ◌==◌, ◌&&◌, ◌||◌, ◌∙◌, ℕ, zero, suc, List, [], ◌∷◌, ◌++◌, Bool, true, false, cond, Some, None, String, string_bytes, option_map, find, length, take, map, refl, sym, ap, subst, arith, true≢false, length-append}
 use Rattle.std.specs.declared.alloc.Global.{Global}
-use Rattle.schemars_build.proofs.Words.{decimal, list_any, string_eq, bytes_eq-Decides, Text, NamedRow, Naming, is_of, name_of, is_used, candidate, naming_of, AllByRecursion, bytes_eq, false_from_ne_true, and_parts, same_from_decides, Decides-like, Decides-eqb, nat_list_eq_equiv, decimal_injective, decimal_nonempty, append_cancel_left, IsDistinct-push, IsDistinct-head, IsDistinct-tail, length-le_from_is_member, bytes_eq_comm, is_same_contract, IsOneToOne, named_row}
-use Rattle.std.specs.List.{IsDistinct}
+use Rattle.schemars_build.proofs.Words.{decimal, list_any, string_eq, bytes_eq-Decides, Text, NamedRow, Naming, is_of, name_of, is_used, candidate, naming_of, AllByRecursion, bytes_eq, false_from_ne_true, and_parts, same_from_decides, Decides-like, Decides-eqb, nat_list_eq_equiv, decimal_injective, decimal_nonempty, append_cancel_left, IsDistinct-push, IsDistinct-head, IsDistinct-tail, length-le_from_is_member, bytes_eq_comm, is_same_contract, IsOneToOne, named_row, IsDistinct}
 use Rattle.schemars_types.specs.declared.contract.Contract.{Contract}
 use Rattle.schemars_types.specs.declared.contract.Contract.TheVariants.{Deserialize, Serialize}
 use Rattle.schemars_build.specs.declared.names.Owner.{Owner}

@@ -1,12 +1,9 @@
 -- The name of a row, where a table says for each row and contract which name may be its own.
 use Rattle.std.proofs.Common.{◌≡◌, ◌++◌, ◌∷◌, [], ◌∙◌, ◌&&◌, ◌==◌, ℕ, zero, suc, List, Bool, true, false, Some, None, Option, refl, sym, ap, subst, arith, String, Global, string_bytes, length, take, slice_get, option_map, true≢false, inl, inr}
-use Rattle.schemars_build.proofs.Words.{list_any, ◌⊎◌, nat_tests, eqb-true, is_of, name_of, naming_of}
-use Rattle.std.proofs.lemmas.Bool.{and_parts}
-use Rattle.std.proofs.lemmas.Option.{same_Some}
+use Rattle.schemars_build.proofs.Words.{list_any, ◌⊎◌, nat_tests, eqb-true, is_of, name_of, naming_of, and_parts, same_Some, named_row, ArePlaced}
 use Rattle.schemars_types.specs.declared.contract.Contract.{Contract}
 use Rattle.schemars_types.specs.declared.contract.Contract.TheVariants.{Deserialize, Serialize}
 use Rattle.schemars_build.specs.declared.names.Owner.{Owner}
-use Rattle.schemars_build.specs.Owners.{named_row, ArePlaced}
 use Rattle.schemars_build.proofs.Elements.{at_in_take, last_or_before, never_among}
 use Rattle.schemars_build.proofs.NamingLemmas.{is_owner, same_test}
 

@@ -1,16 +1,6 @@
 -- How many candidates of a base are known to be used.
 use Rattle.std.proofs.Common.{◌≡◌, ◌<◌, ◌++◌, ◌∷◌, [], ◌∙◌, ◌||◌, ℕ, List, Bool, true, false, cond, Some, inl, inr, refl, sym, ap, arith, String, Global, string_bytes}
-use Rattle.schemars_build.proofs.Words.{◌⊎◌, nat_eq, nat_tests, get_by_text, string_eq, bytes_eq-Decides, Text, NamedRow, Naming, is_used, candidate, AreUsed}
-use Rattle.std.specs.Prelude.{◌+◌}
-use Rattle.std.proofs.Math.Bool.{or-true}
-use Rattle.std.specs.List.{AllZip}
-use Rattle.std.specs.HashMap.{HashMap, UpdatesBy, IsUnchanged}
-use Rattle.std.specs.Map.{lookup}
-use Rattle.std.specs.Str.{bytes_eq}
-use Rattle.std.proofs.lemmas.List.Folds.{list_any-append}
-use Rattle.std.proofs.lemmas.Map.Text.{hash_map_updates_text}
-use Rattle.schemars_build.specs.Owners.{IsFirst, IsNoted}
-use Rattle.schemars_definitions.proofs.Members.{own_bytes}
+use Rattle.schemars_build.proofs.Words.{◌⊎◌, nat_eq, nat_tests, get_by_text, string_eq, bytes_eq-Decides, Text, NamedRow, Naming, is_used, candidate, AreUsed, ◌+◌, or-true, AllZip, HashMap, UpdatesBy, IsUnchanged, lookup, bytes_eq, list_any-append, hash_map_updates_text, IsFirst, IsNoted, own_bytes}
 
 -- ---- more names
 

@@ -6,8 +6,8 @@ use Rattle.schemars_schema.specs.Json.{Text}
 use Rattle.schemars_shapes.specs.Shape.{Entry}
 use Rattle.schemars_types.specs.Rows.{entry_at}
 use Rattle.schemars_flatten.specs.Parts.{flattened_part}
-use Rattle.schemars_documents.specs.Template.{Ask, content, asks_of}
-use Rattle.schemars_documents.specs.declared.template.SchemaTemplate.{SchemaTemplate}
+use Rattle.schemars_templates.specs.Template.{Ask, content, asks_of}
+use Rattle.schemars_templates.specs.declared.template.SchemaTemplate.{SchemaTemplate}
 use Rattle.schemars_documents.specs.OfShape.{entry_template}
 use Rattle.schemars_build.specs.Naming.{name_of}
 use Rattle.schemars_build.specs.Placed.{is_pending, pending_in}
@@ -21,8 +21,8 @@ use Rattle.schemars_build.specs.declared.build.Request.TheVariants as request
 pub use Rattle.schemars_schema.specs.Edits.{replaced}
 pub use Rattle.schemars_types.specs.Edges.{is_inline_at}
 pub use Rattle.schemars_types.specs.Faults.{IsChecked}
-pub use Rattle.schemars_documents.specs.Documents.{reference}
-pub use Rattle.schemars_documents.specs.View.{ask_of, template_view}
+pub use Rattle.schemars_templates.specs.Finished.{reference}
+pub use Rattle.schemars_templates.specs.View.{ask_of, template_view}
 pub use Rattle.schemars_build.specs.Placed.{is_in_place}
 pub use Rattle.schemars_build.specs.Registry.{Step, rolled_back, reference_to}
 pub use Rattle.schemars_build.specs.Plans.{plan_of}

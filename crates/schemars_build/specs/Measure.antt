@@ -6,7 +6,7 @@ use Rattle.schemars_types.specs.Rows.{Row, entry_at}
 use Rattle.schemars_types.specs.Edges.{height}
 use Rattle.schemars_build.specs.Placed.{pending_in}
 use Rattle.schemars_build.specs.Registry.{Plan, Registry, basis_of_plan, without_last}
-use Rattle.schemars_documents.specs.Template.{Ask, part, members_of, content, asks_of}
+use Rattle.schemars_templates.specs.Template.{Ask, part, members_of, content, asks_of}
 use Rattle.schemars_documents.specs.OfShape.{entry_template}
 use Rattle.schemars_documents.specs.Describes.{without_options}
 use Rattle.schemars_build.specs.Missing.{missing, idle, depth_in_place}

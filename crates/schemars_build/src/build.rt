@@ -1,11 +1,8 @@
 //! The documents of rows, with parts in place or by reference.
-ghost use Rattle.std.specs.Prelude.{Bool, codes, reverse, ◌≡◌, ◌<◌, ◌≤◌, length, IfOk, OnOk, OnErr};
+ghost use Rattle.std.specs.Prelude.{Bool, true, false, codes, reverse, ◌≡◌, ◌<◌, ◌≤◌, length, IfOk, OnOk, OnErr};
 ghost use Rattle.schemars_build.specs.Registry as specs;
-ghost use Rattle.schemars_documents.specs.Template as spec;
-ghost use Rattle.schemars_documents.specs.Template.{filled};
-ghost use Rattle.schemars_build.specs.Making.{IsChecked, reference, is_in_place, Step, rolled_back, reference_to, plan_of, is_inline_at, ask_of, template_view, replaced, row_asked, IsAnswer, IsOwn, Wanted, own, asked, wanted, row_wanted, IsReply, IsTemplate, IsTemplateAt, IsOpened, IsInMaking, document, IsGivenBack, HasReplied, GoesOn, IsTaken, HasFirst, AreMaking};
-ghost use Rattle.schemars_build.specs.Measure.{measure_of_asked, measure_of_own_document, measure_of_part, measure_of_making, measure_of_turn, IsWithin, IsLess};
-ghost use Rattle.schemars_render.specs.Rendered.{IsRendered};
+ghost use Rattle.schemars_templates.specs.Template as spec;
+ghost use Rattle.schemars_build.specs.Words.{Data, filled, IsChecked, reference, is_in_place, Step, rolled_back, reference_to, plan_of, is_inline_at, ask_of, template_view, replaced, row_asked, IsAnswer, IsOwn, Wanted, own, asked, wanted, row_wanted, IsReply, IsTemplate, IsTemplateAt, IsOpened, IsInMaking, document, IsGivenBack, HasReplied, GoesOn, IsTaken, HasFirst, AreMaking, measure_of_asked, measure_of_own_document, measure_of_part, measure_of_making, measure_of_turn, IsWithin, IsLess, IsRendered};
 ghost use Rattle.schemars_build.specs.declared.build.Document as src;
 
 use crate::registry::Registry;
@@ -448,46 +445,73 @@ fn define<D: Definitions>(
     }) }
     ensures err { OnErr result (registry.new ≡ registry.old) }
 {
-    let rendered = if registry.wants_texts() {
-        render(alloc, &template, &answers, !registry.changes_nothing())?
+    let is_kept = if registry.wants_texts() {
+        define_text(alloc, registry, name, &template, &answers)?
     } else {
-        None
+        false
     };
-    match rendered {
-        Some(rendered) => finish_rendered(alloc, registry, name, rendered, template, answers),
-        None => {
-            let schema = fill(alloc, template, answers)?;
-            registry.finish(alloc, name, schema)
-        }
+    if is_kept {
+        return Ok(());
+    }
+    let schema = fill(alloc, template, answers)?;
+    registry.finish(alloc, name, schema)
+}
+
+// Puts the text of what is made of the template into the place of the definition that was begun, and
+// the text of what transforms make of that, where these can be written with no schema made. The
+// answer is whether they were.
+fn define_text<D: Definitions>(
+    alloc: Global,
+    registry: &mut Registry<D>,
+    name: &str,
+    template: &SchemaTemplate<'_>,
+    answers: &[Answer<'_>],
+) -> Result<bool, AllocError>
+    ensures kept { IfOk result (λ b. b ≡ true → registry.new ≡ record registry.old {
+      definitions = replaced name.now (filled (template_view template.now) answers.now)
+          registry.old.definitions;
+    }) }
+    ensures left { IfOk result (λ b. b ≡ false → registry.new ≡ registry.old) }
+    ensures err { OnErr result (registry.new ≡ registry.old) }
+{
+    match render(alloc, template, answers, !registry.changes_nothing())? {
+        Some(rendered) => finish_rendered(alloc, registry, name, rendered),
+        None => Ok(false),
     }
 }
 
-// Puts what is made of the template into the place of the definition that was begun, where its text
-// is known. The schema itself is made only where the text is not all that is kept.
+// The same with what is rendered.
 fn finish_rendered<D: Definitions>(
     alloc: Global,
     registry: &mut Registry<D>,
     name: &str,
-    rendered: Rendered,
-    template: SchemaTemplate<'_>,
-    answers: Vec<Answer<'_>>,
-) -> Result<(), AllocError>
-    requires { IsRendered (filled (template_view template) answers.items) rendered }
-    ensures ok { OnOk result (registry.new ≡ record registry.old {
-      definitions = replaced name.now
-          (filled (template_view template.entry) answers.entry.items)
-          registry.old.definitions;
-    }) }
+    rendered: Rendered<'_>,
+) -> Result<bool, AllocError>
+    requires { IsRendered rendered.schema rendered }
+    ensures kept { (d : Data) → IsRendered d rendered.entry → IfOk result (λ b. b ≡ true
+        → registry.new ≡ record registry.old
+        { definitions = replaced name.now d registry.old.definitions }) }
+    ensures left { IfOk result (λ b. b ≡ false → registry.new ≡ registry.old) }
     ensures err { OnErr result (registry.new ≡ registry.old) }
 {
-    let Rendered { text, needs } = rendered;
+    let Rendered {
+        text,
+        needs,
+        schema,
+    } = rendered;
     let Err(text) = registry.finish_text(name, text, needs) else {
-        return Ok(());
+        return Ok(true);
     };
-    let schema = fill(alloc, template, answers)?;
-    match needs {
-        Some(needs) => registry.finish_changed(alloc, name, text, schema, needs),
-        None => registry.finish(alloc, name, schema),
+    let Some(needs) = needs else {
+        return Ok(false);
+    };
+    let transforms = registry.transforms(alloc)?;
+    match schema.changed_text(alloc, &transforms, needs)? {
+        Some(changed) => Ok(registry.finish_changed(name, text, changed)),
+        None => {
+            registry.note_unkept();
+            Ok(false)
+        }
     }
 }
 

@@ -1,7 +1,6 @@
 //! Which rows have names.
 ghost use Rattle.std.specs.Prelude.{ℕ, ◌≡◌, ◌+◌, ◌<◌, ◌^◌, ◌++◌, ◌∷◌, [], false, length, IfOk, OnOk, OnErr, Some, None, option_map, string_bytes, take};
-ghost use Rattle.schemars_build.specs.Naming.{name_of, is_used, candidate, IsOneToOne, IsFirstUnused};
-ghost use Rattle.schemars_build.specs.Owners.{AreUsed, IsFirst, IsNoted, place_of_owner};
+ghost use Rattle.schemars_build.specs.Words.{name_of, is_used, candidate, IsOneToOne, IsFirstUnused, AreUsed, IsFirst, IsNoted, place_of_owner};
 ghost use Rattle.schemars_types.specs.declared.contract.Contract.{Contract};
 
 use indexmap::IndexSet;

@@ -1,8 +1,6 @@
 //! The rows whose documents are being made.
 ghost use Rattle.std.specs.Prelude.{ℕ, ◌≡◌, ◌<◌, [], not, length, Some, IfOk, OnOk, OnErr, nat_eq, slice_get};
-ghost use Rattle.indexmap.specs.IndexSet.{insert_key};
-ghost use Rattle.schemars_build.specs.Placed.{is_pending};
-ghost use Rattle.schemars_build.specs.Registry.{without_last};
+ghost use Rattle.schemars_build.specs.Words.{insert_key, is_pending, without_last};
 
 use schemars_types::TypeNo;
 use std::alloc::{AllocError, Global};

@@ -1,23 +1,16 @@
 //! What documents are made into.
 ghost use Rattle.std.specs.Prelude.{ℕ, List, true, false, map, ◌≡◌, ◌∷◌, ◌++◌, ◌||◌, [], None, Some, length, IfOk, IfErr, IfSome, OnOk, OnErr, is_some, string_bytes, not, ◌&&◌, if◌then◌else◌};
-ghost use Rattle.serde_json.specs.Data.{Data, boolean, put, no_members};
-ghost use Rattle.serde_json.specs.Find.{get_member, as_object};
-ghost use Rattle.serde_json.specs.View.{members_view};
+ghost use Rattle.schemars_build.specs.Words.{Data, boolean, put, no_members, get_member, as_object, members_view, made_by, needs_of, ordered_text, IsWholeTextOf, is_pending, pending_in, GivesNames, without_all, without_last, Lends, sem, map_row};
 ghost use Rattle.schemars_schema.specs.Edits.{replaced};
-ghost use Rattle.schemars_transform.specs.Needs.{needs_of};
-ghost use Rattle.schemars_definitions.specs.Texts.{IsWholeTextOf};
 ghost use Rattle.schemars_types.specs.declared.contract.Contract.{Contract};
-ghost use Rattle.schemars_build.specs.Placed.{is_pending, pending_in};
-ghost use Rattle.schemars_build.specs.Registry.{name_of, IsOneToOne, GivesNames, rolled_back, without_all, without_last};
-ghost use Rattle.std.specs.Borrow.{Lends, sem};
-ghost use Rattle.serde_json.specs.Rows.{map_row};
+ghost use Rattle.schemars_build.specs.Registry.{name_of, IsOneToOne, rolled_back};
 
 use crate::names::Names;
 use crate::pending::Pending;
 use crate::text_count::{NO_TEXTS, TextCount};
 use schemars_definitions::{Definitions, Objects};
 use schemars_schema::Schema;
-use schemars_transform::Needs;
+use schemars_transform::{GenTransform, Needs, NoTransform};
 use schemars_types::{Contract, TypeNo, Types};
 use serde_json::{Map, Value};
 use std::alloc::{AllocError, Global};
@@ -249,28 +242,40 @@ impl<D: Definitions> Registry<D> {
         ensures text { IfErr result (λ unkept. unkept ≡ text) }
     {
         let finished = self.definitions.finish_text(name, text, needs);
-        self.texts.add(finished.is_ok());
+        if finished.is_ok() {
+            self.texts.add(true);
+        }
         finished
     }
 
-    /// Puts a definition that was begun in its place, where its ordered text and its needs are
-    /// known.
-    pub fn finish_changed(
-        &mut self,
-        alloc: Global,
-        name: &str,
-        text: String,
-        schema: Schema,
-        needs: Needs,
-    ) -> Result<(), AllocError>
-        requires text { IsWholeTextOf (string_bytes text) schema }
-        requires needs { needs ≡ needs_of schema }
-        ensures ok { OnOk result (self.new
-            ≡ record self.old { definitions = replaced name.now schema self.old.definitions }) }
-        ensures err { OnErr result (self.new ≡ self.old) }
+    /// The built-in transforms by which definitions are changed before they are written.
+    pub fn transforms(&self, alloc: Global) -> Result<Vec<GenTransform<NoTransform>>, AllocError>
+        ensures { IfOk result (λ ts. (d : Data) → D.changed d ≡ made_by ts.items d) }
     {
-        self.definitions
-            .finish_changed(alloc, name, text, schema, needs)
+        self.definitions.transforms(alloc)
+    }
+
+    /// Puts a definition that was begun in its place, where its ordered text and that of what is
+    /// made of it are known. The answer is whether definitions are kept as text; if not, nothing is
+    /// done.
+    pub fn finish_changed(&mut self, name: &str, before: String, after: String) -> bool
+        requires { (d : Data) × IsWholeTextOf (string_bytes before) d
+            × (string_bytes after ≡ ordered_text (D.changed d)) }
+        ensures done { result ≡ true → (d : Data) → IsWholeTextOf (string_bytes before) d
+            → self.new ≡ record self.old
+            { definitions = replaced name.now d self.old.definitions } }
+        ensures same { result ≡ false → self.new ≡ self.old }
+    {
+        let is_kept = self.definitions.finish_changed(name, before, after);
+        self.texts.add(is_kept);
+        is_kept
+    }
+
+    /// Notes that a definition was rendered, and that its text is not kept.
+    pub fn note_unkept(&mut self)
+        ensures { self.new ≡ self.old }
+    {
+        self.texts.add(false);
     }
 
     /// Notes that the root was referred to, where a definition does so.

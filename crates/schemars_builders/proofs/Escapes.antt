@@ -1,15 +1,6 @@
 -- Escaped texts, and what they are without their backslashes.
 use Rattle.std.proofs.Common.{◌≡◌, ℕ, zero, suc, ◌<◌, ◌≤◌, List, [], ◌∷◌, ◌++◌, Bool, true, false, refl, sym, ap, ◌∙◌, arith, true≢false, append_assoc, append-nil, get_or, length, ⊎_elim}
-use Rattle.std.specs.Prelude.{◌==◌, nat_lt, if◌then◌else◌, codes, Result, Ok, Err, OnOk, is_ok}
-use Rattle.std.specs.Char.{encode_utf8}
-use Rattle.std.specs.List.{list_any}
-use Rattle.std.proofs.lemmas.Bool.{and_parts, cases_lt}
-use Rattle.std.proofs.lemmas.Bool.Decides.{nat_tests}
-use Rattle.std.proofs.lemmas.Str.{inside_one, encode_ascii}
-use borrow.Author.Tests.{ltb-true}
-use Rattle.schemars_schema.specs.Json.{Text}
-use Rattle.schemars_schema.proofs.Encodings.{are_ascii}
-use Rattle.schemars_builders.specs.Pattern.{is_special, escaped_byte, escaped, unescaped}
+use Rattle.schemars_builders.proofs.Words.{◌==◌, nat_lt, if◌then◌else◌, codes, Result, Ok, Err, OnOk, is_ok, encode_utf8, list_any, and_parts, cases_lt, nat_tests, inside_one, encode_ascii, ltb-true, Text, are_ascii, is_special, escaped_byte, escaped, unescaped}
 
 pub escaped-append : (xs ys : Text) → escaped (xs ++ ys) ≡ escaped xs ++ escaped ys
 unfolding escaped

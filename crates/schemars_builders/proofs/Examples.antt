@@ -1,13 +1,6 @@
 -- What the builders make of texts and schemas, computed.
 use Rattle.std.proofs.Common.{◌≡◌, [], ◌∷◌, true, false, refl}
-use Rattle.std.specs.Prelude.{codes}
-use Prim.Native.String.{String}
-use Rattle.serde_json.specs.Data.{Data, boolean, number, unsigned, array, no_items, item}
-use Rattle.schemars_schema.specs.SchemaData.{object_of}
-use Rattle.schemars_schema.proofs.JsonLiterals.{text, one}
-use Rattle.schemars_builders.specs.Documentation.{title_in, description_in}
-use Rattle.schemars_builders.specs.Keywords.{with_metadata, with_validation}
-use Rattle.schemars_builders.specs.Pattern.{escaped, unescaped}
+use Rattle.schemars_builders.proofs.Words.{codes, String, Data, boolean, number, unsigned, array, no_items, item, object_of, text, one, title_in, description_in, with_metadata, with_validation, escaped, unescaped}
 
 -- ---- texts in regular expressions
 

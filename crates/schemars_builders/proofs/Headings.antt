@@ -1,15 +1,6 @@
 -- What calls that trim and cut a text give, in the words of contracts.
 use Rattle.std.proofs.Common.{◌≡◌, ℕ, suc, ◌+◌, List, [], ◌∷◌, Bool, true, false, refl, sym, ap, ◌∙◌, arith, take, drop, length, eqb-true}
-use Rattle.std.proofs.lemmas.List.{take_all, drop_all}
-use Rattle.std.proofs.lemmas.Str.{encode_ascii, len_utf8_ascii}
-use Rattle.std.proofs.lemmas.Str.Ascii.{trim_ascii_is}
-use Rattle.std.proofs.lemmas.Str.Pattern.{drop_at_char}
-use Rattle.std.specs.Prelude.{◌==◌, Option, Some, None, IfSome, slice_index}
-use Rattle.std.specs.List.{prefix_len, position_or_len, before_first, after_first}
-use Rattle.std.specs.Str.{IsTrimAscii}
-use Rattle.std.specs.Str.Pattern.{FindsCharPrefix, CutsPrefixes, IsTrimStartMatches}
-use Rattle.schemars_schema.specs.Json.{Text}
-use Rattle.schemars_builders.specs.Documentation.{trimmed_start, trimmed, is_mark, ends_line, is_headed, without_marks, title_of, description_of, title_in, description_in}
+use Rattle.schemars_builders.proofs.Words.{take_all, drop_all, encode_ascii, len_utf8_ascii, trim_ascii_is, drop_at_char, ◌==◌, Option, Some, None, IfSome, slice_index, prefix_len, position_or_len, before_first, after_first, IsTrimAscii, FindsCharPrefix, CutsPrefixes, IsTrimStartMatches, Text, trimmed_start, trimmed, is_mark, ends_line, is_headed, without_marks, title_of, description_of, title_in, description_in}
 
 pub ends_trimmed : (t r : Text) → IsTrimAscii t r → r ≡ trimmed t
 ends_trimmed t r is = trim_ascii_is t r (trimmed_start t) refl is

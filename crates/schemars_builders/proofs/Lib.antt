@@ -6,3 +6,4 @@ pub mod LiteralNulls
 mod Examples
 pub mod Escapes
 pub mod Headings
+mod Words

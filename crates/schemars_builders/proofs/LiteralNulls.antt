@@ -1,20 +1,6 @@
 -- Null can be added to a plain literal.
 use Rattle.std.proofs.Common.{◌≡◌, ℕ, inl, inr, List, [], ◌∷◌, Option, Some, None, Bool, true, false, refl, sym, ap, ◌∙◌, true≢false}
-use Rattle.std.specs.Prelude.{codes, bytes_eq, ◌||◌, ◌&&◌, if◌then◌else◌, is_some, option_and_then, option_map}
-use Rattle.std.proofs.lemmas.Slice.Eq.{bytes_eq-Decides}
-use Rattle.std.proofs.lemmas.Bool.{and_parts}
-use Rattle.serde_json.specs.Data.{Data, boolean, string, array, object, Items, no_items, item, Members, no_members, member}
-use Rattle.serde_json.specs.Find.{get_member, as_str}
-use Rattle.schemars_schema.specs.Json.{Text}
-use Rattle.schemars_text.specs.OrderedText.{is_listed}
-use Rattle.schemars_schema.specs.Verdict.{verdict}
-use Rattle.schemars_schema.specs.Acceptance.{Dialect, Patterns, accepts, context, follow, is_null, types_in, texts_in, are_type_names, type_names, when}
-use Rattle.schemars_schema.specs.Edits.{without}
-use Rattle.schemars_schema.specs.Literal.{ArePlainMembers, IsPlainLiteral, has_literal}
-use Rattle.schemars_schema.proofs.Literals.{plain_at, plain_absent, literal_judged}
-use Rattle.schemars_text.proofs.Members.{get_member-later}
-use Rattle.schemars_builders.specs.AllowNull.{allow_null}
-use Rattle.schemars_builders.specs.NullLaw.{text_items, HasTypeForm, HasPlainValues, IsDraft}
+use Rattle.schemars_builders.proofs.Words.{codes, bytes_eq, ◌||◌, ◌&&◌, if◌then◌else◌, is_some, option_and_then, option_map, bytes_eq-Decides, and_parts, Data, boolean, string, array, object, Items, no_items, item, Members, no_members, member, get_member, as_str, Text, is_listed, verdict, Dialect, Patterns, when, is_null, types_in, texts_in, are_type_names, type_names, accepts, context, follow, without, ArePlainMembers, IsPlainLiteral, has_literal, plain_at, plain_absent, literal_judged, get_member-later, allow_null, text_items, HasTypeForm, HasPlainValues, IsDraft}
 use Rattle.schemars_builders.proofs.NullMembers.{drafted, each_draft}
 use Rattle.schemars_builders.proofs.Nulls.{IsReady, ready-law}
 

@@ -1,15 +1,6 @@
 -- Keywords of one schema once null is allowed: the type, and the values.
 use Rattle.std.proofs.Common.{◌≡◌, ◌⊎◌, inl, inr, List, [], ◌∷◌, ◌++◌, Option, Some, None, Bool, true, false, refl, sym, ap, ◌∙◌, true≢false}
-use Rattle.std.specs.Prelude.{codes, bytes_eq, ◌||◌, ◌&&◌, if◌then◌else◌}
-use Rattle.serde_json.specs.Data.{Data, null, boolean, number, string, array, object, Items, no_items, item}
-use Rattle.std.proofs.Math.Bool.{or_assoc, or-false, or-true}
-use Rattle.schemars_schema.specs.Verdict.{Verdict, Yes, both, verdict}
-use Rattle.schemars_schema.specs.Json.{Text, json_eq, alike, is_among}
-use Rattle.schemars_text.specs.OrderedText.{is_listed}
-use Rattle.schemars_schema.specs.Acceptance.{type_says, const_says, enum_says, texts_in, type_names, are_type_names, is_of_type, is_of_some_type, is_null}
-use Rattle.schemars_schema.specs.Edits.{holds_text, with_item}
-use Rattle.schemars_builders.specs.AllowNull.{holds_null, type_with_null, enum_with_null}
-use Rattle.schemars_builders.specs.NullLaw.{text_items, HasTypeForm}
+use Rattle.schemars_builders.proofs.Words.{codes, bytes_eq, ◌||◌, ◌&&◌, if◌then◌else◌, Data, null, boolean, number, string, array, object, Items, no_items, item, or_assoc, or-false, or-true, Verdict, Yes, both, verdict, Text, json_eq, alike, is_among, is_listed, type_says, const_says, enum_says, texts_in, type_names, are_type_names, is_of_type, is_of_some_type, is_null, holds_text, with_item, holds_null, type_with_null, enum_with_null, text_items, HasTypeForm}
 
 -- ---- truth values
 

@@ -1,18 +1,6 @@
 -- Schemas that null can be allowed in, once and again.
 use Rattle.std.proofs.Common.{◌≡◌, ◌⊎◌, inl, inr, List, [], ◌∷◌, ◌++◌, Option, Some, None, Bool, true, false, refl, sym, ap, ◌∙◌, arith, true≢false}
-use Rattle.std.proofs.lemmas.Bool.{and_parts}
-use Rattle.std.specs.Prelude.{codes, bytes_eq, ◌||◌, if◌then◌else◌, IsTrue, length, option_and_then}
-use Rattle.serde_json.specs.Data.{Data, null, boolean, number, string, array, object, no_items, item, Members}
-use Rattle.serde_json.specs.Find.{get_member, as_str}
-use Rattle.serde_json.specs.View.{items_of, members_view}
-use Rattle.schemars_builders.specs.AllowNull.{accepts_everything, null_schema, is_combined, is_null_choice, const_admits_null, enum_admits_null, is_null_schema, holds_null_schema, const_or_null, or_null, allow_null}
-use Rattle.serde_json.proofs.Views.{Entry}
-use Rattle.schemars_schema.specs.Json.{Text}
-use Rattle.schemars_schema.specs.SchemaData.{IsSchema}
-use Rattle.schemars_schema.specs.Acceptance.{Dialect, draft2020_12, Context, Raw, is_null}
-use Rattle.schemars_schema.specs.Edits.{without, holds_text, with_item, is_text}
-use Rattle.schemars_schema.proofs.Objects.{judge-object, says-agree}
-use Rattle.schemars_builders.specs.NullLaw.{IsDraft, AcceptsNull, SomeAcceptsNull, IsChoice, HasTypeForm, HasPlainValues, IsPlain, IsNullable, AcceptsNullToo}
+use Rattle.schemars_builders.proofs.Words.{and_parts, codes, bytes_eq, ◌||◌, if◌then◌else◌, IsTrue, length, option_and_then, Data, null, boolean, number, string, array, object, no_items, item, Members, get_member, as_str, items_of, members_view, accepts_everything, null_schema, is_combined, is_null_choice, const_admits_null, enum_admits_null, is_null_schema, holds_null_schema, const_or_null, or_null, allow_null, Entry, Text, IsSchema, Dialect, draft2020_12, Context, Raw, is_null, without, holds_text, with_item, is_text, judge-object, says-agree, IsDraft, AcceptsNull, SomeAcceptsNull, IsChoice, HasTypeForm, HasPlainValues, IsPlain, IsNullable, AcceptsNullToo}
 use Rattle.schemars_builders.proofs.NullKeywords.{are_names_append, const_plus, enum_plus, type_plus, values_plus, with_item-text_items}
 use Rattle.schemars_builders.proofs.NullMembers.{agree-none, allow_null-says, alone_parts, at_type, c, const_or_null-const, each_draft, null_says, nulled, of_null, one_form, same_text, type_once, with_const, with_null, with_null-agree, with_null_type}
 

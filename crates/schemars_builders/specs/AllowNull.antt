@@ -4,7 +4,7 @@ use Rattle.serde_json.specs.Data.{Data, null, boolean, number, string, array, ob
 use Rattle.serde_json.specs.Find.{get, get_member, as_str}
 use Rattle.schemars_schema.specs.SchemaData.{object_of}
 use Rattle.schemars_schema.specs.Edits.{without, is_text, holds_text, has_one_member, with_item}
-use Rattle.schemars_schema.specs.Acceptance.{is_null}
+use Rattle.schemars_schema.specs.Assertions.{is_null}
 
 -- the schema of null alone
 abbrev pub null_schema : Data

@@ -6,3 +6,4 @@ pub mod Variants
 pub mod Documentation
 pub mod Keywords
 pub mod Pattern
+pub mod Words

@@ -7,7 +7,10 @@ use Rattle.schemars_schema.specs.Json.{Text}
 use Rattle.schemars_schema.specs.SchemaData.{object_of}
 use Rattle.schemars_text.specs.OrderedText.{is_listed}
 use Rattle.schemars_schema.specs.Edits.{without}
-use Rattle.schemars_schema.specs.Acceptance.{Dialect, draft2020_12, draft2019_09, draft07, Patterns, Judge, Context, judge, type_names, are_type_names, is_null}
+use Rattle.schemars_schema.specs.Dialects.{Dialect, draft2020_12, draft2019_09, draft07}
+use Rattle.schemars_schema.specs.Judges.{Patterns, Judge, Context}
+use Rattle.schemars_schema.specs.Assertions.{type_names, are_type_names, is_null}
+use Rattle.schemars_schema.specs.Acceptance.{judge}
 use Rattle.schemars_builders.specs.AllowNull.{is_combined, is_null_choice}
 
 abbrev pub text_items : List Text → Items

@@ -1,10 +1,6 @@
 //! Keywords that are put into a schema where they say something.
 ghost use Rattle.std.specs.Prelude.{◌≡◌, Some, OnOk, OnErr, codes};
-ghost use Rattle.serde_json.specs.Data.{string};
-ghost use Rattle.serde_json.specs.View.{view};
-ghost use Rattle.schemars_schema.specs.SchemaData.{inserted};
-ghost use Rattle.schemars_builders.specs.Keywords.{with_metadata, with_validation, names_type, includes_type, validates};
-ghost use Rattle.schemars_builders.specs.Pattern.{escaped};
+ghost use Rattle.schemars_builders.specs.Words.{string, view, inserted, with_metadata, with_validation, names_type, includes_type, validates, escaped};
 
 use crate::pattern::escape;
 use schemars_schema::Schema;

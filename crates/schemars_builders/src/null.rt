@@ -1,12 +1,6 @@
 //! Schemas that accept null too.
 ghost use Rattle.std.specs.Prelude.{◌≡◌, ◌∷◌, [], IfOk, OnOk, Some, codes, option_map, string_bytes, None};
-ghost use Rattle.serde_json.specs.Data.{Data, string, array, object, no_items, item, put};
-ghost use Rattle.serde_json.specs.Find.{get, get_member, as_object, as_str, as_bool};
-ghost use Rattle.serde_json.specs.View.{view, items_view};
-ghost use Rattle.schemars_schema.specs.SchemaData.{members_in};
-ghost use Rattle.schemars_schema.specs.Acceptance.{Dialect, is_null};
-ghost use Rattle.schemars_builders.specs.AllowNull.{allow_null, null_schema, is_null_schema, holds_null, holds_null_schema, const_admits_null, enum_admits_null, offers_null, is_null_choice, is_combined, accepts_everything, type_with_null, null_in_type, enum_with_null, null_in_enum, const_or_null, null_in_values, or_null};
-ghost use Rattle.schemars_builders.specs.NullLaw.{IsDraft, IsNullable, AcceptsNullToo};
+ghost use Rattle.schemars_builders.specs.Words.{Data, string, array, object, no_items, item, put, get, get_member, as_object, as_str, as_bool, view, items_view, members_in, Dialect, is_null, allow_null, null_schema, is_null_schema, holds_null, holds_null_schema, const_admits_null, enum_admits_null, offers_null, is_null_choice, is_combined, accepts_everything, type_with_null, null_in_type, enum_with_null, null_in_enum, const_or_null, null_in_values, or_null, IsDraft, IsNullable, AcceptsNullToo};
 
 use schemars_schema::Schema;
 use schemars_schema::edits::{has_one_member, holds_text, is_text};

@@ -1,9 +1,6 @@
 //! Properties put into the schemas of objects.
 ghost use Rattle.std.specs.Prelude.{◌≡◌, codes, OnOk};
-ghost use Rattle.serde_json.specs.Data.{array, no_items, item, put};
-ghost use Rattle.serde_json.specs.View.{view, members_view};
-ghost use Rattle.schemars_schema.specs.Edits.{with_member, with_first};
-ghost use Rattle.schemars_builders.specs.Properties.{with_property, required_first, required_last, required_unless, with_object_property, has_null_type, tagged, closed_where, internally_tagged_variant};
+ghost use Rattle.schemars_builders.specs.Words.{array, no_items, item, put, view, members_view, with_member, with_first, with_property, required_first, required_last, required_unless, with_object_property, has_null_type, tagged, closed_where, internally_tagged_variant};
 
 use crate::variants::new_unit_enum_variant;
 use schemars_schema::Schema;

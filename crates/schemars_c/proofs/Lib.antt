@@ -1,3 +1,4 @@
 -- The lemmas.
 mod Lines
 mod Numbers
+mod Vocabulary

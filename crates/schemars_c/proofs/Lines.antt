@@ -1,8 +1,7 @@
 -- A line for words, of which something weaker holds.
 use Rattle.std.proofs.Common.{ℕ, List, String, inl, inr}
 use Rattle.std.specs.declared.alloc.Global.{Global}
-use Rattle.schemars_schema.specs.Json.{Text}
-use Rattle.schemagen_run.specs.Run.{IsLineFor}
+use Rattle.schemars_c.proofs.Vocabulary.{Text, IsLineFor}
 
 pub line_weaker : (words : List (String Global)) (bytes : List ℕ) (P Q : Text → Type 0) → ((line : Text) → P line → Q line)
     → IsLineFor words bytes P → IsLineFor words bytes Q

@@ -6,11 +6,8 @@ use Rattle.schemagen_run.specs.declared.fault.Fault.{Fault}
 use Rattle.schemagen_run.specs.declared.fault.Fault.TheVariants.{Usage, Refused}
 use Rattle.schemars_generate.specs.declared.error.TheConstants.{DEFINITIONS_PATH}
 use Rattle.schemagen_run.specs.declared.fault.TheConstants.{READ}
-use Rattle.schemagen_run.specs.Fault.{IsFault, IsReadFault, IsLineFault, IsTableFault, IsOutside}
-use Rattle.schemagen_run.specs.Words.{IsDialect, AreFlagsFor, AskForTypes, AskForSample}
-use Rattle.schemagen_run.proofs.Asking.{names_2020_12, names_2019_09, names_draft_07, names_openapi3, ask_for_types, ask_for_sample}
+use Rattle.schemars_c.proofs.Vocabulary.{IsFault, IsReadFault, IsLineFault, IsTableFault, IsOutside, IsDialect, AreFlagsFor, AskForTypes, AskForSample, names_2020_12, names_2019_09, names_draft_07, names_openapi3, ask_for_types, ask_for_sample, dialect_word, flag_words, table_words, example_words, fault_number, WantsMemory}
 use Rattle.schemars_c.specs.declared.handing.TheConstants.{USAGE}
-use Rattle.schemars_c.specs.Exports.{dialect_word, flag_words, table_words, example_words, fault_number, WantsMemory}
 
 -- ---- words
 

@@ -1,8 +1,6 @@
 //! What C calls for documents.
 ghost use Rattle.std.specs.Prelude.{◌≡◌, ◌≢◌, ◌⊎◌, ◌↔◌, ◌<◌, ◌≤◌, ℕ, List, Err, IfOk, IfErr, OnOk};
-ghost use Rattle.schemagen_run.specs.Run.{IsNoJson, IsBadTable, IsFaultyTable, IsNotWhole, IsAcceptedText, IsNotedText, IsSampleText};
-ghost use Rattle.schemagen_run.specs.Fault.{IsTableFault};
-ghost use Rattle.schemars_c.specs.Exports.{table_words, example_words, IsProgramLine, IsUnplacedTable, Fills, LacksRoom, LeavesAll, IsHandedOut, WantsMemory, IsTypesRefusal, IsSampleRefusal, fault_number};
+ghost use Rattle.schemars_c.specs.Vocabulary.{IsNoJson, IsBadTable, IsFaultyTable, IsNotWhole, IsAcceptedText, IsNotedText, IsSampleText, IsTableFault, table_words, example_words, IsProgramLine, IsUnplacedTable, Fills, LacksRoom, LeavesAll, IsHandedOut, WantsMemory, IsTypesRefusal, IsSampleRefusal, fault_number};
 
 use crate::handing::{DONE, NO_ROOM, USAGE, hand_out};
 use crate::memory::answer;

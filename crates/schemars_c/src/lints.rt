@@ -3,8 +3,7 @@ ghost use Rattle.std.specs.Prelude.{◌≡◌, ◌≢◌, ◌⊎◌, ◌↔◌, 
 ghost use Rattle.schemars_types.specs.declared.contract.Contract.{Contract as Which};
 ghost use Rattle.schemagen_input.specs.Texts.{IsAcceptedText};
 ghost use Rattle.schemalint_run.specs.declared.judging.Verdict.{Verdict as Told};
-ghost use Rattle.schemalint_run.specs.Lint.{IsPlainText, IsTextPlainUnder, is_under};
-ghost use Rattle.schemars_c.specs.Exports.{IsReport, Fills, LacksRoom, LeavesAll, verdict_number};
+ghost use Rattle.schemars_c.specs.Vocabulary.{IsPlainText, IsTextPlainUnder, is_under, IsReport, Fills, LacksRoom, LeavesAll, verdict_number};
 
 use crate::handing::{DONE, NO_ROOM, hand_out};
 use schemagen_run::fault::OUT_OF_MEMORY;

@@ -1,8 +1,6 @@
 //! A run of the program over memory.
 ghost use Rattle.std.specs.Prelude.{◌≡◌, ◌≢◌, ◌↔◌, ◌⊎◌, Some, false, Err, IfOk, IfErr};
-ghost use Rattle.schemagen_run.specs.Words.{AskForTypes, AskForSample, AreCommands};
-ghost use Rattle.schemagen_run.specs.Run.{IsNoJson, IsBadTable, IsFaultyTable, IsNotWhole, IsAcceptedText, IsNotedText, IsSampleText, IsLineFor, IsUnplacedFor};
-ghost use Rattle.schemagen_run.specs.Fault.{IsTableFault, IsOutside, IsFault};
+ghost use Rattle.schemars_c.specs.Vocabulary.{AskForTypes, AskForSample, AreCommands, IsNoJson, IsBadTable, IsFaultyTable, IsNotWhole, IsAcceptedText, IsNotedText, IsSampleText, IsLineFor, IsUnplacedFor, IsTableFault, IsOutside, IsFault};
 
 use schemagen_run::fault::{BAD_TABLE, DEFINITIONS_PATH, Fault, NOT_JSON, NOT_WHOLE, READ};
 use schemagen_run::run::run;

@@ -1,25 +1,8 @@
 -- The members that definitions stand for which a map keeps by name, in any order.
 use Rattle.std.proofs.Common.{◌≡◌, List, [], ◌∷◌, Bool, true, false, cond, Option, Some, None, option_map, is_some, Ordering, Less, Equal, Greater, nat_cmp, is_eq, refl, sym, ap, subst, ◌∙◌, true≢false, inl, inr, String, Global, string_bytes, string_cmp, length, arith, suc}
-use Rattle.std.proofs.lemmas.Cmp.{nat_list_cmp_total}
-use Rattle.std.proofs.lemmas.Map.Text.{is_eq-slice_cmp, is_text}
-use Rattle.std.proofs.lemmas.Slice.Eq.{bytes_eq-Decides}
-use Rattle.std.specs.Cmp.Lexicographic.{slice_cmp}
-use Rattle.std.specs.List.{IsDistinct}
+use Rattle.schemars_definitions.proofs.Words.{nat_list_cmp_total, is_eq-slice_cmp, is_text, bytes_eq-Decides, slice_cmp, IsDistinct, keys_of, lookup, match_ordering, ordering_reverse, is_lt, bytes_eq, ◌⊎◌, string_eq, IsTrue, ◌↔◌, unary_clauses, Data, Members, no_members, member, put, get_member, get_member-put, get_member-put_other, replaced, without, Text, IsAbove, get_member-replaced, get_member-without, IsSorted, above-trans, get_member-above, same_members, sorted-put, sorted-replaced, sorted-without, differ, flipped, get_member-later, members_by, members_put, HasKeysOnce}
 use Rattle.std.specs.List.Sorted.{IsSorted as IsInOrder}
-use Rattle.std.specs.Map.{keys_of, lookup}
-use Rattle.std.specs.Ordering.{match_ordering, ordering_reverse, is_lt}
-use Rattle.std.specs.Prelude.{bytes_eq, ◌⊎◌, string_eq, IsTrue, ◌↔◌}
-use native.Mathlib.Numerals.{unary_clauses}
-use Rattle.serde_json.specs.Data.{Data, Members, no_members, member, put}
-use Rattle.serde_json.specs.Find.{get_member}
-use Rattle.serde_json.proofs.Views.{get_member-put, get_member-put_other}
-use Rattle.schemars_schema.specs.Edits.{replaced, without}
-use Rattle.schemars_schema.specs.Json.{Text, IsAbove}
-use Rattle.schemars_schema.proofs.Members.{get_member-replaced, get_member-replaced_other as replaced_other, get_member-without}
-use Rattle.schemars_schema.proofs.SortedMembers.{IsSorted, above-trans, get_member-above, same_members, sorted-put, sorted-replaced, sorted-without}
-use Rattle.schemars_text.proofs.Members.{differ, flipped, get_member-later}
-use Rattle.schemars_definitions.specs.Entries.{members_by, members_put}
-use Rattle.schemars_definitions.specs.Keys.{HasKeysOnce}
+use Rattle.schemars_schema.proofs.Members.{get_member-replaced_other as replaced_other}
 
 -- ---- members
 

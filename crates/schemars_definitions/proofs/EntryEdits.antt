@@ -1,19 +1,7 @@
 -- The members that values by name stand for, where one is looked up, added, replaced or removed.
 use Rattle.std.proofs.Common.{◌≡◌, Bool, true, false, cond, List, [], ◌∷◌, String, Global, string_bytes, string_cmp, Option, Some, None, option_map, is_some, Ordering, Less, Equal, Greater, nat_cmp, is_eq, refl, sym, ap, ◌∙◌}
-use Rattle.std.proofs.lemmas.Map.Text.{is_eq-slice_cmp}
-use Rattle.std.specs.Prelude.{bytes_eq, if◌then◌else◌, All, string_eq}
-use Rattle.std.proofs.lemmas.List.Elements.{All-nil, All-cons, All-head, All-tail}
-use Rattle.std.specs.BTreeMap.{insert_entry}
+use Rattle.schemars_definitions.proofs.Words.{is_eq-slice_cmp, bytes_eq, if◌then◌else◌, All, string_eq, All-nil, All-cons, All-head, All-tail, insert_entry, slice_cmp, lookup, remove_entry, set_value, match_ordering, Data, put, get_member, Text, replaced, without, has_name, members_by, IsOrdered, AreOrdered}
 use Rattle.indexmap.specs.IndexMap.{insert_entry as put_entry}
-use Rattle.std.specs.Cmp.Lexicographic.{slice_cmp}
-use Rattle.std.specs.Map.{lookup, remove_entry, set_value}
-use Rattle.std.specs.Ordering.{match_ordering}
-use Rattle.serde_json.specs.Data.{Data, put}
-use Rattle.serde_json.specs.Find.{get_member}
-use Rattle.schemars_schema.specs.Json.{Text}
-use Rattle.schemars_schema.specs.Edits.{replaced, without}
-use Rattle.schemars_definitions.specs.Entries.{has_name, members_by}
-use Rattle.schemars_definitions.specs.Kept.{IsOrdered, AreOrdered}
 use Rattle.schemars_definitions.specs.declared.kept.Kept.{Kept}
 
 -- nothing is replaced where nothing is found

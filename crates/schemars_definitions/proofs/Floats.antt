@@ -1,14 +1,6 @@
 -- A number that is not whole in an object with its definitions.
 use Rattle.std.proofs.Common.{◌≡◌, ◌||◌, Bool, true, false, Some, refl, sym, ap, ◌∙◌}
-use Rattle.std.specs.Prelude.{bytes_eq, if◌then◌else◌}
-use Rattle.std.proofs.lemmas.Bool.{or_parts}
-use Rattle.serde_json.specs.Data.{Data, null, boolean, number, string, array, object, Members, no_members, member}
-use Rattle.serde_json.specs.Find.{get, get_member}
-use Rattle.serde_json.specs.Written.{has_float, members_have_float}
-use Rattle.schemars_text.proofs.Members.{get_member-member}
-use Rattle.schemars_schema.specs.Json.{Text}
-use Rattle.schemars_schema.specs.Edits.{replaced}
-use Rattle.schemars_definitions.specs.Whole.{with_names}
+use Rattle.schemars_definitions.proofs.Words.{bytes_eq, if◌then◌else◌, or_parts, Data, null, boolean, number, string, array, object, Members, no_members, member, get, get_member, has_float, members_have_float, get_member-member, Text, replaced, with_names}
 
 -- what is put in the place of a value without one, and what was there, have none
 replaced_whole : (k : Text) (d e : Data) (ms : Members) → get_member k ms ≡ Some e → has_float e ≡ false

@@ -1,21 +1,7 @@
 -- The text of an object with a place for definitions: that of what is in front of it, the definitions, and two braces.
 use Rattle.std.proofs.Common.{◌≡◌, ◌<◌, ◌-◌, ℕ, List, [], ◌∷◌, ◌++◌, length, get_or, take, Bool, true, false, ◌||◌, Option, Some, None, refl, sym, ap, ◌∙◌, subst, append_assoc, append-nil, length-append, arith}
-use Rattle.std.proofs.Math.Seq.{get_or-append_seam, take-append_seam}
-use Rattle.std.proofs.lemmas.Bool.{or_parts}
-use Rattle.std.proofs.lemmas.Slice.Eq.{bytes_eq-Decides}
-use Rattle.std.specs.Prelude.{bytes_eq, codes, if◌then◌else◌}
-use Rattle.json.specs.Print.{quoted}
-use Rattle.serde_json.specs.Data.{Data, null, boolean, number, string, array, object, Members, no_members, member}
-use Rattle.serde_json.specs.Find.{get_member}
-use Rattle.serde_json.specs.Written.{comma_if}
+use Rattle.schemars_definitions.proofs.Words.{get_or-append_seam, take-append_seam, or_parts, bytes_eq-Decides, bytes_eq, codes, if◌then◌else◌, quoted, Data, null, boolean, number, string, array, object, Members, no_members, member, get_member, comma_if, SchemaLayout, NamedSchemas, Written, written_at, each_written_at, others, arranged, texts, with_commas, text_in, member_texts, ordered_text, definitions_text, is_listed, layout_under, first_keywords, last_keywords, flipped, written_member, written_at-found, written_at-missing, replaced, get_member-replaced, get_member-replaced_other, HasPlaceAt, definition_keys, with_names}
 use Rattle.schemars_text.specs.Text.{Text}
-use Rattle.schemars_text.specs.OrderedText.{SchemaLayout, NamedSchemas, Written, written_at, each_written_at, others, arranged, texts, with_commas, text_in, member_texts, ordered_text, definitions_text, is_listed, layout_under, first_keywords, last_keywords}
-use Rattle.schemars_text.proofs.Members.{flipped}
-use Rattle.schemars_text.proofs.OrderedTexts.{written_member, written_at-found, written_at-missing}
-use Rattle.schemars_schema.specs.Edits.{replaced}
-use Rattle.schemars_schema.proofs.Members.{get_member-replaced, get_member-replaced_other}
-use Rattle.schemars_definitions.specs.Joined.{HasPlaceAt, definition_keys}
-use Rattle.schemars_definitions.specs.Whole.{with_names}
 
 abbrev written : Members → List Written
 written ms = member_texts SchemaLayout ms

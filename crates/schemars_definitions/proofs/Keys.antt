@@ -1,17 +1,6 @@
 -- The keys of a map ascend.
 use Rattle.std.proofs.Common.{◌≡◌, List, [], ◌∷◌, None, Less, nat_cmp, refl, string_cmp, String, Global, string_bytes}
-use Rattle.std.specs.Cmp.Lexicographic.{slice_cmp}
-use Rattle.std.specs.List.{AllByRecursion}
-use Rattle.std.specs.List.Sorted.{IsStrictlySortedBy}
-use Rattle.std.specs.Map.{keys_of}
-use Rattle.serde_json.specs.Data.{Data}
-use Rattle.serde_json.specs.Find.{get_member}
-use Rattle.serde_json.specs.View.{view, members_view}
-use Rattle.serde_json.proofs.Views.{Entry}
-use Rattle.schemars_schema.specs.Json.{IsAbove}
-use Rattle.schemars_schema.proofs.SortedMembers.{IsSorted}
-use Rattle.schemars_definitions.specs.Entries.{members_by}
-use Rattle.schemars_definitions.specs.Keys.{HasKeysOnce}
+use Rattle.schemars_definitions.proofs.Words.{slice_cmp, AllByRecursion, IsStrictlySortedBy, keys_of, Data, get_member, view, members_view, Entry, IsAbove, IsSorted, members_by, HasKeysOnce}
 
 -- ---- so each is there once
 

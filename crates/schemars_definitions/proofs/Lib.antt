@@ -8,3 +8,4 @@ pub mod Keys
 pub mod Members
 pub mod ReadBack
 pub mod Rearranged
+mod Words

@@ -1,16 +1,7 @@
 -- Members put in, replaced and taken out again.
 use Rattle.std.proofs.Common.{◌≡◌, Bool, true, false, Some, None, Ordering, Less, Equal, Greater, nat_cmp, refl, sym, ap, ◌∙◌, true≢false}
-use Rattle.std.specs.Prelude.{bytes_eq, if◌then◌else◌}
-use Rattle.std.specs.Ordering.{match_ordering, is_eq}
-use Rattle.std.specs.Cmp.Lexicographic.{slice_cmp}
-use Rattle.std.proofs.lemmas.Map.Text.{is_eq-slice_cmp}
-use Rattle.std.proofs.lemmas.Slice.Eq.{bytes_eq-Decides}
-use Rattle.serde_json.specs.Data.{Data, Members, no_members, member, put}
-use Rattle.serde_json.specs.Find.{get_member}
-use Rattle.schemars_text.proofs.Members.{unequal}
+use Rattle.schemars_definitions.proofs.Words.{bytes_eq, if◌then◌else◌, match_ordering, is_eq, slice_cmp, is_eq-slice_cmp, bytes_eq-Decides, Data, Members, no_members, member, put, get_member, unequal, Text, without, replaced}
 use Rattle.schemars_schema.proofs.Members.{get_member-replaced_other as replaced_other}
-use Rattle.schemars_schema.specs.Json.{Text}
-use Rattle.schemars_schema.specs.Edits.{without, replaced}
 
 pub get_member-replaced_other : (q k : Text) (d : Data) (ms : Members) → (q ≡ k → ⊥) → get_member q (replaced k d ms) ≡ get_member q ms
 get_member-replaced_other q k d ms other = replaced_other q k d ms (unequal q k other)

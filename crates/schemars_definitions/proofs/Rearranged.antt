@@ -1,11 +1,7 @@
 -- A value whose objects have their members in the order in which they are written. Its compact text is the value's text in a layout.
 use Rattle.std.proofs.Common.{◌≡◌, List, [], ◌∷◌, ◌++◌, Bool, true, false, refl, sym, ap, ap₂, ◌∙◌, append_assoc}
-use Rattle.std.specs.Prelude.{bytes_eq, filter, if◌then◌else◌, not, ◌||◌}
-use Rattle.json.specs.Print.{quoted}
-use Rattle.serde_json.specs.Data.{Data, null, boolean, number, string, array, object, Items, no_items, item, Members, no_members, member}
-use Rattle.serde_json.specs.Written.{compact_text, items_text, members_text, comma_if}
+use Rattle.schemars_definitions.proofs.Words.{bytes_eq, filter, if◌then◌else◌, not, ◌||◌, quoted, Data, null, boolean, number, string, array, object, Items, no_items, item, Members, no_members, member, compact_text, items_text, members_text, comma_if, Layout, PlainJson, SchemaLayout, NamedSchemas, layout_under, layout_inside, first_keywords, last_keywords, is_listed, Written, written_at, each_written_at, arranged, texts, with_commas, text_in, item_texts, member_texts}
 use Rattle.schemars_text.specs.Text.{Text}
-use Rattle.schemars_text.specs.OrderedText.{Layout, PlainJson, SchemaLayout, NamedSchemas, layout_under, layout_inside, first_keywords, last_keywords, is_listed, Written, written_at, each_written_at, arranged, texts, with_commas, text_in, item_texts, member_texts}
 
 -- ---- members in the order in which they are written
 

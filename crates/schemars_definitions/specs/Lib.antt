@@ -5,3 +5,4 @@ pub mod Kept
 pub mod Texts
 pub mod Joined
 pub mod Whole
+pub mod Words

@@ -1,9 +1,6 @@
 //! Definitions by name, in the order in which they were begun.
 ghost use Rattle.std.specs.Prelude.{◌≡◌, true, false, not, is_some, IfOk, OnOk, OnErr};
-ghost use Rattle.serde_json.specs.Data.{Data, boolean, put};
-ghost use Rattle.serde_json.specs.Find.{get_member};
-ghost use Rattle.schemars_schema.specs.Edits.{replaced, without};
-ghost use Rattle.schemars_definitions.specs.Kept.{IsOrdered, AreOrdered, definition_in, definitions_in, definitions_by_name};
+ghost use Rattle.schemars_definitions.specs.Words.{Data, boolean, put, get_member, replaced, without, IsOrdered, AreOrdered, definition_in, definitions_in, definitions_by_name};
 
 use crate::kept::Kept;
 use indexmap::IndexMap;

@@ -1,10 +1,11 @@
 //! What is made of each definition before it is written.
-ghost use Rattle.std.specs.Prelude.{◌≡◌, true, OnOk};
+ghost use Rattle.std.specs.Prelude.{◌≡◌, true, IfOk, OnOk};
 ghost use Rattle.serde_json.specs.Data.{Data};
+ghost use Rattle.schemars_transform.specs.BuiltIn.{made_by};
 ghost use Rattle.schemars_transform.specs.Needs.{needs_of};
 
 use schemars_schema::Schema;
-use schemars_transform::Needs;
+use schemars_transform::{GenTransform, Needs, NoTransform};
 use std::alloc::{AllocError, Global};
 
 /// What is made of each definition before it is written, as a dialect's built-in transforms do.
@@ -21,6 +22,14 @@ pub trait Change {
     /// Returns whether every schema with these needs stays as it is. `false` says nothing.
     fn leaves(&self, needs: Needs) -> bool
         ensures { result ≡ true → (d : Data) → needs_of d ≡ needs → made d ≡ d };
+
+    /// Returns the built-in transforms that make it, in order.
+    ///
+    /// # Errors
+    ///
+    /// `AllocError` if memory runs out.
+    fn transforms(&self, alloc: Global) -> Result<Vec<GenTransform<NoTransform>>, AllocError>
+        ensures { IfOk result (λ ts. (d : Data) → made d ≡ made_by ts.items d) };
 
     /// Makes of a schema with these needs what is made of it. After an error it is still a schema,
     /// with unspecified content.
@@ -46,6 +55,10 @@ impl Change for Unchanged {
 
     fn leaves(&self, _needs: Needs) -> bool {
         true
+    }
+
+    fn transforms(&self, alloc: Global) -> Result<Vec<GenTransform<NoTransform>>, AllocError> {
+        Ok(Vec::new(alloc))
     }
 
     fn change(

@@ -1,8 +1,6 @@
 //! Values by name.
 ghost use Rattle.std.specs.Prelude.{◌≡◌, true, false, not, is_some, string_bytes, string_cmp, IfOk, OnErr};
-ghost use Rattle.std.specs.BTreeMap.{get_by_text, insert_entry};
-ghost use Rattle.std.specs.Map.{set_value};
-ghost use Rattle.schemars_definitions.specs.Entries.{has_name};
+ghost use Rattle.schemars_definitions.specs.Words.{get_by_text, insert_entry, set_value, has_name};
 
 use std::alloc::AllocError;
 use std::collections::BTreeMap;

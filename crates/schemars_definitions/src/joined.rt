@@ -1,11 +1,6 @@
 //! The text of definitions, and that of an object that has a place for them.
 ghost use Rattle.std.specs.Prelude.{◌≡◌, ◌++◌, ◌∷◌, false, string_bytes, IfOk, OnOk};
-ghost use Rattle.json.specs.Print.{quoted};
-ghost use Rattle.serde_json.specs.Written.{comma_if, has_float, members_have_float};
-ghost use Rattle.schemars_text.specs.OrderedText.{NamedSchemas, ordered_text, definitions_text, texts, with_commas, member_texts};
-ghost use Rattle.schemars_definitions.specs.Joined.{HasPlaceAt};
-ghost use Rattle.schemars_definitions.specs.Kept.{IsOrdered, AreOrdered, definition_in, definitions_in};
-ghost use Rattle.schemars_definitions.specs.Whole.{each_made, with_names};
+ghost use Rattle.schemars_definitions.specs.Words.{quoted, comma_if, has_float, members_have_float, NamedSchemas, ordered_text, definitions_text, texts, with_commas, member_texts, HasPlaceAt, IsOrdered, AreOrdered, definition_in, definitions_in, each_made, with_names};
 
 use crate::change::Change;
 use crate::kept::Kept;

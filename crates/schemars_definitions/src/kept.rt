@@ -1,10 +1,6 @@
 //! A definition, as it is kept.
 ghost use Rattle.std.specs.Prelude.{◌≡◌, false, string_bytes, IfOk};
-ghost use Rattle.serde_json.specs.Written.{has_float};
-ghost use Rattle.schemars_text.specs.OrderedText.{ordered_text};
-ghost use Rattle.schemars_transform.specs.Needs.{needs_of};
-ghost use Rattle.schemars_definitions.specs.Kept.{IsOrdered, definition_in};
-ghost use Rattle.schemars_definitions.specs.Texts.{IsWholeTextOf};
+ghost use Rattle.schemars_definitions.specs.Words.{has_float, ordered_text, needs_of, IsOrdered, definition_in, IsWholeTextOf};
 
 use crate::change::Change;
 use crate::plain::is_json;

@@ -1,14 +1,11 @@
 //! Definitions as JSON values.
 ghost use Rattle.std.specs.Prelude.{◌≡◌};
-ghost use Rattle.serde_json.specs.Data.{no_members};
-ghost use Rattle.serde_json.specs.View.{members_view};
-ghost use Rattle.serde_json.specs.Rows.{map_row};
-ghost use Rattle.std.specs.Borrow.{Lends, sem};
+ghost use Rattle.schemars_definitions.specs.Words.{no_members, members_view, map_row, Lends, sem};
 
 use crate::entries::{insert_new, replace};
 use crate::store::Definitions;
 use schemars_schema::Schema;
-use schemars_transform::Needs;
+use schemars_transform::{GenTransform, Needs, NoTransform};
 use serde_json::{Map, Value};
 use std::alloc::{AllocError, Global};
 use std::marker::Model;
@@ -82,6 +79,8 @@ impl Clone for Objects {
 impl Definitions for Objects {
     ghost kept = { λ ms. ms };
 
+    ghost changed = { λ d. d };
+
     fn contains_key(&self, name: &str) -> bool {
         self.members.contains_key(name)
     }
@@ -113,16 +112,12 @@ impl Definitions for Objects {
         Err(text)
     }
 
-    fn finish_changed(
-        &mut self,
-        _alloc: Global,
-        name: &str,
-        _text: String,
-        schema: Schema,
-        _needs: Needs,
-    ) -> Result<(), AllocError> {
-        replace(&mut self.members, name, schema.to_value());
-        Ok(())
+    fn transforms(&self, alloc: Global) -> Result<Vec<GenTransform<NoTransform>>, AllocError> {
+        Ok(Vec::new(alloc))
+    }
+
+    fn finish_changed(&mut self, _name: &str, _before: String, _after: String) -> bool {
+        false
     }
 
     fn remove(&mut self, name: &str) {

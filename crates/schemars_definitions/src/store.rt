@@ -1,13 +1,9 @@
 //! A store of definitions.
 ghost use Rattle.std.specs.Prelude.{◌≡◌, IfOk, IfErr, IfSome, OnOk, OnErr, is_some, not, true, false, string_bytes};
-ghost use Rattle.serde_json.specs.Data.{Data, Members, boolean, put};
-ghost use Rattle.serde_json.specs.Find.{get_member};
-ghost use Rattle.schemars_schema.specs.Edits.{replaced, without};
-ghost use Rattle.schemars_transform.specs.Needs.{needs_of};
-ghost use Rattle.schemars_definitions.specs.Texts.{IsWholeTextOf};
+ghost use Rattle.schemars_definitions.specs.Words.{Data, Members, boolean, put, get_member, ordered_text, replaced, without, made_by, needs_of, IsWholeTextOf};
 
 use schemars_schema::Schema;
-use schemars_transform::Needs;
+use schemars_transform::{GenTransform, Needs, NoTransform};
 use std::alloc::{AllocError, Global};
 
 /// A store of definitions by name. A definition is `false` from when it is begun until it is
@@ -15,6 +11,9 @@ use std::alloc::{AllocError, Global};
 pub trait Definitions {
     /// The definitions that it keeps.
     ghost kept: { Self → Members };
+
+    /// What is made of a definition before it is written.
+    ghost changed: { Data → Data };
 
     /// Returns whether there is a definition of this name.
     fn contains_key(&self, name: &str) -> bool
@@ -56,20 +55,24 @@ pub trait Definitions {
         ensures err { OnErr result (kept self.new ≡ kept self.old) }
         ensures text { IfErr result (λ unkept. unkept ≡ text) };
 
-    /// Puts a schema in the place of the definition of this name, as `finish` does, where its
-    /// ordered text and its needs are known.
-    fn finish_changed(
-        &mut self,
-        alloc: Global,
-        name: &str,
-        text: String,
-        schema: Schema,
-        needs: Needs,
-    ) -> Result<(), AllocError>
-        requires text { IsWholeTextOf (string_bytes text) schema }
-        requires needs { needs ≡ needs_of schema }
-        ensures ok { OnOk result (kept self.new ≡ replaced name.now schema (kept self.old)) }
-        ensures err { OnErr result (kept self.new ≡ kept self.old) };
+    /// Returns the built-in transforms by which definitions are changed before they are written, in
+    /// order.
+    ///
+    /// # Errors
+    ///
+    /// `AllocError` if memory runs out.
+    fn transforms(&self, alloc: Global) -> Result<Vec<GenTransform<NoTransform>>, AllocError>
+        ensures { IfOk result (λ ts. (d : Data) → changed d ≡ made_by ts.items d) };
+
+    /// Puts the schema whose ordered text is `before`, and which is written as `after`, in the place
+    /// of the definition of this name, if there is one. Returns `false` and does nothing if
+    /// definitions are not kept as text.
+    fn finish_changed(&mut self, name: &str, before: String, after: String) -> bool
+        requires { (d : Data) × IsWholeTextOf (string_bytes before) d
+            × (string_bytes after ≡ ordered_text (changed d)) }
+        ensures done { result ≡ true → (d : Data) → IsWholeTextOf (string_bytes before) d
+            → kept self.new ≡ replaced name.now d (kept self.old) }
+        ensures same { result ≡ false → kept self.new ≡ kept self.old };
 
     /// Removes the definition of this name, if there is one.
     fn remove(&mut self, name: &str)

@@ -1,12 +1,6 @@
 //! Definitions as text.
 ghost use Rattle.std.specs.Prelude.{◌≡◌, ◌↔◌, true, false, string_bytes, IfOk, IfSome, IsTrue};
-ghost use Rattle.serde_json.specs.Data.{Data, no_members};
-ghost use Rattle.serde_json.specs.Written.{has_float, members_have_float};
-ghost use Rattle.schemars_text.specs.OrderedText.{ordered_text, definitions_text};
-ghost use Rattle.schemars_transform.specs.Needs.{needs_of};
-ghost use Rattle.schemars_definitions.specs.Joined.{HasNoDefinitions, HasPlaceAt};
-ghost use Rattle.schemars_definitions.specs.Keys.{HasKeysOnce};
-ghost use Rattle.schemars_definitions.specs.Whole.{each_made, with_names};
+ghost use Rattle.schemars_definitions.specs.Words.{Data, no_members, has_float, members_have_float, ordered_text, definitions_text, needs_of, HasNoDefinitions, HasPlaceAt, HasKeysOnce, each_made, with_names};
 
 use crate::by_name;
 use crate::change::Change;
@@ -15,7 +9,7 @@ use crate::kept::Kept;
 use crate::store::Definitions;
 use indexmap::IndexMap;
 use schemars_schema::Schema;
-use schemars_transform::Needs;
+use schemars_transform::{GenTransform, Needs, NoTransform};
 use std::alloc::{AllocError, Global};
 use std::marker::Model;
 
@@ -110,6 +104,8 @@ impl<C: Change + Drop> Texts<C> {
 impl<C: Change> Definitions for Texts<C> {
     ghost kept = { λ ms. ms };
 
+    ghost changed = { C.made };
+
     fn contains_key(&self, name: &str) -> bool {
         by_name::has_name(&self.definitions, name)
     }
@@ -145,17 +141,13 @@ impl<C: Change> Definitions for Texts<C> {
         Ok(())
     }
 
-    fn finish_changed(
-        &mut self,
-        alloc: Global,
-        name: &str,
-        text: String,
-        schema: Schema,
-        needs: Needs,
-    ) -> Result<(), AllocError> {
-        let kept = Kept::changed(alloc, text, schema, needs, &mut self.change)?;
-        by_name::replace(&mut self.definitions, name, kept);
-        Ok(())
+    fn transforms(&self, alloc: Global) -> Result<Vec<GenTransform<NoTransform>>, AllocError> {
+        self.change.transforms(alloc)
+    }
+
+    fn finish_changed(&mut self, name: &str, before: String, after: String) -> bool {
+        by_name::replace(&mut self.definitions, name, Kept::Changed { before, after });
+        true
     }
 
     fn remove(&mut self, name: &str) {

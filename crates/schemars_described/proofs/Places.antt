@@ -1,13 +1,6 @@
 -- The ids of a type's parts, which have rows, and their numbers, in a table that keeps its rows.
 use Rattle.std.proofs.Common.{◌≡◌, ℕ, List, [], ◌∷◌, ◌++◌, Some, refl, sym, ap, ◌∙◌}
-use Rattle.schemars_schema.specs.Json.{Text}
-use Rattle.schemars_shapes.specs.Shape.{Entry}
-use Rattle.schemars_types.specs.Rows.{Row, place_of}
-use Rattle.schemars_impls.specs.Describes.{places_of, IsMade}
-use Rattle.schemars_impls.specs.Keeps.{Keeps}
-use Rattle.schemars_impls.proofs.Keeping.{place_of-kept}
-use Rattle.schemars_described.specs.Numbered.{AreNumbers, number_in, of_ids}
-use Rattle.schemars_described.specs.OwnLaws.{are_numbers}
+use Rattle.schemars_described.proofs.Words.{Text, Entry, Row, place_of, places_of, IsMade, Keeps, place_of-kept, AreNumbers, number_in, of_ids, are_numbers}
 
 -- ids that have rows
 abbrev pub ArePlaced : List Row → List Text → Type 0

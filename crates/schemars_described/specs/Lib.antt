@@ -4,3 +4,4 @@ pub mod Laws
 pub mod Numbered
 pub mod OwnLaws
 pub mod Refused
+pub mod Words

@@ -1,10 +1,6 @@
 //! What an implementation of `AgreesAsDescribed` promises.
 ghost use Rattle.std.specs.Prelude.{◌≡◌, ℕ, List, Some};
-ghost use Rattle.schemars_schema.specs.Json.{Text};
-ghost use Rattle.schemars_types.specs.Rows.{Row, place_of};
-ghost use Rattle.schemars_types.specs.Faults.{IsChecked};
-ghost use Rattle.schemars_impls.specs.Dictionary.{Dictionary, Told, IsIn};
-ghost use Rattle.schemars_described.specs.Told.{AreAsTold};
+ghost use Rattle.schemars_described.specs.Words.{Text, Row, place_of, IsChecked, Dictionary, Told, IsIn, AreAsTold};
 
 use schemars_agreement::Agrees;
 use schemars_impls::JsonSchema;

@@ -1,10 +1,6 @@
 //! Types that are registered and have the rows that they describe.
 ghost use Rattle.std.specs.Prelude.{◌≡◌, ◌<◌, length, Some, IfErr, IfOk, OnOk};
-ghost use Rattle.schemars_types.specs.Faults.{IsChecked};
-ghost use Rattle.schemars_types.specs.Rows.{place_of};
-ghost use Rattle.schemars_impls.specs.Keeps.{Keeps};
-ghost use Rattle.schemars_impls.specs.Dictionary.{IsIn, KeepsTo};
-ghost use Rattle.schemars_described.specs.Told.{IsToldIn, Refuses};
+ghost use Rattle.schemars_described.specs.Words.{IsChecked, place_of, Keeps, IsIn, KeepsTo, IsToldIn, Refuses};
 
 use crate::law::AgreesAsDescribed;
 use schemars_impls::register;

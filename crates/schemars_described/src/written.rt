@@ -1,12 +1,6 @@
 //! What is written for a value, and the row of its type, to which it belongs.
 ghost use Rattle.std.specs.Prelude.{◌≡◌, ◌<◌, length, Some, IfErr, IfOk};
-ghost use Rattle.serde_json.specs.View.{view};
-ghost use Rattle.schemars_types.specs.Faults.{IsChecked};
-ghost use Rattle.schemars_types.specs.Rows.{place_of};
-ghost use Rattle.schemars_written.specs.Readings.{IsAmong};
-ghost use Rattle.schemars_written.specs.Writes.{BelongsUnder, IsWritten};
-ghost use Rattle.schemars_described.specs.Told.{telling};
-ghost use Rattle.schemars_described.specs.Refused.{RefusesValue};
+ghost use Rattle.schemars_described.specs.Words.{view, IsChecked, place_of, IsAmong, BelongsUnder, IsWritten, telling, RefusesValue};
 
 use crate::error::DescribedError;
 use crate::law::AgreesAsDescribed;

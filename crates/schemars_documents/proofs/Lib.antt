@@ -1,8 +1,5 @@
-pub mod Annotating
-pub mod Texts
 pub mod OpenStructs
-pub mod Templates
 pub mod Literals
-pub mod Items
 pub mod Units
-pub mod Answering
+pub mod Flattening
+mod Words

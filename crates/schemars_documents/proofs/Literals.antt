@@ -1,8 +1,6 @@
 -- A literal is its own document.
 use Rattle.std.proofs.Common.{◌≡◌, refl}
-use Rattle.serde_json.specs.Data.{Data, boolean, object}
-use Rattle.schemars_schema.specs.SchemaData.{IsSchema}
-use Rattle.schemars_documents.specs.OfShape.{literal_document}
+use Rattle.schemars_documents.proofs.Words.{Data, boolean, object, IsSchema, literal_document}
 
 pub literal_document-schema : (d : Data) → IsSchema d → literal_document d ≡ d
 literal_document-schema (boolean b) is = refl

@@ -1,23 +1,10 @@
 -- In a plain table only structs that must be present are flattened: no row has another meaning, and the table is plain under each
 -- contract.
 use Rattle.std.proofs.Common.{◌≡◌, ℕ, zero, suc, List, [], ◌∷◌, ◌++◌, map, Option, Some, None, Bool, false, refl, sym, ap, ◌∙◌, subst, true≢false, length}
-use Rattle.std.proofs.Math.Path.{fun_ext}
-use Rattle.std.specs.Prelude.{if◌then◌else◌, is_some, option_and_then, ◌&&◌, ◌||◌, not, ◌+◌, ◌*◌}
-use Rattle.std.specs.List.{list_any}
-use Rattle.std.specs.Option.{option_map_or}
-use Rattle.serde_json.specs.Data.{Data, Members, depth}
-use Rattle.schemars_schema.specs.Json.{Text}
-use Rattle.schemars_schema.specs.Acceptance.{Patterns}
+use Rattle.schemars_documents.proofs.Words.{fun_ext, if◌then◌else◌, is_some, option_and_then, ◌&&◌, ◌||◌, not, ◌+◌, ◌*◌, list_any, option_map_or, Data, Members, depth, Text, Patterns, Shape, Field, Flattened, Fields, Tagging, Payload, Variant, option_of, no_payload, newtype_payload, tuple_payload, struct_payload, KeyOptions, key_options, Row, entry_at, option_at, without_options_within, without_options, flattened_fields, required_only_if, part_fields, shape_fields, fields_within, row_fields, flattened_enums, shape_enums, enums_within, part_enums, enum_at, expanded_fields, expanded_payload, expanded_variant, expanded_shape_in, VariantMatch, is_required, has_payload, has_variant, has_shape, belongs_within, choices_within, belongs, joined_fields, joined_payload, joined_variant, joined_shape, struct_fields_within, joined_in, no_choices, belongs_plainly_within, belongs_plainly, IsTagged, AreTagged, IsPlainShape, IsOpenStruct, IsPlainPart, ArePlainParts, IsPlainEntry, IsPlainTable, parts_in, payload_parts, variant_parts, PayloadHasNamesApart, VariantsHaveNamesApart, ShapeHasNamesApart, enum_names_at, may_miss, IsPartShape, IsPartEntry, IsPartUnder, ArePartsUnder, IsEntryUnder, IsPlainUnder}
 use Rattle.schemars_shapes.specs.Shape as shape
-use Rattle.schemars_shapes.specs.Shape.{Shape, Field, Flattened, Fields, Entry, Tagging, Payload, Variant, option_of, no_payload, newtype_payload, tuple_payload, struct_payload}
-use Rattle.schemars_types.specs.KeyOptions.{KeyOptions, key_options}
-use Rattle.schemars_types.specs.Rows.{Row, entry_at}
-use Rattle.schemars_types.specs.Edges.{option_at}
-use Rattle.schemars_types.specs.Effective.{without_options_within, without_options, flattened_fields, required_only_if, part_fields, shape_fields, fields_within, row_fields, flattened_enums, shape_enums, enums_within, part_enums, enum_at, expanded_fields, expanded_payload, expanded_variant, expanded_shape_in}
+use Rattle.schemars_shapes.specs.Shape.{Entry}
 use Rattle.schemars_types.specs.declared.contract.Contract.{Contract}
-use Rattle.schemars_types.specs.Meaning.{VariantMatch, is_required, has_payload, has_variant, has_shape, belongs_within, choices_within, belongs}
-use Rattle.schemars_types.specs.OpenStructs.{joined_fields, joined_payload, joined_variant, joined_shape, struct_fields_within, joined_in, no_choices, belongs_plainly_within, belongs_plainly}
-use Rattle.schemars_documents.specs.PlainTable.{IsTagged, AreTagged, IsPlainShape, IsOpenStruct, IsPlainPart, ArePlainParts, IsPlainEntry, IsPlainTable, parts_in, payload_parts, variant_parts, PayloadHasNamesApart, VariantsHaveNamesApart, ShapeHasNamesApart, enum_names_at, may_miss, IsPartShape, IsPartEntry, IsPartUnder, ArePartsUnder, IsEntryUnder, IsPlainUnder}
 
 -- ---- what is flattened stands for itself
 

@@ -1,14 +1,8 @@
 -- The units of an enum, and the other items, as the code asks for them.
 use Rattle.std.proofs.Common.{◌≡◌, List, [], ◌∷◌, length, map, true, false, refl, sym, ap, ◌∙◌, true≢false, arith, ℕ, suc, Bor}
-use Rattle.std.proofs.lemmas.Bool.Decides.{nat_tests}
-use Rattle.std.specs.Prelude.{codes, ◌==◌}
-use Rattle.serde_json.specs.Data.{array, Items}
-use Rattle.schemars_schema.specs.Json.{Text}
-use Rattle.schemars_builders.specs.NullLaw.{text_items}
-use Rattle.schemars_documents.specs.Template as spec
-use Rattle.schemars_documents.specs.OfShape.{said, typed_template, object_with, one_of_template, choice_of}
-use Rattle.schemars_documents.specs.View.{template_view}
-use Rattle.schemars_documents.specs.declared.template.SchemaTemplate.{SchemaTemplate}
+use Rattle.schemars_documents.proofs.Words.{nat_tests, codes, ◌==◌, array, Items, Text, text_items, said, typed_template, object_with, one_of_template, choice_of, template_view}
+use Rattle.schemars_templates.specs.Template as spec
+use Rattle.schemars_templates.specs.declared.template.SchemaTemplate.{SchemaTemplate}
 
 not_none : (n : ℕ) → (suc n == 0) ≡ false
 not_none n = grind (arith, nat_tests)

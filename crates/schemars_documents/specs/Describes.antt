@@ -9,8 +9,8 @@ use Rattle.schemars_types.specs.Edges.{option_at}
 pub use Rattle.schemars_types.specs.Effective.{without_options_within, without_options}
 use Rattle.schemars_flatten.specs.Opening.{opened_inside, must_be_in_place}
 use Rattle.schemars_flatten.specs.Parts.{flattened_part}
-use Rattle.schemars_documents.specs.Documents.{reference}
-use Rattle.schemars_documents.specs.Template.{Template, Ask, part, members_of, content, asks_of, filled}
+use Rattle.schemars_templates.specs.Finished.{reference}
+use Rattle.schemars_templates.specs.Template.{Template, Ask, part, members_of, content, asks_of, filled}
 use Rattle.schemars_documents.specs.Basis.{Basis}
 use Rattle.schemars_documents.specs.OfShape.{entry_template}
 

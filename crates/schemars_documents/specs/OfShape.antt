@@ -1,6 +1,6 @@
 -- The document of each shape, as a template.
 use Rattle.std.specs.Prelude.{ℕ, zero, suc, List, [], ◌∷◌, ◌++◌, length, map, filter, Bool, true, false, not, Option, Some, None, if◌then◌else◌, codes, bytes_eq}
-use Rattle.serde_json.specs.Data.{Data, boolean, number, unsigned, string, array, Items, item, no_items, Members, no_members, member}
+use Rattle.serde_json.specs.Data.{Data, boolean, number, array}
 use Rattle.schemars_schema.specs.Json.{Text}
 use Rattle.schemars_schema.specs.SchemaData.{is_schema}
 use Rattle.schemars_builders.specs.NullLaw.{text_items}
@@ -13,29 +13,11 @@ use Rattle.schemars_types.specs.KeyOptions.{KeyOptions, keys, key_options}
 use Rattle.schemars_shapes.specs.declared.shape.IntegerKeys.{IntegerKeys}
 use Rattle.schemars_shapes.specs.IntegerKeys.{pattern_of}
 use Rattle.schemars_shapes.specs.Units.{is_bare_unit}
-use Rattle.schemars_documents.specs.Documents.{type_alone, int_document, non_zero_document, char_document, formatted_document, empty_list_document, bytes_document, schema_document, required_names}
-use Rattle.schemars_documents.specs.Template.{Template, Ask, finished, asked, row, list, members, nullable, noted, with_keywords, tagged, members_of, content, Templates, no_templates, template}
+use Rattle.schemars_templates.specs.Finished.{type_alone, title_alone}
+use Rattle.schemars_documents.specs.Documents.{int_document, non_zero_document, char_document, formatted_document, empty_list_document, bytes_document, schema_document, required_names}
+use Rattle.schemars_templates.specs.Template.{Template, Ask, finished, asked, row, list, nullable, noted, with_keywords, tagged, members_of, content}
+use Rattle.schemars_templates.specs.Nodes.{KeywordTemplate, templates_of, object_with, said, typed_template, count_template, properties_at, map_template, one_of_template, any_of_template, member_template, whole_template}
 use Rattle.schemars_documents.specs.Basis.{Basis}
-
-abbrev pub templates_of : List Template → Templates
-templates_of [] = no_templates
-templates_of (t ∷ ts) = template t (templates_of ts)
-
-abbrev pub KeywordTemplate : Type 0
-KeywordTemplate = Text × Template
-
--- an object with these keywords
-abbrev pub object_with : List KeywordTemplate → Template
-object_with es = members (map (λ e. e.0) es) (templates_of (map (λ e. e.1) es))
-
-abbrev pub said : Text → Data → KeywordTemplate
-said key d = (key, finished d)
-
-abbrev pub typed_template : Text → KeywordTemplate
-typed_template name = said (codes "type") (string name)
-
-abbrev pub count_template : Text → ℕ → KeywordTemplate
-count_template key n = said key (number (unsigned n))
 
 -- ---- lists
 
@@ -68,23 +50,6 @@ tuple_template (n ∷ ns) =
 abbrev pub property : Field → KeywordTemplate
 property x = (x.name, noted x.notes (row x.ty))
 
-abbrev pub properties_at : List KeywordTemplate → List KeywordTemplate
-properties_at [] = []
-properties_at (e ∷ es) = (codes "properties", object_with (e ∷ es)) ∷ []
-
-abbrev pub required_at : Items → List KeywordTemplate
-required_at no_items = []
-required_at (item d ds) = said (codes "required") (array (item d ds)) ∷ []
-
-abbrev pub closed_keyword : Bool → List KeywordTemplate
-closed_keyword false = []
-closed_keyword true = said (codes "additionalProperties") (boolean false) ∷ []
-
--- a map with these properties
-abbrev pub map_template : List KeywordTemplate → Items → Bool → Template
-map_template properties required closed =
-    object_with (typed_template (codes "object") ∷ (properties_at properties ++ (required_at required ++ closed_keyword closed)))
-
 -- a map with these fields
 abbrev pub fields_template : Contract → List Field → Bool → Template
 fields_template contract xs closed = map_template (map property xs) (text_items (required_names contract xs)) closed
@@ -102,18 +67,6 @@ abbrev pub struct_template : Contract → Fields → Template
 struct_template contract x = with_flattened contract x.flatten (fields_template contract x.list x.closed)
 
 -- ---- choices
-
--- exactly one of these
-abbrev pub one_of_template : List Template → Template
-one_of_template ts = object_with ((codes "oneOf", list (templates_of ts)) ∷ [])
-
--- one of these at least
-abbrev pub any_of_template : List Template → Template
-any_of_template ts = object_with ((codes "anyOf", list (templates_of ts)) ∷ [])
-
--- a map with this member, which has to be there
-abbrev pub member_template : Bool → Text → Template → Template
-member_template closed name t = map_template ((name, t) ∷ []) (text_items (name ∷ [])) closed
 
 abbrev pub result_template : ℕ → ℕ → Template
 result_template t e = one_of_template (member_template false (codes "Ok") (row t) ∷ member_template false (codes "Err") (row e) ∷ [])
@@ -166,9 +119,6 @@ choice_of (k ∷ ks) (t ∷ ts) = one_of_template (units_template (k ∷ ks) ∷
 abbrev pub external_template : Contract → List Variant → Template
 external_template contract xs = choice_of (bare_units xs) (other_items contract xs)
 
-abbrev pub title_alone : Text → Members
-title_alone name = member (codes "title") (string name) no_members
-
 abbrev pub titled : Bool → Text → Template → Template
 titled false name t = t
 titled true name t = noted (title_alone name) t
@@ -194,10 +144,6 @@ internal_item contract tag closed x = noted x.notes (tagged tag x.name closed (c
 abbrev pub internal_template : Contract → Text → Bool → List Variant → Template
 internal_template contract tag closed [] = finished (boolean false)
 internal_template contract tag closed (x ∷ xs) = one_of_template (map (internal_item contract tag closed) (x ∷ xs))
-
--- a map with these members, each of which has to be there
-abbrev pub whole_template : List KeywordTemplate → Bool → Template
-whole_template properties closed = map_template properties (text_items (map (λ e. e.0) properties)) closed
 
 -- the content beside the name, under its key: nothing for a unit
 abbrev pub adjacent_payload : Contract → Text → Payload → List KeywordTemplate

@@ -2,13 +2,7 @@
 #![tactic(auto)]
 
 ghost use Rattle.std.specs.Prelude.{◌≡◌, IfOk};
-ghost use Rattle.schemars_shapes.specs.Shape.{shape_of, entry_of};
-ghost use Rattle.schemars_types.specs.Faults.{IsChecked};
-ghost use Rattle.schemars_documents.specs.Documents.{bytes_document};
-ghost use Rattle.schemars_documents.specs.Basis.{basis_of};
-ghost use Rattle.schemars_documents.specs.Template.{row, finished, nullable};
-ghost use Rattle.schemars_documents.specs.View.{template_view, node_view};
-ghost use Rattle.schemars_documents.specs.OfShape.{template_of, entry_template, literal_document};
+ghost use Rattle.schemars_documents.specs.Words.{shape_of, entry_of, IsChecked, bytes_document, basis_of, row, finished, nullable, template_view, node_view, template_of, entry_template, literal_document};
 
 use crate::documents::{bytes_document, schema_document};
 use crate::integers::{int_document, non_zero_document};
@@ -23,9 +17,9 @@ use crate::shape::maps::{range_template, struct_template};
 use crate::shape::scalars::{char_template, formatted_template, int_template};
 use crate::shape::tagged::internal_template;
 use crate::template::basis::Basis;
-use crate::template::nodes::{bare, noted, row, type_alone};
-use crate::template::{SchemaNode, SchemaTemplate};
 use schemars_schema::Schema;
+use schemars_templates::template::nodes::{bare, noted, row, type_alone};
+use schemars_templates::template::{SchemaNode, SchemaTemplate};
 use schemars_types::{Contract, IntKind, Shape, TypeEntry, TypeNo};
 use std::alloc::{AllocError, Global};
 

@@ -1,14 +1,7 @@
 -- Whether a schema and those inside it let further members in, call by call.
 use Rattle.std.proofs.Common.{◌≡◌, ℕ, ◌+◌, ◌<◌, ◌≤◌, List, Some, None, Bool, true, false, length, get_or, drop, refl, sym, ap, ◌∙◌}
-use Rattle.std.specs.Prelude.{◌||◌}
-use Rattle.serde_json.specs.Data.{Data, null, boolean, number, string, array, object, Items, no_items, item, Members, no_members, member}
-use Rattle.serde_json.specs.Find.{as_array, as_object}
-use Rattle.serde_json.specs.View.{view, items_view}
+use Rattle.schemars_flatten.proofs.Words.{◌||◌, Data, null, boolean, number, string, array, object, Items, no_items, item, Members, no_members, member, as_array, as_object, view, items_view, Text, array-as_array, not_array, object-as_object, not_object, nothing_left, from_here, closes, closed_at, closed_in, closed_in_items, closed_in_keywords}
 use Rattle.serde_json.specs.declared.value.Value.{Value}
-use Rattle.schemars_schema.specs.Json.{Text}
-use Rattle.schemars_schema.proofs.Containers.{array-as_array, not_array, object-as_object, not_object}
-use Rattle.schemars_text.proofs.Lists.{nothing_left, from_here}
-use Rattle.schemars_flatten.specs.Opening.{closes, closed_at, closed_in, closed_in_items, closed_in_keywords}
 
 pub closed_object : (d : Data) (ms : Members) → Some ms ≡ as_object d
     → closes d || closed_in_keywords ms ≡ (closed_in d).in_schema

@@ -1,9 +1,6 @@
 -- What schemas become with others put in, computed. The keys of an object stand in order.
 use Rattle.std.proofs.Common.{◌≡◌, List, [], ◌∷◌, true, false, refl}
-use Rattle.serde_json.specs.Data.{Data, boolean, object, no_members}
-use Rattle.schemars_schema.proofs.JsonLiterals.{text, list, entry, one, empty}
-use Rattle.schemars_flatten.specs.Flatten.{flattened}
-use Rattle.schemars_flatten.specs.FlattenLaw.{AreJoinable}
+use Rattle.schemars_flatten.proofs.Words.{Data, boolean, object, no_members, text, list, entry, one, empty, flattened, AreJoinable}
 
 -- ---- JSON in short
 

@@ -1,13 +1,6 @@
 -- No float comes into what is made of schemas without one.
 use Rattle.std.proofs.Common.{◌≡◌, Bool, false, refl}
-use Rattle.std.proofs.lemmas.Bool.{or_parts}
-use Rattle.serde_json.specs.Data.{Data, Items, no_items, item, Members, no_members, member}
-use Rattle.serde_json.specs.Written.{has_float, items_have_float, members_have_float}
-use Rattle.schemars_schema.specs.Json.{Text}
-use Rattle.schemars_schema.specs.SchemaData.{put_members}
-use Rattle.schemars_flatten.specs.Flatten.{appended, flattened}
-use Rattle.schemars_flatten.specs.Opening.{opened_inside}
-use Rattle.schemars_flatten.specs.Parts.{flattened_part}
+use Rattle.schemars_flatten.proofs.Words.{or_parts, Data, Items, no_items, item, Members, no_members, member, has_float, items_have_float, members_have_float, Text, put_members, appended, flattened, opened_inside, flattened_part}
 use Rattle.schemars_flatten.proofs.Kept.{AllMembers, AllItems, IsByKeyword, all_put_members, flattened_kept, part_kept, opened_inside_kept}
 
 abbrev IsWhole : Data → Type 0

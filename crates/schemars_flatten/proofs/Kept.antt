@@ -1,24 +1,7 @@
 -- What holds of schemas, keyword by keyword, holds of what is made from them.
 use Rattle.std.proofs.Common.{◌≡◌, Option, Some, None, Bool, true, false, [], ◌∷◌, Ordering, Less, Equal, Greater, refl, sym, subst, nat_cmp, true≢false}
-use Rattle.std.proofs.lemmas.Map.Lookups.{exact_bytes}
-use Rattle.std.proofs.lemmas.Slice.Eq.{bytes_eq-Decides}
-use Rattle.std.specs.Prelude.{◌||◌, bytes_eq, codes, if◌then◌else◌, option_map, option_and_then}
-use Rattle.std.specs.Ordering.{match_ordering}
-use Rattle.std.specs.Cmp.Lexicographic.{slice_cmp}
-use Rattle.serde_json.specs.Data.{Data, null, boolean, number, string, array, object, Items, no_items, item, Members, no_members, member, put}
-use Rattle.serde_json.specs.Find.{get, get_member, as_array, as_object, as_str}
-use Rattle.schemars_schema.specs.Json.{Text}
-use Rattle.schemars_text.specs.OrderedText.{is_listed}
-use Rattle.schemars_schema.specs.SchemaData.{members_in, put_members}
-use Rattle.schemars_schema.specs.Edits.{removed, replaced, without, with_item, changed_at, on_list}
-use Rattle.schemars_schema.specs.References.{NoSchemas, OneSchema, SchemaList, with_same_object, with_same_objects}
-use Rattle.schemars_schema.specs.Acceptance.{both_some}
-use Rattle.schemars_schema.proofs.Containers.{object-as_object, array-as_array}
-use Rattle.schemars_flatten.specs.Flatten.{contains_key, has_subschema, moved, moved_beside, opened_schema, appended, joined, merged, is_joined, is_merged, is_choice, united, with_united, alone, both_choices, with_choice, with_keyword, with_keywords, united_all, flattened}
+use Rattle.schemars_flatten.proofs.Words.{exact_bytes, bytes_eq-Decides, ◌||◌, bytes_eq, codes, if◌then◌else◌, option_map, option_and_then, match_ordering, slice_cmp, Data, null, boolean, number, string, array, object, Items, no_items, item, Members, no_members, member, put, get, get_member, as_array, as_object, as_str, Text, is_listed, members_in, put_members, removed, replaced, without, with_item, changed_at, on_list, NoSchemas, OneSchema, SchemaList, with_same_object, with_same_objects, both_some, object-as_object, array-as_array, contains_key, has_subschema, moved, moved_beside, opened_schema, appended, joined, merged, is_joined, is_merged, is_choice, united, with_united, alone, both_choices, with_choice, with_keyword, with_keywords, united_all, flattened, form_at, forms, in_items, in_keywords, closes_by, opened_at, opened_here, same_object_place, opening, opened, opened_inside, has_type, unit_object, unit_object_first, unit_objects, units_of, with_items, with_units, first_units, behind_first, first_as_objects, list_changed_at, units_as_objects, holds_empty_object, with_empty_object, one_or_anything, choice_or_anything, optional_where, flattened_part}
 use Rattle.schemars_flatten.specs.Flatten as flatten
-use Rattle.schemars_walk.specs.Rewritten.{form_at, forms, in_items, in_keywords}
-use Rattle.schemars_flatten.specs.Opening.{closes_by, opened_at, opened_here, same_object_place, opening, opened, opened_inside, has_type}
-use Rattle.schemars_flatten.specs.Parts.{unit_object, unit_object_first, unit_objects, units_of, with_items, with_units, first_units, behind_first, first_as_objects, list_changed_at, units_as_objects, holds_empty_object, with_empty_object, one_or_anything, choice_or_anything, optional_where, flattened_part}
 
 abbrev pub AllMembers : (Text → Data → Type 0) → Members → Type 0
 AllMembers Q no_members = Unit {0}

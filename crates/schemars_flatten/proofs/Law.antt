@@ -1,20 +1,6 @@
 -- The law of `flatten`: what two schemas of objects in one say.
 use Rattle.std.proofs.Common.{◌≡◌, Option, Some, None, Bool, true, false, refl, sym, ap, ◌∙◌, true≢false, option_map}
-use Rattle.std.proofs.lemmas.Slice.Eq.{bytes_eq-Decides}
-use Rattle.std.proofs.lemmas.Bool.{and_parts}
-use Rattle.std.proofs.Math.Bool.{and-false}
-use Rattle.std.specs.Prelude.{bytes_eq, codes, if◌then◌else◌, not}
-use Rattle.serde_json.specs.Data.{Data, null, boolean, number, string, array, object, Members}
-use Rattle.serde_json.specs.Find.{get_member, as_str}
-use Rattle.schemars_schema.specs.Json.{Text}
-use Rattle.schemars_schema.specs.Verdict.{Verdict, both}
-use Rattle.schemars_schema.specs.Acceptance.{Context, Raw, judge, read_data, all_keywords, type_says, required_says, properties_say}
-use Rattle.schemars_schema.proofs.Verdicts.{both-yes, both-middle}
-use Rattle.schemars_schema.proofs.Objects.{IsKeyword, says, says-agree, judge-object, keyword-plain}
-use Rattle.schemars_schema.proofs.Silent.{items_none, const_none, unevaluated_none}
-use Rattle.schemars_schema.specs.Edits.{is_text}
-use Rattle.schemars_flatten.specs.Flatten.{with_keywords, flattened}
-use Rattle.schemars_flatten.specs.FlattenLaw.{has_keys_once, is_object_keyword, are_object_keywords, are_schemas_by_name, are_texts, are_apart, AreJoinable, AcceptsBoth}
+use Rattle.schemars_flatten.proofs.Words.{bytes_eq-Decides, and_parts, and-false, bytes_eq, codes, if◌then◌else◌, not, Data, null, boolean, number, string, array, object, Members, get_member, as_str, Text, Verdict, both, Context, Raw, type_says, required_says, properties_say, judge, read_data, all_keywords, both-yes, both-middle, IsKeyword, says, says-agree, judge-object, keyword-plain, items_none, const_none, unevaluated_none, is_text, with_keywords, flattened, has_keys_once, is_object_keyword, are_object_keywords, are_schemas_by_name, are_texts, are_apart, AreJoinable, AcceptsBoth}
 use Rattle.schemars_flatten.proofs.Lookups.{united_option, keyword_at, lacks, keywords_at, united_plain}
 use Rattle.schemars_flatten.proofs.Verdicts.{Holds, members_at, type_both, required_both, properties_both}
 

@@ -1,8 +1,6 @@
 -- What is rewritten by how far inside it lies is what opening makes of it.
 use Rattle.std.proofs.Common.{◌≡◌, refl, ap}
-use Rattle.serde_json.specs.Data.{Data, boolean, array, object, Items, no_items, item, Members, no_members, member}
-use Rattle.schemars_walk.specs.Rewritten.{Forms, rewritten, forms, in_items, in_names, in_keywords}
-use Rattle.schemars_flatten.specs.Opening.{opening, level_inside, opening_by_level, opened, opened_inside}
+use Rattle.schemars_flatten.proofs.Words.{Data, boolean, array, object, Items, no_items, item, Members, no_members, member, Forms, rewritten, forms, in_items, in_names, in_keywords, opening, level_inside, opening_by_level, opened, opened_inside}
 use Rattle.schemars_flatten.specs.declared.part.opening.Level.{Level}
 use Rattle.schemars_flatten.specs.declared.part.opening.Level.TheVariants.{Around, Top, Below}
 

@@ -17,3 +17,4 @@ pub mod Kept
 pub mod Floats
 pub mod References
 mod PartExamples
+mod Words

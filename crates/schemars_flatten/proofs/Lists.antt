@@ -1,11 +1,6 @@
 -- Lists and what is changed in them, in the words of what is meant.
 use Rattle.std.proofs.Common.{◌≡◌, Some, None, Option, refl, ap, ◌∙◌}
-use Rattle.serde_json.specs.Data.{Data, object, Items}
-use Rattle.serde_json.specs.Find.{get}
-use Rattle.schemars_schema.specs.Json.{Text}
-use Rattle.schemars_schema.specs.SchemaData.{members_in}
-use Rattle.schemars_schema.specs.Edits.{replaced, on_list}
-use Rattle.schemars_flatten.specs.Parts.{list_changed_at}
+use Rattle.schemars_flatten.proofs.Words.{Data, object, Items, get, Text, members_in, replaced, on_list, list_changed_at}
 
 pub list_changed : (k : Text) (change : Items → Items) (s d e new : Data) → Some d ≡ get k s
     → e ≡ on_list change d

@@ -1,18 +1,6 @@
 -- What is found in members after others are put in.
 use Rattle.std.proofs.Common.{◌≡◌, Option, Some, None, Bool, true, false, refl, sym, ap, ◌∙◌, true≢false}
-use Rattle.std.proofs.lemmas.Slice.Eq.{bytes_eq-Decides}
-use Rattle.std.proofs.lemmas.Bool.{and_parts}
-use Rattle.std.specs.Prelude.{◌||◌, bytes_eq, codes, if◌then◌else◌, is_some, not}
-use Rattle.serde_json.specs.Data.{Data, Members, no_members, member, put}
-use Rattle.serde_json.specs.Find.{get_member}
-use Rattle.serde_json.proofs.Views.{get_member-put, get_member-put_other}
-use Rattle.schemars_schema.specs.Json.{Text}
-use Rattle.schemars_schema.specs.SchemaData.{put_members}
-use Rattle.schemars_schema.specs.Edits.{replaced}
-use Rattle.schemars_text.proofs.Members.{differ, get_member-later, get_member-member}
-use Rattle.schemars_schema.proofs.Members.{get_member-replaced, get_member-replaced_other}
-use Rattle.schemars_flatten.specs.Flatten.{contains_key, is_choice, united, with_united, with_keyword, with_keywords, moved_beside, united_all}
-use Rattle.schemars_flatten.specs.FlattenLaw.{has_keys_once, is_object_keyword, are_object_keywords, are_apart}
+use Rattle.schemars_flatten.proofs.Words.{bytes_eq-Decides, and_parts, ◌||◌, bytes_eq, codes, if◌then◌else◌, is_some, not, Data, Members, no_members, member, put, get_member, get_member-put, get_member-put_other, Text, put_members, replaced, differ, get_member-later, get_member-member, get_member-replaced, get_member-replaced_other, contains_key, is_choice, united, with_united, with_keyword, with_keywords, moved_beside, united_all, has_keys_once, is_object_keyword, are_object_keywords, are_apart}
 
 -- ---- look-ups by the equality of keys
 

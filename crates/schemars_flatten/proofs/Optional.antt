@@ -1,17 +1,8 @@
 -- What is made of parts that may be missing, in the words of what is meant.
 use Rattle.std.proofs.Common.{◌≡◌, Option, Some, None, Bool, true, false, List, [], ◌∷◌, ◌++◌, length, IsTrue, codes, refl, sym, ap, ◌∙◌, arith}
-use Rattle.std.specs.Prelude.{if◌then◌else◌}
-use Rattle.serde_json.specs.Data.{Data, object, no_members}
-use Rattle.serde_json.specs.Find.{get}
-use Rattle.serde_json.specs.View.{view, items_view, members_view}
+use Rattle.schemars_flatten.proofs.Words.{if◌then◌else◌, Data, object, no_members, get, view, items_view, members_view, Entry, Text, removed, with_item, items_view-push, flattened, is_empty_object, holds_empty_object, with_empty_object, one_or_anything, choice_or_anything}
 use Rattle.serde_json.specs.declared.value.Value.{Value}
-use Rattle.serde_json.proofs.Views.{Entry}
-use Rattle.schemars_schema.specs.Json.{Text}
-use Rattle.schemars_schema.specs.Edits.{removed, with_item}
-use Rattle.schemars_schema.proofs.Lists.{items_view-push}
-use Rattle.schemars_flatten.specs.Flatten.{flattened}
 use Rattle.schemars_flatten.proofs.Parts.{without_missing}
-use Rattle.schemars_flatten.specs.Parts.{is_empty_object, holds_empty_object, with_empty_object, one_or_anything, choice_or_anything}
 
 pub empty_object : (b : Bool) (es : List Entry) → (IsTrue b → length es ≡ 0) → (length es ≡ 0 → IsTrue b)
     → b ≡ is_empty_object (object (members_view es))

@@ -1,11 +1,6 @@
 -- What documents become as parts of others, computed. The keys of an object are in order.
 use Rattle.std.proofs.Common.{◌≡◌, List, [], ◌∷◌, true, false, refl}
-use Prim.Native.String.{String}
-use Rattle.serde_json.specs.Data.{Data, null, boolean, object, no_members}
-use Rattle.schemars_schema.proofs.JsonLiterals.{text, list, entry, one, empty}
-use Rattle.schemars_walk.specs.Rewritten.{forms, in_items, in_names, in_keywords}
-use Rattle.schemars_flatten.specs.Opening.{closed_in, closed_in_items, closed_in_keywords, opened, opened_inside, closes_inside, must_be_in_place}
-use Rattle.schemars_flatten.specs.Parts.{flattened_part}
+use Rattle.schemars_flatten.proofs.Words.{String, Data, null, boolean, object, no_members, text, list, entry, one, empty, forms, in_items, in_names, in_keywords, closed_in, closed_in_items, closed_in_keywords, opened, opened_inside, closes_inside, must_be_in_place, flattened_part}
 
 -- ---- JSON in short
 

@@ -1,23 +1,7 @@
 -- Members that are taken out, put in and changed, in the words of what is meant.
 use Rattle.std.proofs.Common.{◌≡◌, List, [], ◌∷◌, ◌++◌, Option, Some, None, Bool, true, false, Ordering, Less, Equal, Greater, refl, sym, ap, ◌∙◌, is_eq, true≢false, nat_cmp, string_bytes}
-use Rattle.std.proofs.lemmas.Map.Text.{is_eq-slice_cmp}
-use Rattle.std.proofs.Math.Bool.{or-false}
-use Rattle.std.specs.Prelude.{◌||◌, bytes_eq, if◌then◌else◌, codes}
-use Rattle.std.specs.Ordering.{match_ordering}
-use Rattle.std.specs.Cmp.Lexicographic.{slice_cmp}
-use Rattle.std.specs.Map.{set_value}
-use Rattle.std.specs.BTreeMap.{is_at}
-use Rattle.serde_json.specs.Data.{Data, boolean, array, object, Items, no_items, item, Members, no_members, member, put}
-use Rattle.serde_json.specs.Find.{get_member, as_array, as_object}
-use Rattle.serde_json.specs.View.{view, items_view, members_view}
+use Rattle.schemars_flatten.proofs.Words.{is_eq-slice_cmp, or-false, ◌||◌, bytes_eq, if◌then◌else◌, codes, match_ordering, slice_cmp, set_value, is_at, Data, boolean, array, object, Items, no_items, item, Members, no_members, member, put, get_member, as_array, as_object, view, items_view, members_view, Entry, Text, members_in, put_members, replaced, without, both_some, members_view-set_value, moved, appended, is_joined, joined, is_merged, merged, united, with_united, both_choices, with_choice, opened_keywords, opened_schema, united_all, flattened}
 use Rattle.serde_json.specs.declared.value.Value.{Value}
-use Rattle.serde_json.proofs.Views.{Entry}
-use Rattle.schemars_schema.specs.Json.{Text}
-use Rattle.schemars_schema.specs.SchemaData.{members_in, put_members}
-use Rattle.schemars_schema.specs.Edits.{replaced, without}
-use Rattle.schemars_schema.specs.Acceptance.{both_some}
-use Rattle.schemars_schema.proofs.MapEdits.{members_view-set_value}
-use Rattle.schemars_flatten.specs.Flatten.{moved, appended, is_joined, joined, is_merged, merged, united, with_united, both_choices, with_choice, opened_keywords, opened_schema, united_all, flattened}
 
 -- what isn't there can't be taken out
 pub without_missing : (k : Text) (ms : Members) → None ≡ get_member k ms → without k ms ≡ ms

@@ -1,22 +1,7 @@
 -- Members that are put into other members, from either side.
 use Rattle.std.proofs.Common.{◌≡◌, Option, List, [], ◌∷◌, ◌++◌, Some, None, Bool, true, false, Less, refl, sym, ap, subst, ◌∙◌, option_map, String, Global, string_cmp, string_bytes}
-use Rattle.std.proofs.lemmas.Slice.Eq.{bytes_eq-Decides}
-use Rattle.std.specs.List.{AllByRecursion}
-use Rattle.std.specs.List.Sorted.{IsStrictlySortedBy}
-use Rattle.std.specs.Map.{keys_of, lookup}
-use Rattle.std.specs.BTreeMap.{is_at}
-use Rattle.std.specs.Prelude.{bytes_eq, unwrap_or, Result, Ok, Err, OnOk, is_ok, if◌then◌else◌}
-use Rattle.serde_json.specs.Data.{Data, item, Members, no_members, member, put}
-use Rattle.serde_json.specs.Find.{get_member}
-use Rattle.serde_json.specs.View.{view, items_view, members_view}
+use Rattle.schemars_flatten.proofs.Words.{bytes_eq-Decides, AllByRecursion, IsStrictlySortedBy, keys_of, lookup, is_at, bytes_eq, unwrap_or, Result, Ok, Err, OnOk, is_ok, if◌then◌else◌, Data, item, Members, no_members, member, put, get_member, view, items_view, members_view, Entry, view-lookup, get_member-put, get_member-put_other, differ, get_member-later, Text, IsAbove, put_members, IsSorted, get_member-above, same_members, sorted-put, sorted-put_members, appended, has_keys_once}
 use Rattle.serde_json.specs.declared.value.Value.{Value}
-use Rattle.serde_json.proofs.Views.{Entry, view-lookup, get_member-put, get_member-put_other}
-use Rattle.schemars_text.proofs.Members.{differ, get_member-later}
-use Rattle.schemars_schema.specs.Json.{Text, IsAbove}
-use Rattle.schemars_schema.specs.SchemaData.{put_members}
-use Rattle.schemars_schema.proofs.SortedMembers.{IsSorted, get_member-above, same_members, sorted-put, sorted-put_members}
-use Rattle.schemars_flatten.specs.Flatten.{appended}
-use Rattle.schemars_flatten.specs.FlattenLaw.{has_keys_once}
 use Rattle.schemars_flatten.proofs.Lookups.{here_first, either_option, properties_at}
 
 -- ---- members are in the order of their keys

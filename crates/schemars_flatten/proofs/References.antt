@@ -1,18 +1,6 @@
 -- The references of what is made of schemas are theirs.
 use Rattle.std.proofs.Common.{◌≡◌, List, [], ◌∷◌, ◌++◌, Bool, true, false, refl, sym, subst, true≢false}
-use Rattle.std.specs.List.{All}
-use Rattle.std.proofs.lemmas.List.Elements.{All-nil, All-cons, All-head, All-tail, All-append}
-use Rattle.std.proofs.lemmas.Slice.Eq.{bytes_eq-Decides}
-use Rattle.std.specs.Prelude.{◌||◌, bytes_eq, codes}
-use Rattle.serde_json.specs.Data.{Data, array, Items, no_items, item, Members, no_members, member}
-use Rattle.schemars_schema.specs.Json.{Text}
-use Rattle.schemars_text.specs.OrderedText.{is_listed}
-use Rattle.schemars_schema.specs.SchemaData.{put_members}
-use Rattle.schemars_schema.specs.References.{found_in, found_in_items, found_in_members, found_in_keywords, references}
-use Rattle.schemars_schema.proofs.Contents.{found_under}
-use Rattle.schemars_flatten.specs.Flatten.{flattened}
-use Rattle.schemars_flatten.specs.Opening.{opened_inside}
-use Rattle.schemars_flatten.specs.Parts.{flattened_part}
+use Rattle.schemars_flatten.proofs.Words.{All, All-nil, All-cons, All-head, All-tail, All-append, bytes_eq-Decides, ◌||◌, bytes_eq, codes, Data, array, Items, no_items, item, Members, no_members, member, Text, is_listed, put_members, found_in, found_in_items, found_in_members, found_in_keywords, references, found_under, flattened, opened_inside, flattened_part}
 use Rattle.schemars_flatten.proofs.Kept.{AllMembers, AllItems, IsByKeyword, all_put_members, flattened_kept, part_kept, opened_inside_kept}
 
 -- one of three names

@@ -1,15 +1,6 @@
 -- What is made of schemas are schemas.
 use Rattle.std.proofs.Common.{Option, Some, None, Bool, true, false}
-use Rattle.std.specs.Prelude.{codes, if◌then◌else◌}
-use Rattle.serde_json.specs.Data.{Data, null, boolean, number, string, array, object, Items}
-use Rattle.serde_json.specs.Find.{get}
-use Rattle.schemars_schema.specs.Json.{Text}
-use Rattle.schemars_schema.specs.SchemaData.{IsSchema, members_in}
-use Rattle.schemars_schema.specs.Edits.{removed, replaced, on_list}
-use Rattle.schemars_flatten.specs.Flatten.{opened_schema, flattened}
-use Rattle.schemars_walk.specs.Rewritten.{forms, in_keywords}
-use Rattle.schemars_flatten.specs.Opening.{closes_by, opened_at, opened_here, opening, opened, opened_inside}
-use Rattle.schemars_flatten.specs.Parts.{units_of, with_units, first_as_objects, list_changed_at, units_as_objects, with_empty_object, one_or_anything, choice_or_anything, optional_where, flattened_part}
+use Rattle.schemars_flatten.proofs.Words.{codes, if◌then◌else◌, Data, null, boolean, number, string, array, object, Items, get, Text, IsSchema, members_in, removed, replaced, on_list, opened_schema, flattened, forms, in_keywords, closes_by, opened_at, opened_here, opening, opened, opened_inside, units_of, with_units, first_as_objects, list_changed_at, units_as_objects, with_empty_object, one_or_anything, choice_or_anything, optional_where, flattened_part}
 
 removed-schema : (k : Text) (s : Data) → IsSchema s → IsSchema (removed k s)
 removed-schema k (boolean b) h = tt

@@ -1,18 +1,7 @@
 -- Schemas of objects that let further members in stay as they are.
 use Rattle.std.proofs.Common.{◌≡◌, Option, Some, None, Bool, true, false, refl, sym, ap, ◌∙◌, true≢false}
-use Rattle.std.proofs.lemmas.Slice.Eq.{bytes_eq-Decides}
-use Rattle.std.proofs.lemmas.Bool.{and_parts}
-use Rattle.std.specs.Prelude.{bytes_eq, codes, option_and_then}
-use Rattle.serde_json.specs.Data.{Data, null, string, object, Members, no_members, member}
-use Rattle.serde_json.specs.Find.{get_member, as_str}
-use Rattle.schemars_schema.specs.Json.{Text}
-use Rattle.schemars_schema.specs.References.{NoSchemas}
-use Rattle.schemars_schema.specs.Edits.{is_text}
-use Rattle.schemars_flatten.specs.FlattenLaw.{has_keys_once, is_object_keyword, are_object_keywords, is_object_schema}
+use Rattle.schemars_flatten.proofs.Words.{bytes_eq-Decides, and_parts, bytes_eq, codes, option_and_then, Data, null, string, object, Members, no_members, member, get_member, as_str, Text, NoSchemas, is_text, has_keys_once, is_object_keyword, are_object_keywords, is_object_schema, forms, in_keywords, same_object_place, opening, opened_here, opened, opened_inside, has_type, first_as_objects, list_changed_at, units_as_objects, flattened_part}
 use Rattle.schemars_flatten.proofs.Lookups.{keyword_at, lacks}
-use Rattle.schemars_walk.specs.Rewritten.{forms, in_keywords}
-use Rattle.schemars_flatten.specs.Opening.{same_object_place, opening, opened_here, opened, opened_inside, has_type}
-use Rattle.schemars_flatten.specs.Parts.{first_as_objects, list_changed_at, units_as_objects, flattened_part}
 use Rattle.schemars_flatten.proofs.Lists.{no_list}
 use Rattle.schemars_flatten.proofs.UnitObjects.{no_units, units_missing}
 

@@ -1,13 +1,6 @@
 -- Where nothing inside a schema refuses further members, opening takes nothing out.
 use Rattle.std.proofs.Common.{◌≡◌, Bool, true, false, refl, ap, ◌∙◌}
-use Rattle.std.proofs.lemmas.Bool.{or_parts}
-use Rattle.std.specs.Prelude.{◌||◌, codes, if◌then◌else◌}
-use Rattle.serde_json.specs.Data.{Data, null, array, object, Items, no_items, item, Members, no_members, member}
-use Rattle.schemars_schema.specs.Json.{Text}
-use Rattle.schemars_text.specs.OrderedText.{is_listed}
-use Rattle.schemars_schema.specs.References.{NoSchemas, OneSchema, SchemaList, with_same_object, with_same_objects}
-use Rattle.schemars_walk.specs.Rewritten.{form_at, forms, in_items, in_keywords}
-use Rattle.schemars_flatten.specs.Opening.{closes_by, closes, opened_at, opened_here, same_object_place, opening, opened, opened_inside, closed_at, closed_in, closed_in_items, closed_in_keywords, closes_inside, has_type, must_be_in_place}
+use Rattle.schemars_flatten.proofs.Words.{or_parts, ◌||◌, codes, if◌then◌else◌, Data, null, array, object, Items, no_items, item, Members, no_members, member, Text, is_listed, NoSchemas, OneSchema, SchemaList, with_same_object, with_same_objects, form_at, forms, in_items, in_keywords, closes_by, closes, opened_at, opened_here, same_object_place, opening, opened, opened_inside, closed_at, closed_in, closed_in_items, closed_in_keywords, closes_inside, has_type, must_be_in_place}
 
 here_unchanged : (s : Data) → closes s ≡ false → opened_here s ≡ s
 here_unchanged s h =

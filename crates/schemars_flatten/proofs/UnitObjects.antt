@@ -1,17 +1,8 @@
 -- Units that become objects, call by call.
 use Rattle.std.proofs.Common.{◌≡◌, ℕ, ◌+◌, ◌<◌, ◌≤◌, List, [], ◌∷◌, ◌++◌, Option, Some, None, false, length, get_or, drop, refl, sym, ap, ◌∙◌}
-use Rattle.std.specs.Prelude.{codes, if◌then◌else◌, option_map, option_and_then}
-use Rattle.serde_json.specs.Data.{Data, Items, no_items, item}
-use Rattle.serde_json.specs.Find.{get, as_str, as_array}
-use Rattle.serde_json.specs.View.{view, items_view}
+use Rattle.schemars_flatten.proofs.Words.{codes, if◌then◌else◌, option_map, option_and_then, Data, Items, no_items, item, get, as_str, as_array, view, items_view, Text, removed, nothing_left, from_here, appended, has_type, unit_object, unit_object_first, unit_objects, units_of, with_units, first_as_objects, list_changed_at, units_as_objects}
 use Rattle.serde_json.specs.declared.value.Value.{Value}
-use Rattle.schemars_schema.specs.Json.{Text}
-use Rattle.schemars_schema.specs.Edits.{removed}
-use Rattle.schemars_text.proofs.Lists.{nothing_left, from_here}
-use Rattle.schemars_flatten.specs.Flatten.{appended}
 use Rattle.schemars_flatten.proofs.Parts.{appended_none, appended_more}
-use Rattle.schemars_flatten.specs.Opening.{has_type}
-use Rattle.schemars_flatten.specs.Parts.{unit_object, unit_object_first, unit_objects, units_of, with_units, first_as_objects, list_changed_at, units_as_objects}
 
 appended_assoc : (a b c : Items) → appended (appended a b) c ≡ appended a (appended b c)
 appended_assoc no_items b c = refl

@@ -1,22 +1,6 @@
 -- What keywords of two objects say together.
 use Rattle.std.proofs.Common.{◌≡◌, List, [], ◌∷◌, ◌++◌, Option, Some, None, Bool, true, false, Ordering, Less, Equal, Greater, refl, sym, ap, ◌∙◌, is_eq, true≢false, nat_cmp, option_map}
-use Rattle.std.proofs.lemmas.Map.Text.{is_eq-slice_cmp}
-use Rattle.std.proofs.lemmas.Slice.Eq.{bytes_eq-Decides}
-use Rattle.std.proofs.lemmas.Bool.{and_parts}
-use Rattle.std.specs.Prelude.{◌&&◌, bytes_eq, codes, if◌then◌else◌, is_some, option_and_then}
-use Rattle.std.specs.Ordering.{match_ordering}
-use Rattle.std.specs.Cmp.Lexicographic.{slice_cmp}
-use Rattle.serde_json.specs.Data.{Data, null, boolean, string, array, object, Items, no_items, item, Members, no_members, member, put}
-use Rattle.serde_json.specs.Find.{get_member, as_object, as_str}
-use Rattle.schemars_schema.specs.Json.{Text}
-use Rattle.schemars_schema.specs.SchemaData.{IsSchema, is_schema, put_members}
-use Rattle.schemars_schema.specs.Verdict.{Verdict, Yes, No, Open, both, verdict}
-use Rattle.schemars_schema.specs.Acceptance.{Context, Judge, judge, read_data, read_members, all_named, where_some, schema_named, each_member, texts_in, have_all, type_says, required_says, properties_say}
-use Rattle.schemars_schema.proofs.Verdicts.{both-yes, both-verdict, both-middle, each_agree}
-use Rattle.schemars_schema.proofs.Objects.{schema-judge}
-use Rattle.schemars_schema.specs.Edits.{is_text}
-use Rattle.schemars_flatten.specs.Flatten.{appended}
-use Rattle.schemars_flatten.specs.FlattenLaw.{has_keys_once, are_schemas, are_schemas_by_name, are_texts, are_apart}
+use Rattle.schemars_flatten.proofs.Words.{is_eq-slice_cmp, bytes_eq-Decides, and_parts, ◌&&◌, bytes_eq, codes, if◌then◌else◌, is_some, option_and_then, match_ordering, slice_cmp, Data, null, boolean, string, array, object, Items, no_items, item, Members, no_members, member, put, get_member, as_object, as_str, Text, IsSchema, is_schema, put_members, Verdict, Yes, No, Open, both, verdict, Context, Judge, where_some, each_member, texts_in, have_all, type_says, required_says, schema_named, properties_say, judge, read_data, read_members, all_named, both-yes, both-verdict, both-middle, each_agree, schema-judge, is_text, appended, has_keys_once, are_schemas, are_schemas_by_name, are_texts, are_apart}
 use Rattle.schemars_flatten.proofs.Lookups.{united_option, either_option, properties_at, apart_at}
 
 -- ---- verdicts

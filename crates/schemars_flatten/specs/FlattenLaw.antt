@@ -6,7 +6,9 @@ use Rattle.schemars_schema.specs.Json.{Text}
 use Rattle.schemars_schema.specs.SchemaData.{is_schema}
 use Rattle.schemars_schema.specs.Annotations.{is_annotation}
 use Rattle.schemars_schema.specs.Verdict.{both}
-use Rattle.schemars_schema.specs.Acceptance.{Context, judge, texts_in}
+use Rattle.schemars_schema.specs.Judges.{Context}
+use Rattle.schemars_schema.specs.Assertions.{texts_in}
+use Rattle.schemars_schema.specs.Acceptance.{judge}
 use Rattle.schemars_schema.specs.Edits.{is_text}
 use Rattle.schemars_flatten.specs.Flatten.{contains_key}
 

@@ -1,9 +1,6 @@
 //! A schema with the keywords of another put in.
 ghost use Rattle.std.specs.Prelude.{◌≡◌, codes, OnOk};
-ghost use Rattle.serde_json.specs.Data.{put};
-ghost use Rattle.serde_json.specs.View.{view, members_view};
-ghost use Rattle.schemars_flatten.specs.Flatten.{contains_key, has_subschema, moved, moved_beside, rest_keyword, opened_keywords, united_all, flattened};
-ghost use Rattle.schemars_flatten.specs.FlattenLaw.{AreJoinable, AcceptsBoth};
+ghost use Rattle.schemars_flatten.specs.Words.{put, view, members_view, contains_key, has_subschema, moved, moved_beside, rest_keyword, opened_keywords, united_all, flattened, AreJoinable, AcceptsBoth};
 
 use crate::union::{put_keywords, remove};
 use schemars_schema::Schema;

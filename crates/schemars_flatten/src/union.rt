@@ -1,12 +1,6 @@
 //! Keywords of one schema put into another.
 ghost use Rattle.std.specs.Prelude.{◌≡◌, ◌||◌, codes, string_bytes, string_cmp, option_map, unwrap_or, IfOk, OnOk};
-ghost use Rattle.std.specs.BTreeMap.{IsOrdered};
-ghost use Rattle.serde_json.specs.Data.{array, object, put};
-ghost use Rattle.serde_json.specs.Find.{get_member};
-ghost use Rattle.serde_json.specs.View.{view, items_view, members_view};
-ghost use Rattle.schemars_schema.specs.SchemaData.{put_members};
-ghost use Rattle.schemars_schema.specs.Edits.{without};
-ghost use Rattle.schemars_flatten.specs.Flatten.{is_joined, is_merged, is_choice, appended, joined, merged, united, with_united, alone, both_choices, with_choice, with_keyword, with_keywords};
+ghost use Rattle.schemars_flatten.specs.Words.{IsOrdered, array, object, put, get_member, view, items_view, members_view, put_members, without, is_joined, is_merged, is_choice, appended, joined, merged, united, with_united, alone, both_choices, with_choice, with_keyword, with_keywords};
 
 use serde_json::{Map, Value};
 use std::alloc::{AllocError, Global};

@@ -1,9 +1,8 @@
 -- A table that a type has joined, what documents made in it mean, and why a type does not join.
 use Rattle.std.proofs.Common.{◌≡◌, ◌⊎◌, ◌<◌, inl, inr, ℕ, suc, List, [], ◌∷◌, take, length, Option, Some, None, IsSome, refl, ap, sym, ◌∙◌, subst, arith}
-use Rattle.schemars_generate.proofs.Words.{HasOwnDefinitions, Data, Row, IsAccepted, IsChecked, TransformStep, dialect_of, RootHeadline, IsDraftPath, State, Settings, stripped, more_types_own, IsJoined, IsTypeRefusal, with_rows, Transforms, IsTransformed, Entry, entry_at, Refusal, entry_under, TypeRow, IsIn, IsAdded, KeepsTo, RefusesType, Keeps, AllContinue, Continues, Draft, DraftHeadlines, Headline, IsSubschemaFor, Generator, state, IsRegistered, IsSubschemaOfType, IsRootOfType, IsRootInTable, transforms_for, error_of, IsUntransformedCall}
+use Rattle.schemars_generate.proofs.Words.{HasOwnDefinitions, Data, Row, IsAccepted, IsChecked, TransformStep, dialect_of, RootHeadline, IsDraftPath, State, Settings, stripped, more_types_own, IsJoined, IsTypeRefusal, with_rows, Transforms, IsTransformed, Entry, entry_at, Refusal, entry_under, TypeRow, IsIn, IsAdded, KeepsTo, RefusesType, Keeps, AllContinue, Continues, Draft, DraftHeadlines, Headline, IsSubschemaFor, Generator, state, IsRegistered, IsSubschemaOfType, IsRootOfType, IsRootInTable, transforms_for, error_of, IsUntransformedCall, MeansTypeIn, MeansType}
 use Rattle.schemars_types.specs.declared.error.TypesError.{TypesError}
 use Rattle.schemars_types.specs.declared.error.TypesError.TheVariants as fault
-use Rattle.schemars_generate.specs.ByType.{MeansTypeIn, MeansType}
 use Rattle.schemars_generate.specs.declared.error.GenerateError.{GenerateError}
 use Rattle.schemars_generate.specs.declared.error.GenerateError.TheVariants.{OutOfMemory}
 use Rattle.schemars_generate.proofs.BuiltIns.{promised}

@@ -1,17 +1,10 @@
 -- Definitions that the transforms of OpenAPI change one by one.
 use Rattle.std.proofs.Common.{◌≡◌, List, true, false, inr, Ok, refl, ap, ◌∙◌, subst}
-use Rattle.schemars_generate.proofs.Words.{Data, Members, no_members, TransformStep, ApplyInOrder, Transforms, null, boolean, object, member, AtSchema, for_openapi3, are_local, made_by, value_made_by, each_made_by, some_own, makes_in_order, each_made, transforms_openapi3, AreThrough}
-use Rattle.schemars_walk.specs.Rewritten.{forms}
+use Rattle.schemars_generate.proofs.Words.{Data, Members, no_members, TransformStep, ApplyInOrder, Transforms, null, boolean, object, member, AtSchema, for_openapi3, are_local, made_by, value_made_by, each_made_by, some_own, makes_in_order, each_made, transforms_openapi3, AreThrough, forms}
 use Rattle.schemars_transform.specs.declared.gen_transform.GenTransform.{GenTransform}
 
 pub local_openapi3 : (O : Type 0) → are_local {O = O} transforms_openapi3 ≡ true
 local_openapi3 O = refl
-
-pub none_own_openapi3 : (O : Type 0) → some_own {O = O} transforms_openapi3 ≡ false
-none_own_openapi3 O = refl
-
-pub made-openapi3 : (O : Type 0) (d : Data) → made_by {O = O} transforms_openapi3 d ≡ for_openapi3 d
-made-openapi3 O d = refl
 
 value_made : (O : Type 0) (d : Data) → value_made_by {O = O} transforms_openapi3 d ≡ for_openapi3 d
 unfolding forms

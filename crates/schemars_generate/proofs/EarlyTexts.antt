@@ -1,7 +1,6 @@
 -- Definitions that the transforms of a draft change one by one, and what is left of the document.
 use Rattle.std.proofs.Common.{◌≡◌, List, ◌∷◌, true, false, Some, None, refl, sym, ap, ◌∙◌, subst}
-use Rattle.schemars_generate.proofs.Words.{Data, null, boolean, number, string, array, object, Members, no_members, member, put, get, get_member, get_member-put, get_member-put_other, is_listed, differ, Text, members_in, inserted, replaced, placed_at-defs, placed_at-definitions, are_local, made_by, value_made_by, each_made_by, some_own, IsApart, defs_apart, definitions_apart, made_in_parts, parted, HasNoDefinitions, HasPlaceAt, definition_keys, each_made, with_defs_at, with_names, at_each_key, replaced-put, Draft, Draft2020_12, Draft2019_09, Draft07, made_for, with_definitions, key_for, transforms_for}
-use Rattle.schemars_walk.specs.Rewritten.{forms}
+use Rattle.schemars_generate.proofs.Words.{Data, null, boolean, number, string, array, object, Members, no_members, member, put, get, get_member, get_member-put, get_member-put_other, is_listed, differ, Text, members_in, inserted, replaced, placed_at-defs, placed_at-definitions, are_local, made_by, value_made_by, each_made_by, some_own, IsApart, defs_apart, definitions_apart, made_in_parts, parted, HasNoDefinitions, HasPlaceAt, definition_keys, each_made, with_defs_at, with_names, at_each_key, replaced-put, Draft, Draft2020_12, Draft2019_09, Draft07, made_for, with_definitions, key_for, transforms_for, forms}
 use Rattle.schemars_transform.specs.declared.gen_transform.GenTransform.{GenTransform}
 
 -- ---- the transforms of a draft
@@ -10,11 +9,6 @@ pub local_for : (O : Type 0) (draft : Draft) → are_local {O = O} (transforms_f
 local_for O Draft2020_12 = refl
 local_for O Draft2019_09 = refl
 local_for O Draft07 = refl
-
-pub none_own_for : (O : Type 0) (draft : Draft) → some_own {O = O} (transforms_for draft) ≡ false
-none_own_for O Draft2020_12 = refl
-none_own_for O Draft2019_09 = refl
-none_own_for O Draft07 = refl
 
 -- a value that is no schema stays under each of them
 value_made_for : (O : Type 0) (draft : Draft) (d : Data) → value_made_by {O = O} (transforms_for draft) d ≡ made_for draft d

@@ -1,9 +1,6 @@
 -- What a registry has after a call: what was there before, or what was added too.
 use Rattle.std.proofs.Common.{◌≡◌, ◌∙◌, [], length, false, sym, ap}
-use Rattle.std.proofs.Math.Seq.{take-length}
-use Rattle.std.specs.Prelude.{if◌then◌else◌}
-use Rattle.schemars_build.specs.Registry.{Registry, rolled_back}
-use Rattle.schemars_headline.specs.State.{State, registry_of, after_root}
+use Rattle.schemars_generate.proofs.Words.{take-length, if◌then◌else◌, Registry, rolled_back, State, registry_of, after_root}
 
 nothing_added : (s : State) → rolled_back (registry_of s) ≡ registry_of s
 nothing_added s = λ i. record {

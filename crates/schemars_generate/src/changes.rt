@@ -1,9 +1,6 @@
 //! What the transforms of a draft's settings make of a definition.
 ghost use Rattle.std.specs.Prelude.{◌≡◌, false, OnOk};
-ghost use Rattle.schemars_transform.specs.BuiltIn.{made_by};
-ghost use Rattle.schemars_transform.specs.Member.{some_own};
-ghost use Rattle.schemars_transform.specs.Needs.{needs_of};
-ghost use Rattle.schemars_generate.specs.Settings.{transforms07, transforms2019_09, transforms_openapi3};
+ghost use Rattle.schemars_generate.specs.Words.{made_by, some_own, needs_of, transforms07, transforms2019_09, transforms_openapi3};
 
 use schemars_definitions::Change;
 use schemars_schema::Schema;
@@ -30,6 +27,11 @@ impl Change for Changes2019_09 {
 
     fn leaves(&self, needs: Needs) -> bool {
         are_idle(&draft2019_09_transforms(), needs)
+    }
+
+    fn transforms(&self, alloc: Global) -> Result<Vec<GenTransform<NoTransform>>, AllocError> {
+        let transforms = Vec::from_array(alloc, draft2019_09_transforms())?;
+        Ok(transforms)
     }
 
     fn change(
@@ -60,6 +62,11 @@ impl Change for Changes07 {
         are_idle(&draft07_transforms(), needs)
     }
 
+    fn transforms(&self, alloc: Global) -> Result<Vec<GenTransform<NoTransform>>, AllocError> {
+        let transforms = Vec::from_array(alloc, draft07_transforms())?;
+        Ok(transforms)
+    }
+
     fn change(
         &mut self,
         alloc: Global,
@@ -86,6 +93,11 @@ impl Change for ChangesOpenApi3 {
 
     fn leaves(&self, needs: Needs) -> bool {
         are_idle(&openapi3_transforms(), needs)
+    }
+
+    fn transforms(&self, alloc: Global) -> Result<Vec<GenTransform<NoTransform>>, AllocError> {
+        let transforms = Vec::from_array(alloc, openapi3_transforms())?;
+        Ok(transforms)
     }
 
     fn change(

@@ -1,8 +1,6 @@
 //! The text of definitions.
 ghost use Rattle.std.specs.Prelude.{◌≡◌, ◌≤◌, ◌↔◌, true, Err, length, drop, string_bytes, IfOk, IfErr, IsTrue};
-ghost use Rattle.schemars_generate.specs.DefinitionsText.{IsDefinitionsText, IsDefinitionsRefusal, TakesEarly};
-ghost use Rattle.schemars_generate.specs.Generator.{held_transforms, state};
-ghost use Rattle.schemars_generate.specs.Settings.{transforms_openapi3};
+ghost use Rattle.schemars_generate.specs.Words.{IsDefinitionsText, IsDefinitionsRefusal, TakesEarly, held_transforms, state, transforms_openapi3};
 
 use crate::changes::ChangesOpenApi3;
 use crate::document::plan_for;

@@ -1,12 +1,8 @@
 -- Root documents accept the values of their types under the older drafts, after the transforms of these.
 use Rattle.std.proofs.Common.{◌≡◌, ◌≢◌, ◌+◌, ◌*◌, ◌≤◌, ℕ, inl, inr, List, codes, refl, sym, ◌∙◌, subst}
-use Rattle.schemars_headline.proofs.Words.{Data, object, Members, depth, get_member, Text, Dialect, Patterns, draft2020_12, draft2019_09, draft07, accepts, count_of_definitions, differ, Row, AcceptsItsValues, MeansItsType, Everywhere, IsName, IsMap, HasPlainItems, Stands, IsForOpenApi, for_draft07, for_draft2019_09}
+use Rattle.schemars_headline.proofs.Words.{Data, object, Members, depth, get_member, Text, Dialect, Patterns, draft2020_12, draft2019_09, draft07, accepts, count_of_definitions, differ, Row, AcceptsItsValues, MeansItsType, Everywhere, IsName, IsMap, HasPlainItems, Stands, IsForOpenApi, for_draft07, for_draft2019_09, Named, IsDraft07, MovesAcceptance, draft07-law, draft2019_09-law}
 use Rattle.schemars_types.specs.declared.contract.Contract.{Contract}
 use Rattle.schemars_headline.proofs.Placed.{StandsAt}
-use Rattle.schemars_laws.specs.Names.{Named}
-use Rattle.schemars_laws.specs.Classes.{IsDraft07}
-use Rattle.schemars_laws.specs.Laws.{MovesAcceptance}
-use Rattle.schemars_laws.proofs.Drafts.{draft07-law, draft2019_09-law}
 use Rattle.schemars_headline.proofs.Changes.{IsDraft2019_09}
 use Rattle.schemars_headline.proofs.Classes.{good-named, items-named}
 use Rattle.schemars_headline.proofs.RootClass.{IsReady, stands-place}

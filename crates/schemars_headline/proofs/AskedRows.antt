@@ -1,10 +1,6 @@
 -- The rows that are asked in a row's document are among those that it refers to.
 use Rattle.std.proofs.Common.{suc, List, [], ◌∷◌, Some, Contains, All, refl, subst, arith}
-use Rattle.schemars_headline.proofs.Words.{Data, Entry, numbers_of, Basis, Ask, asks_of, entry_template, IsOwnDocument, row_asked}
-use Rattle.schemars_documents.specs.Describes.{AreAnswered}
-use Rattle.schemars_meaning.proofs.Rows.{all_asks}
-use Rattle.schemars_types.proofs.Asked.{flattened_number}
-use Rattle.schemars_build.proofs.Asked.{content_number}
+use Rattle.schemars_headline.proofs.Words.{Data, Entry, numbers_of, Basis, Ask, asks_of, entry_template, IsOwnDocument, row_asked, AreAnswered, all_asks, flattened_number, content_number}
 
 asks_numbers : (basis : Basis) (e : Entry) → All (λ a. Contains (numbers_of e.shape) (row_asked a)) (asks_of (entry_template basis e))
 asks_numbers basis e = all_asks (λ a. Contains (numbers_of e.shape) (row_asked a)) basis e.shape (λ m c. c)

@@ -1,10 +1,6 @@
 -- The transforms of the drafts make the same of members that differ in the value of one key, but for what they make of that.
 use Rattle.std.proofs.Common.{◌≡◌, ◌≢◌, ◌⊎◌, inl, inr, suc, Option, Some, None, Bool, true, false, Ordering, Less, Equal, Greater, nat_cmp, codes, refl, sym, ap, ◌∙◌, subst}
-use Rattle.schemars_headline.proofs.Words.{bytes_eq, if◌then◌else◌, ◌==◌, match_ordering, slice_cmp, exact_bytes, Data, object, Members, no_members, member, put, get_member, members_len, Text, without, place_under, judge, IsSilent, form_at, reference_moved, without_siblings, remove_ref_siblings, old_items_moved, prefix_moved, prefix_as_items, replace_prefix_items, closed_by, unevaluated_as_additional, replace_unevaluated_properties, change_rules, walked}
-use Rattle.schemars_schema.specs.Acceptance.{Context}
-use Rattle.schemars_schema.proofs.Objects.{IsKeyword, apart, judge-agree}
-use Rattle.schemars_walk.specs.Rewritten.{forms, in_keywords}
-use Rattle.schemars_laws.proofs.Looked.{none-walked}
+use Rattle.schemars_headline.proofs.Words.{bytes_eq, if◌then◌else◌, ◌==◌, match_ordering, slice_cmp, exact_bytes, Data, object, Members, no_members, member, put, get_member, members_len, Text, without, place_under, judge, IsSilent, form_at, reference_moved, without_siblings, remove_ref_siblings, old_items_moved, prefix_moved, prefix_as_items, replace_prefix_items, closed_by, unevaluated_as_additional, replace_unevaluated_properties, change_rules, walked, Context, IsKeyword, apart, judge-agree, forms, in_keywords, none-walked}
 
 -- the same keys in the same order, with the same values but under this key
 abbrev pub DifferAt : Text → Members → Members → Type 0

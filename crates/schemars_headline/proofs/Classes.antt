@@ -1,9 +1,8 @@
 -- In a plain table each document of a row is one that the laws of the drafts speak of.
 use Rattle.std.proofs.Common.{◌≡◌, ℕ, zero, suc, inl, inr, List, [], ◌∷◌, ◌++◌, map, Option, Some, None, Bool, true, false, codes, refl, sym, subst}
-use Rattle.schemars_headline.proofs.Words.{is_some, if◌then◌else◌, option_map_or, Data, Members, Text, get_member, Everywhere, IsName, HasPlainItems, weaker, text-alone, Stands, IsForOpenApi, draft2020_12, AreNotes, Shape, Field, Fields, Flattened, Entry, Row, entry_at, option_at, AreNoted, IsPlainTable, IsNotedThroughout, HasPlainNotesThroughout, Basis, Ask, asks_of, filled, struct_template, template_of, IsOwnDocument, IsWritten, Fit, plain_rows, Named, IsDraft07, none-plain, text-named, Required, effective, shape_fields, required_only_if, part_fields, flattened_in, part_enums, expanded_shape_in, IsPlainShape, ArePlainParts, parts_in, IsPlainEntry, IsNotedShape, IsAnswered, parts_apart, AnswersFields, struct_fills, described_fields}
+use Rattle.schemars_headline.proofs.Words.{is_some, if◌then◌else◌, option_map_or, Data, Members, Text, get_member, Everywhere, IsName, HasPlainItems, weaker, text-alone, Stands, IsForOpenApi, draft2020_12, AreNotes, Shape, Field, Fields, Flattened, Entry, Row, entry_at, option_at, AreNoted, IsPlainTable, IsNotedThroughout, HasPlainNotesThroughout, Basis, Ask, asks_of, filled, struct_template, template_of, IsOwnDocument, IsWritten, Fit, plain_rows, Named, IsDraft07, none-plain, text-named, Required, effective, shape_fields, required_only_if, part_fields, flattened_in, part_enums, expanded_shape_in, IsPlainShape, ArePlainParts, parts_in, IsPlainEntry, IsNotedShape, IsAnswered, parts_apart, AnswersFields, struct_fills, described_fields, fields_within, Describes}
 use Rattle.schemars_shapes.specs.Shape as shape
-use Rattle.schemars_types.specs.Effective.{fields_within, without_options}
-use Rattle.schemars_documents.specs.Describes.{Describes}
+use Rattle.schemars_types.specs.Effective.{without_options}
 use Rattle.schemars_headline.proofs.Changes.{Demand, IsDraft2019_09, IsGood, good-annotated}
 use Rattle.schemars_headline.proofs.Documents.{reference-good, fields-good}
 use Rattle.schemars_headline.proofs.Filled.{noted-effective, shape-makes}

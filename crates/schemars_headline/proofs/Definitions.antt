@@ -1,15 +1,7 @@
 -- The transforms of the drafts keep the definitions of a document: their number and their keys.
 use Rattle.std.proofs.Common.{◌≡◌, ◌≢◌, suc, option_and_then, Option, Some, None, Ordering, Less, Equal, Greater, nat_cmp, codes, option_map, refl, sym, ap, ◌∙◌, subst}
-use Rattle.schemars_headline.proofs.Words.{match_ordering, slice_cmp, Data, null, boolean, number, string, array, object, Members, no_members, member, get_member, members_len, Text, IsSchema, NoSchemas, OneSchema, SchemaList, SchemaOrList, SchemasByName, place_under, Dialect, draft2020_12, count_of_definitions, without_siblings, prefix_as_items, replace_prefix_items, remove_ref_siblings, unevaluated_as_additional, replace_unevaluated_properties, IsMap, change_rules, walked}
-use Rattle.serde_json.specs.Find.{as_object}
-use Rattle.schemars_walk.specs.Rewritten.{forms, in_names, read_at, all_changed}
-use Rattle.schemars_walk.proofs.KeywordLaws.{keywords_get}
+use Rattle.schemars_headline.proofs.Words.{match_ordering, slice_cmp, Data, null, boolean, number, string, array, object, Members, no_members, member, get_member, members_len, Text, IsSchema, NoSchemas, OneSchema, SchemaList, SchemaOrList, SchemasByName, place_under, Dialect, draft2020_12, count_of_definitions, without_siblings, prefix_as_items, replace_prefix_items, remove_ref_siblings, unevaluated_as_additional, replace_unevaluated_properties, IsMap, change_rules, walked, as_object, forms, in_names, read_at, all_changed, keywords_get, Change, map-walked, other, none, prefix_items, ref_siblings, unevaluated_properties}
 use Rattle.schemars_headline.proofs.Placed.{StandsAt, pointer_key}
-use Rattle.schemars_laws.proofs.Looked.{Change, map-walked}
-use Rattle.schemars_laws.proofs.Laws.{other, none}
-use Rattle.schemars_laws.proofs.PrefixItems.{prefix_items}
-use Rattle.schemars_laws.proofs.Siblings.{ref_siblings}
-use Rattle.schemars_laws.proofs.Unevaluated.{unevaluated_properties}
 use Rattle.schemars_headline.proofs.RootClass.{entries}
 
 -- as many definitions, and a schema under each key that had one

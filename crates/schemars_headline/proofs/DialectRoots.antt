@@ -1,7 +1,6 @@
 -- Root documents mean their types in Draft 7 and 2019-09 too, after the transforms of these drafts.
 use Rattle.std.proofs.Common.{◌≡◌, ◌⊎◌, ℕ, inl, inr, Option, Some, None, true, codes, refl, sym, ap, ◌∙◌, subst}
-use Rattle.schemars_headline.proofs.Words.{false≢true, is_some, option_and_then, Data, null, boolean, number, string, array, object, Members, no_members, put, get_member, get_member-put, Text, lookup, IsSchema, resolves, draft2020_12, draft2019_09, draft07, IsChecked, IsPlainTable, IsPlainUnder, IsOneToOne, Plan, Registry, Refers, reference_to, basis_of_plan, described, plain_rows, under_rows, State, path_of, state_plan, HasOwnDefinitions, MeansItsType, IsRootOf, HasKeysOnce, IsName, IsMap, for_draft07, for_draft2019_09, Stands, IsForOpenApi, Draft2020_12, Draft2019_09, Draft07, schema_only, schema_only-schema, resolved-whole, settled, IsPlainFor, IsNameOf, DraftHeadlines}
-use Rattle.schemars_schema.specs.Lookup.{resolved}
+use Rattle.schemars_headline.proofs.Words.{false≢true, is_some, option_and_then, Data, null, boolean, number, string, array, object, Members, no_members, put, get_member, get_member-put, Text, lookup, IsSchema, resolves, draft2020_12, draft2019_09, draft07, IsChecked, IsPlainTable, IsPlainUnder, IsOneToOne, Plan, Registry, Refers, reference_to, basis_of_plan, described, plain_rows, under_rows, State, path_of, state_plan, HasOwnDefinitions, MeansItsType, IsRootOf, HasKeysOnce, IsName, IsMap, for_draft07, for_draft2019_09, Stands, IsForOpenApi, Draft2020_12, Draft2019_09, Draft07, schema_only, schema_only-schema, resolved-whole, settled, IsPlainFor, IsNameOf, DraftHeadlines, resolved}
 use Rattle.schemars_types.specs.declared.contract.Contract.{Contract}
 use Rattle.schemars_headline.proofs.Standing.{MayRefer, AllStand}
 use Rattle.schemars_headline.proofs.Standing as standings

@@ -1,12 +1,9 @@
 -- The references of root documents pass a test after the transforms of the older drafts, such as that they resolve.
 use Rattle.std.proofs.Common.{◌≡◌, List, [], ◌∷◌, ◌++◌, Some, None, Bool, true, false, codes, refl, sym, ap, ◌∙◌, subst, true≢false}
-use Rattle.schemars_headline.proofs.Words.{bytes_eq, if◌then◌else◌, bytes_eq-Decides, Data, string, array, object, Items, no_items, item, Members, no_members, member, get_member, Text, without, Place, NoSchemas, OneSchema, SchemaList, SchemaOrList, SchemasByName, place_under, references, resolves, all_resolve, Everywhere, demanded, asked_of_items, asked_of_members, asked_of_keywords, IsTextWith}
-use Rattle.schemars_schema.specs.References.{at_place, found_in, found_in_items, found_in_members, found_in_keywords}
+use Rattle.schemars_headline.proofs.Words.{bytes_eq, if◌then◌else◌, bytes_eq-Decides, Data, string, array, object, Items, no_items, item, Members, no_members, member, get_member, Text, without, Place, NoSchemas, OneSchema, SchemaList, SchemaOrList, SchemasByName, place_under, references, resolves, all_resolve, Everywhere, demanded, asked_of_items, asked_of_members, asked_of_keywords, IsTextWith, at_place, found_in, found_in_items, found_in_members, found_in_keywords, asked, and_parts}
 use Rattle.schemars_text.proofs.Members.{get_member-member as get_member-first}
-use Rattle.schemars_laws.specs.Everywhere.{asked}
 use Rattle.schemars_headline.proofs.Resolving.{all_pass, all_pass-resolve}
 use Rattle.schemars_headline.proofs.ReferencesKept.{RefersOnce}
-use Rattle.std.proofs.lemmas.Bool.{and_parts}
 
 -- ---- each reference, where those that are there once are as R says
 

@@ -1,10 +1,8 @@
 -- A struct whose one field, which is required, is the struct itself: its table is accepted, and no value belongs to it.
 use Rattle.std.proofs.Common.{◌≡◌, ◌≤◌, ℕ, zero, suc, List, [], ◌∷◌, Bool, true, false, Option, Some, None, Ordering, Less, Equal, Greater, nat_cmp, true≢false, refl, sym, ap, ◌∙◌, arith, inl, inr}
-use Rattle.schemars_headline.proofs.Words.{codes, ◌&&◌, ◌||◌, not, is_some, option_and_then, option_map_or, match_ordering, slice_cmp, exact_bytes, Data, object, Members, no_members, member, get_member, Text, Patterns, draft2020_12, accepts, Field, Row, entry_at, is_inline_at, MeansItsType, slice_get_past, No, IsJson, bound, bare_fields, struct, Walk, one, then, DirectEdge, SameValueEdge, names_at, IsUndefined, HasRepeated, IsAccepted, Member, member_named, field_member, every_member, is_required, never_first_repeated}
-use Rattle.std.specs.List.{IsDistinct}
+use Rattle.schemars_headline.proofs.Words.{codes, ◌&&◌, ◌||◌, not, is_some, option_and_then, option_map_or, match_ordering, slice_cmp, exact_bytes, Data, object, Members, no_members, member, get_member, Text, Patterns, draft2020_12, accepts, Field, Row, entry_at, is_inline_at, MeansItsType, slice_get_past, No, IsJson, bound, bare_fields, struct, Walk, one, then, DirectEdge, SameValueEdge, names_at, IsUndefined, HasRepeated, IsAccepted, Member, member_named, field_member, every_member, is_required, never_first_repeated, IsDistinct, belongs_within}
 use Rattle.schemars_types.specs.declared.contract.Contract.{Contract}
 use Rattle.schemars_types.specs.declared.contract.Contract.TheVariants.{Deserialize, Serialize}
-use Rattle.schemars_types.specs.Meaning.{belongs_within}
 
 abbrev next : Field
 next = record { name = codes "n"; ty = 0; required = record { deserialize = true; serialize = true }; notes = no_members }

@@ -1,7 +1,6 @@
 -- What fills the templates of enums and maps is what the laws of the drafts speak of, where the answers are.
 use Rattle.std.proofs.Common.{ℕ, List, [], ◌∷◌, ◌++◌, map, Bool, true, false, codes, refl, sym, subst}
-use Rattle.schemars_headline.proofs.Words.{all_filled, AllByRecursion, Data, string, no_members, put, Text, put_all, Field, Fields, Flattened, Shape, KeyOptions, keys, AreNoted, Keyword, Basis, Ask, part, Template, asks_of, filled, filled_in, keyed, left, struct_template, template_of, KeywordTemplate, typed_template, object_with, values_of, all_patterns, pattern_properties_at, properties_at, other_values, values_template, internally_tagged_variant, first_all, left_all, Fit, asked_of_members, recursion_from_All, literal_is_schema, text_items, flattened_fields, effective, expanded_shape, IsPlainShape, parts_in, payload_parts, variant_parts, IsNotedPayload, IsNotedShape, AreNotedVariants, row, asks_in, first, Templates, templates_of, map_template, tuple_template, content_template, title_alone, literal_document-schema, without_end, tuple_fills, title_noted, values_ask, of_each, AreKeysApart, Documents, Law, IsBeside, AreBeside, beside_halves, plain_variants, shape_holds, values_all}
-use Rattle.schemars_laws.specs.Everywhere.{asked}
+use Rattle.schemars_headline.proofs.Words.{all_filled, AllByRecursion, Data, string, no_members, put, Text, put_all, Field, Fields, Flattened, Shape, KeyOptions, keys, AreNoted, Keyword, Basis, Ask, part, Template, asks_of, filled, filled_in, keyed, left, struct_template, template_of, KeywordTemplate, typed_template, object_with, values_of, all_patterns, pattern_properties_at, properties_at, other_values, values_template, internally_tagged_variant, first_all, left_all, Fit, asked_of_members, recursion_from_All, literal_is_schema, text_items, flattened_fields, effective, expanded_shape, IsPlainShape, parts_in, payload_parts, variant_parts, IsNotedPayload, IsNotedShape, AreNotedVariants, row, asks_in, first, Templates, templates_of, map_template, tuple_template, content_template, title_alone, literal_document-schema, without_end, tuple_fills, title_noted, values_ask, of_each, AreKeysApart, Documents, Law, IsBeside, AreBeside, beside_halves, plain_variants, shape_holds, values_all, asked}
 use Rattle.schemars_headline.proofs.Changes.{Demand, Class, AreGood, are-put, IsGood, good, good_truth, good-annotated, good-allow_null}
 use Rattle.schemars_headline.proofs.Documents.{AllGood, are-typed, type-good, int-good, non_zero-good, char-good, formatted-good, bytes-good, schema_itself-good, empty_list-good, seq-good, set-good, array-good, up_to-good, tuple-good, parts-good, tagged-good, unit-good, units-good, one_of-good, any_of-good, map-good, AllNamed, asked-all, literal-good}
 

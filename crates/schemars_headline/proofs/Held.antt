@@ -1,13 +1,8 @@
 -- What is in schemas is of a class, whatever is asked of the schemas themselves: so it stays as they are flattened and opened.
 use Rattle.std.proofs.Common.{◌≡◌, List, [], ◌∷◌, Bool, true, false, refl, sym, subst, true≢false}
-use Rattle.schemars_headline.proofs.Words.{bytes_eq-Decides, AllByRecursion, ◌||◌, bytes_eq, codes, if◌then◌else◌, Data, array, object, Items, no_items, item, Members, no_members, member, put, Text, is_listed, put_members, Place, NoSchemas, OneSchema, SchemaList, SchemaOrList, SchemasByName, place_under, flattened, flattened_part, Everywhere, demanded, asked_of_items, asked_of_members, asked_of_keywords}
-use Rattle.schemars_schema.specs.References.{with_same_object, with_same_objects}
-use Rattle.schemars_builders.specs.AllowNull.{null_schema}
-use Rattle.schemars_flatten.specs.Opening.{same_object_place}
-use Rattle.schemars_flatten.specs.Parts.{unit_object}
-use Rattle.schemars_flatten.proofs.Kept.{AllMembers, AllItems, IsByKeyword}
+use Rattle.schemars_headline.proofs.Words.{bytes_eq-Decides, AllByRecursion, ◌||◌, bytes_eq, codes, if◌then◌else◌, Data, array, object, Items, no_items, item, Members, no_members, member, put, Text, is_listed, put_members, Place, NoSchemas, OneSchema, SchemaList, SchemaOrList, SchemasByName, place_under, flattened, flattened_part, Everywhere, demanded, asked_of_items, asked_of_members, asked_of_keywords, with_same_object, with_same_objects, null_schema, same_object_place, unit_object, AllMembers, IsByKeyword, asked}
+use Rattle.schemars_flatten.proofs.Kept.{AllItems}
 use Rattle.schemars_flatten.proofs.Kept as kept
-use Rattle.schemars_laws.specs.Everywhere.{asked}
 use Rattle.schemars_headline.proofs.Changes.{Demand, Class, nothing, good}
 use Rattle.schemars_headline.proofs.Documents.{type-good, member-good, asked-named}
 

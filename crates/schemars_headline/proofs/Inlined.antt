@@ -1,8 +1,6 @@
 -- Where rows are inlined, a reference closes a cycle.
 use Rattle.std.proofs.Common.{◌≡◌, inl, inr, ℕ, zero, suc, List, [], ◌∷◌, ◌++◌, Bool, true, false, Option, Some, None, refl, sym, ap, ◌∙◌, subst, arith, length, Contains, true≢false}
-use Rattle.schemars_headline.proofs.Words.{◌||◌, ◌&&◌, not, option_map_or, match_ordering, Data, Members, no_members, member, get_member, Text, references, Entry, numbers_of, Row, entry_at, name_at, is_inline_at, option_at, IsPlainTable, root_document, Basis, Ask, part, members_of, content, IsOwnDocument, IsWritten, plain_rows, IsPlaced, row_asked, Registry, Refers, basis_of_plan, IsSubschema, IsReached, references-root, State, state_plan, registry_of, IsRootOf, with_definitions, ◌⊎◌, nat_eq, list_any, tied_itself, nat_list_cmp_total, eqb-true, list_any-append, insert_key, Walk, one, then, numbers_at, IsAnswered, IsContent, without_options_within, without_options, is_pending, pending_in, is_in_place, IsDocument, Answers, option_edges, by_reference, by_definition, Edge, HasNoCycle, IsInlined}
-use Rattle.schemars_documents.specs.Describes.{Describes}
-use Rattle.schemars_build.specs.Placed.{IsFilledWithin}
+use Rattle.schemars_headline.proofs.Words.{◌||◌, ◌&&◌, not, option_map_or, match_ordering, Data, Members, no_members, member, get_member, Text, references, Entry, numbers_of, Row, entry_at, name_at, is_inline_at, option_at, IsPlainTable, root_document, Basis, Ask, part, members_of, content, IsOwnDocument, IsWritten, plain_rows, IsPlaced, row_asked, Registry, Refers, basis_of_plan, IsSubschema, IsReached, references-root, State, state_plan, registry_of, IsRootOf, with_definitions, ◌⊎◌, nat_eq, list_any, tied_itself, nat_list_cmp_total, eqb-true, list_any-append, insert_key, Walk, one, then, numbers_at, IsAnswered, IsContent, without_options_within, without_options, is_pending, pending_in, is_in_place, IsDocument, Answers, option_edges, by_reference, by_definition, Edge, HasNoCycle, IsInlined, Describes, IsFilledWithin}
 use Rattle.schemars_headline.proofs.AskedRows.{own_asked}
 use Rattle.schemars_headline.proofs.Resolving.{all_pass, described_resolved}
 

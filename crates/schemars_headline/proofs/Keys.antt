@@ -1,9 +1,6 @@
 -- The keys of members, and those of definitions.
 use Rattle.std.proofs.Common.{◌≡◌, ◌⊎◌, inl, inr, ◌∷◌, [], Some, None, true, Ordering, Less, Equal, Greater, nat_cmp, refl, sym, ap, ◌∙◌, true≢false}
-use Rattle.schemars_headline.proofs.Words.{IsOther, codes, match_ordering, slice_cmp, exact_bytes, Data, Members, no_members, member, get_member, Text, is_listed, HasKeysOnce, IsKey}
-use Rattle.schemars_schema.specs.Annotations.{is_annotation}
-use Rattle.schemars_schema.proofs.Objects.{annotation-not_listed}
-use Rattle.schemars_text.proofs.Members.{get_member-here}
+use Rattle.schemars_headline.proofs.Words.{IsOther, codes, match_ordering, slice_cmp, exact_bytes, Data, Members, no_members, member, get_member, Text, is_listed, HasKeysOnce, IsKey, is_annotation, annotation-not_listed, get_member-here}
 
 -- ---- which keys there are
 

@@ -1,9 +1,8 @@
 -- Schemas without a key of definitions: it does not come in where they are put together or opened.
 use Rattle.std.proofs.Common.{◌≡◌, inl, inr, Option, Some, None, Bool, true, false, Ordering, Less, Equal, Greater, nat_cmp, refl, ◌∙◌}
-use Rattle.schemars_headline.proofs.Words.{HasNeither, IsOther, ◌||◌, codes, if◌then◌else◌, bytes_eq, match_ordering, slice_cmp, exact_bytes, Data, null, boolean, number, string, array, object, Items, no_items, Members, no_members, member, put, get_member, get_member-put_other, Text, without, replaced, members_in, flattened, form_at, flattened_part, nat_list_cmp_total, tied_itself, get, removed, changed_at, on_list, contains_key, has_subschema, moved, moved_beside, opened_schema, united, with_united, both_choices, with_choice, is_choice, with_keyword, closes_by, opened_at, opened_here, same_object_place, opening, opened, opened_inside, units_of, with_items, with_units, first_as_objects, list_changed_at, units_as_objects, with_empty_object, one_or_anything, choice_or_anything, optional_where}
+use Rattle.schemars_headline.proofs.Words.{HasNeither, IsOther, ◌||◌, codes, if◌then◌else◌, bytes_eq, match_ordering, slice_cmp, exact_bytes, Data, null, boolean, number, string, array, object, Items, no_items, Members, no_members, member, put, get_member, get_member-put_other, Text, without, replaced, members_in, flattened, form_at, flattened_part, nat_list_cmp_total, tied_itself, get, removed, changed_at, on_list, contains_key, has_subschema, moved, moved_beside, opened_schema, united, with_united, both_choices, with_choice, is_choice, with_keyword, closes_by, opened_at, opened_here, same_object_place, opening, opened, opened_inside, units_of, with_items, with_units, first_as_objects, list_changed_at, units_as_objects, with_empty_object, one_or_anything, choice_or_anything, optional_where, forms, in_keywords}
 use Rattle.schemars_flatten.specs.Flatten as flatten
 use Rattle.schemars_flatten.specs.Flatten.{with_keywords}
-use Rattle.schemars_walk.specs.Rewritten.{forms, in_keywords}
 use Rattle.schemars_headline.proofs.Keys.{IsDefinitionsKey, other_apart}
 
 module _ (key : Text) (is_key : IsDefinitionsKey key) where

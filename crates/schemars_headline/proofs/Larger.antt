@@ -1,14 +1,7 @@
 -- What a generator holds stays its own as rows join its table.
 use Rattle.std.proofs.Common.{◌≡◌, ◌<◌, ◌≤◌, inl, inr, ℕ, zero, suc, List, [], ◌∷◌, take, length, Bool, false, Option, Some, None, IsSome, refl, sym, ap, ◌∙◌, arith, subst, Contains, true≢false}
-use Rattle.schemars_headline.proofs.Words.{◌||◌, ◌&&◌, not, is_some, option_and_then, option_map_or, Data, Text, Entry, Shape, numbers_of, Row, entry_at, is_inline_at, option_at, rank, IsChecked, key_options, flattened_part, Basis, Template, Ask, part, members_of, content, noted, values_template, template_of, IsOwnDocument, IsPlaced, Refers, basis_of_plan, State, state_plan, registry_of, HasOwnDefinitions, row_asked}
+use Rattle.schemars_headline.proofs.Words.{◌||◌, ◌&&◌, not, is_some, option_and_then, option_map_or, Data, Text, Entry, Shape, numbers_of, Row, entry_at, is_inline_at, option_at, rank, IsChecked, key_options, flattened_part, Basis, Template, Ask, part, members_of, content, noted, values_template, template_of, IsOwnDocument, IsPlaced, Refers, basis_of_plan, State, state_plan, registry_of, HasOwnDefinitions, row_asked, option_of, further_rows, length-take, IsContent, Fills, without_options_within, without_options, is_pending, pending_in, IsFilledWithin, StandsApart, Answers, document-wider, option_edges}
 use Rattle.schemars_shapes.specs.Shape as shape
-use Rattle.schemars_shapes.specs.Shape.{option_of}
-use Rattle.schemars_types.proofs.Settling.{further_rows, length-take}
-use Rattle.schemars_documents.specs.Describes.{IsContent, Fills, without_options_within, without_options}
-use Rattle.schemars_build.specs.Placed.{is_pending, pending_in, IsFilledWithin}
-use Rattle.schemars_build.specs.Registry.{StandsApart}
-use Rattle.schemars_build.proofs.Placing.{Answers, document-wider}
-use Rattle.schemars_build.proofs.Asked.{option_edges}
 use Rattle.schemars_headline.proofs.AskedRows.{own_asked}
 
 -- a shape's template stays as rows join that its rows' options do not depend on

@@ -1,7 +1,6 @@
 -- Where the references of a table's documents lead: to the root, or to the definition of their row.
 use Rattle.std.proofs.Common.{◌≡◌, ◌⊎◌, inl, inr, ℕ, suc, ◌+◌, ◌*◌, ◌<◌, ◌≤◌, List, [], ◌∷◌, ◌++◌, map, Option, Some, None, true, Contains, length, refl, sym, ap, ◌∙◌, arith, subst}
-use Rattle.schemars_headline.proofs.Words.{codes, is_some, IsUtf8, Data, object, Members, no_members, member, depth, get_member, members_len, Text, IsSchema, lookup, Patterns, Judge, judge, draft2020_12, count_of_definitions, context2020_12, Shape, Flattened, Entry, Payload, Variant, struct_payload, Row, entry_at, rank, IsChecked, IsWritten, Describes, IsPlainUnder, IsOneToOne, name_of, Plan, Registry, IsKey, reference_to, basis_of_plan, AcceptsItsValues, describes-wider, described, mul-le-mul_left, Contains-append_left, Contains-append_right, lookup-encoded, Tagging, payload_flattened, payload_same, payload_same_by, of_variants, same_value_numbers, entry_low, parts_in, payload_parts, variant_parts, Naming, written_map, IsNewtypeIn, IsSame, References, InList, Setting, written_says, settled, is-schema, lookup-whole}
-use Rattle.schemars_schema.specs.Lookup.{resolved}
+use Rattle.schemars_headline.proofs.Words.{codes, is_some, IsUtf8, Data, object, Members, no_members, member, depth, get_member, members_len, Text, IsSchema, lookup, Patterns, Judge, judge, draft2020_12, count_of_definitions, context2020_12, Shape, Flattened, Entry, Payload, Variant, struct_payload, Row, entry_at, rank, IsChecked, IsWritten, Describes, IsPlainUnder, IsOneToOne, name_of, Plan, Registry, IsKey, reference_to, basis_of_plan, AcceptsItsValues, describes-wider, described, mul-le-mul_left, Contains-append_left, Contains-append_right, lookup-encoded, Tagging, payload_flattened, payload_same, payload_same_by, of_variants, same_value_numbers, entry_low, parts_in, payload_parts, variant_parts, Naming, written_map, IsNewtypeIn, IsSame, References, InList, Setting, written_says, settled, is-schema, lookup-whole, resolved}
 use Rattle.schemars_shapes.specs.Shape as shape
 use Rattle.schemars_types.proofs.Asked.{asked}
 use Rattle.schemars_headline.proofs.Keys.{key_here, key_later, key_cases}

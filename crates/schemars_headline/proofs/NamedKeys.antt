@@ -1,8 +1,6 @@
 -- Each reference in a definition names a key.
 use Rattle.std.proofs.Common.{◌≡◌, ◌⊎◌, inl, inr, ℕ, Bool, true, false, None, true≢false, refl, sym, ap}
-use Rattle.schemars_headline.proofs.Words.{◌||◌, bytes_eq, option_map_or, bytes_eq-Decides, Data, string, Members, no_members, member, Text, references, HasPlainNotesThroughout, IsKey, Refers, reference_to, basis_of_plan, State, state_plan, registry_of, HasOwnDefinitions, document_describes}
-use Rattle.serde_json.specs.Find.{as_str}
-use Rattle.schemars_headline.specs.State.{ReferencesNameKeys}
+use Rattle.schemars_headline.proofs.Words.{◌||◌, bytes_eq, option_map_or, bytes_eq-Decides, Data, string, Members, no_members, member, Text, references, HasPlainNotesThroughout, IsKey, Refers, reference_to, basis_of_plan, State, state_plan, registry_of, HasOwnDefinitions, document_describes, as_str, ReferencesNameKeys}
 use Rattle.schemars_headline.proofs.Keys.{key_here, key_later, key_cases}
 use Rattle.schemars_headline.proofs.Resolving.{resolve-each, described_resolved}
 

@@ -1,8 +1,7 @@
 -- Each definition of a root document is reached from it, where there were none before.
 use Rattle.std.proofs.Common.{◌≡◌, inl, inr, ℕ, List, [], true, Some, None, sym, ap, ◌∙◌, subst}
-use Rattle.schemars_headline.proofs.Words.{Data, object, Members, no_members, put, get_member, pointer, get_member-put, Text, without, members_in, references, name_at, root_document, IsPlainTable, plain_rows, references-root, Plan, Registry, Refers, IsKey, basis_of_plan, IsReached, document_describes, State, path_of, state_plan, IsRootOf, IsDraftPath}
+use Rattle.schemars_headline.proofs.Words.{Data, object, Members, no_members, put, get_member, pointer, get_member-put, Text, without, members_in, references, name_at, root_document, IsPlainTable, plain_rows, references-root, Plan, Registry, Refers, IsKey, basis_of_plan, IsReached, document_describes, State, path_of, state_plan, IsRootOf, IsDraftPath, key_of, references_outside, DefinitionsAreReached, NeedsItsDefinitions}
 use Rattle.schemars_definitions.proofs.Members.{without-put}
-use Rattle.schemars_headline.specs.Needed.{key_of, references_outside, DefinitionsAreReached, NeedsItsDefinitions}
 use Rattle.schemars_headline.proofs.Keys.{IsDefinitionsKey}
 use Rattle.schemars_headline.proofs.OwnKeys.{no_definitions_in}
 use Rattle.schemars_headline.proofs.Placed.{StandsAt, IsPlaced, placed_in, draft_key, stands_key, pointer_key}

@@ -1,8 +1,6 @@
 -- Paths without what is stripped.
 use Rattle.std.proofs.Common.{◌≡◌, ◌≢◌, ◌++◌, [], ◌∷◌, Bool, true, false, refl, ap}
-use Rattle.schemars_headline.proofs.Words.{◌==◌, if◌then◌else◌, Text}
-use Rattle.std.proofs.lemmas.Bool.{eqb-true}
-use Rattle.schemars_headline.specs.State.{without_hash, without_slash}
+use Rattle.schemars_headline.proofs.Words.{◌==◌, if◌then◌else◌, Text, eqb-true, without_hash, without_slash}
 
 pub hash_gone : (path rest : Text) → path ≡ 35 ∷ rest → without_hash path ≡ rest
 hash_gone path rest is = ap without_hash is

@@ -1,10 +1,6 @@
 -- Documents with definitions at a path: how they are placed, and found again.
 use Rattle.std.proofs.Common.{◌≡◌, ◌⊎◌, inl, inr, [], ◌∷◌, Some, None, refl, sym, ap, ◌∙◌, subst, arith}
-use Rattle.schemars_headline.proofs.Words.{codes, Data, object, Members, no_members, member, put, get_member, pointer, get_member-put, Text, members_in, lookup, count_of_definitions, placed_at, IsDraftPath, with_definitions}
-use Rattle.serde_json.specs.Find.{walk, unescape}
-use Rattle.schemars_schema.specs.Placing.{placed}
-use Rattle.schemars_schema.proofs.Encodings.{lookup-ascii}
-use Rattle.schemars_headline.specs.Headline.{IsKnownPath, IsHolding}
+use Rattle.schemars_headline.proofs.Words.{codes, Data, object, Members, no_members, member, put, get_member, pointer, get_member-put, Text, members_in, lookup, count_of_definitions, placed_at, IsDraftPath, with_definitions, walk, unescape, placed, lookup-ascii, IsKnownPath, IsHolding}
 use Rattle.schemars_headline.proofs.Keys.{IsDefinitionsKey}
 use Rattle.schemars_headline.proofs.Leading.{HoldsDefinitions, holds_at}
 

@@ -1,15 +1,6 @@
 -- What holds of the references of a document holds of those after the transforms of the drafts.
 use Rattle.std.proofs.Common.{◌≡◌, ◌≢◌, Option, Some, None, Bool, true, false, codes, refl, sym, ◌∙◌, subst}
-use Rattle.schemars_headline.proofs.Words.{if◌then◌else◌, ◌==◌, Data, array, object, Members, no_members, member, put, get_member, members_len, get_member-put_other, Text, IsSchema, draft2020_12, without, differ, reference_moved, without_siblings, remove_ref_siblings, prefix_moved, old_items_moved, prefix_as_items, unevaluated_as_additional, closed_by, replace_unevaluated_properties, Everywhere, asked_of_keywords, IsOnce, IsSchemaList, change_rules, walked, weaker, absent-once, for_draft07, for_draft2019_09, IsTextWith, Stands, IsForOpenApi, text-alone}
-use Rattle.schemars_laws.specs.Everywhere.{asked}
-use Rattle.schemars_laws.specs.Classes.{HasPlainReference}
-use Rattle.schemars_laws.proofs.Looked.{list-walked, raw-walked, once-walked, without-other}
-use Rattle.schemars_laws.proofs.Siblings.{schema-siblings, moved_members, get-moved}
-use Rattle.schemars_laws.proofs.PrefixItems.{prefix_items}
-use Rattle.schemars_laws.proofs.Unevaluated.{schema-unevaluated, none-kept}
-use Rattle.schemars_laws.proofs.Preserved.{Preserves, after, change-preserves, asked-without, asked-put, asked-get}
-use Rattle.schemars_laws.proofs.Editing.{without-put, asked-moved}
-use Rattle.schemars_laws.proofs.Plain.{Alike, reference-walked, reference-alike, alike-without, without-swap}
+use Rattle.schemars_headline.proofs.Words.{if◌then◌else◌, ◌==◌, Data, array, object, Members, no_members, member, put, get_member, members_len, get_member-put_other, Text, IsSchema, draft2020_12, without, differ, reference_moved, without_siblings, remove_ref_siblings, prefix_moved, old_items_moved, prefix_as_items, unevaluated_as_additional, closed_by, replace_unevaluated_properties, Everywhere, asked_of_keywords, IsOnce, IsSchemaList, change_rules, walked, weaker, absent-once, for_draft07, for_draft2019_09, IsTextWith, Stands, IsForOpenApi, text-alone, asked, HasPlainReference, list-walked, raw-walked, once-walked, without-other, schema-siblings, moved_members, get-moved, prefix_items, schema-unevaluated, none-kept, Preserves, after, change-preserves, asked-without, asked-put, asked-get, without-put, asked-moved, Alike, reference-walked, reference-alike, alike-without, without-swap}
 use Rattle.schemars_headline.proofs.Changes.{IsDraft2019_09}
 
 module _ (R : Text → Type 0) where

@@ -1,13 +1,7 @@
 -- Every reference of a document passes a test, where those to other rows do: it resolves, or it names a key.
 use Rattle.std.proofs.Common.{◌≡◌, ◌<◌, inl, inr, ℕ, zero, suc, List, [], ◌∷◌, ◌++◌, length, get_or, Option, Bool, true, Ordering, Less, Equal, Greater, nat_cmp, Contains, refl, sym, ap, ◌∙◌, arith}
-use Rattle.schemars_headline.proofs.Words.{◌&&◌, match_ordering, slice_cmp, exact_bytes, Data, string, object, Members, no_members, member, put, Text, IsSchema, references, resolves, all_resolve, root_document, Basis, IsWritten, Describes, references-root, HasPlainNotesThroughout}
-use Rattle.std.specs.List.{All}
-use Rattle.std.proofs.lemmas.List.Elements.{All-head, All-tail}
-use Rattle.schemars_schema.specs.References.{found_in, found_in_members, found_in_keywords}
-use Rattle.schemars_schema.proofs.Contents.{found_under}
-use Rattle.schemars_meaning.proofs.Referring.{IsReferring, described_refers, written_refers}
+use Rattle.schemars_headline.proofs.Words.{◌&&◌, match_ordering, slice_cmp, exact_bytes, Data, string, object, Members, no_members, member, put, Text, IsSchema, references, resolves, all_resolve, root_document, Basis, IsWritten, Describes, references-root, HasPlainNotesThroughout, All, All-head, All-tail, found_in, found_in_members, found_in_keywords, found_under, IsReferring, described_refers, written_refers, and_parts}
 use Rattle.schemars_headline.proofs.Keys.{AllMembers, IsDefinitionsKey}
-use Rattle.std.proofs.lemmas.Bool.{and_parts}
 
 -- all of these references pass a test
 abbrev pub all_pass : (Data → Bool) → List Data → Bool

@@ -1,14 +1,11 @@
 -- Root documents are ones that the laws of the drafts speak of, with their definitions, where the documents of rows are.
 use Rattle.std.proofs.Common.{◌≡◌, ℕ, List, [], inl, inr, Option, Some, None, Bool, true, false, codes, refl, sym, ap, ◌∙◌, subst, arith, true≢false}
-use Rattle.schemars_headline.proofs.Words.{is_some, if◌then◌else◌, bytes_eq, IsUtf8, Data, null, boolean, number, string, array, object, Members, no_members, member, put, get_member, get_member-put, Text, is_listed, members_in, SchemasByName, place_under, Shape, Entry, Row, name_at, entry_at, with_title, with_meta_schema, root_document, HasPlainLiteral, IsNotedEntry, HasPlainNotes, IsNotedThroughout, HasPlainNotesThroughout, Describes, Plan, Registry, Refers, reference_to, basis_of_plan, describes-wider, document_describes, State, path_of, state_plan, IsRootOf, IsDraftPath, HasKeysOnce, Everywhere, demanded, asked_of_members, IsName, IsMap}
+use Rattle.schemars_headline.proofs.Words.{is_some, if◌then◌else◌, bytes_eq, IsUtf8, Data, null, boolean, number, string, array, object, Members, no_members, member, put, get_member, get_member-put, Text, is_listed, members_in, SchemasByName, place_under, Shape, Entry, Row, name_at, entry_at, with_title, with_meta_schema, root_document, HasPlainLiteral, IsNotedEntry, HasPlainNotes, IsNotedThroughout, HasPlainNotesThroughout, Describes, Plan, Registry, Refers, reference_to, basis_of_plan, describes-wider, document_describes, State, path_of, state_plan, IsRootOf, IsDraftPath, HasKeysOnce, Everywhere, demanded, asked_of_members, IsName, IsMap, IsNotedShape, asked, defs-name, definitions-name}
 use Rattle.schemars_shapes.specs.Shape as shape
-use Rattle.schemars_documents.specs.PlainTable.{IsNotedShape}
 use Rattle.schemars_headline.proofs.Keys.{AllMembers, all_members, IsDefinitionsKey}
 use Rattle.schemars_headline.proofs.OwnKeys.{no_definitions_in}
 use Rattle.schemars_headline.proofs.Standing.{MayRefer, AllStand, refers_may}
 use Rattle.schemars_headline.proofs.Placed.{StandsAt, IsPlaced, stands_key, placed_in}
-use Rattle.schemars_laws.specs.Everywhere.{asked}
-use Rattle.schemars_laws.proofs.References.{defs-name, definitions-name}
 use Rattle.schemars_headline.proofs.Changes.{IsUnwatched, Demand, Class, AreGood, are-put, IsGood, good, good-members, watched}
 
 -- ---- where definitions are

@@ -1,11 +1,7 @@
 -- All root documents of a row accept the same values: those with rows in place and those with references, each in its own draft.
 use Rattle.std.proofs.Common.{◌≡◌, ℕ, List, inl, inr, Bool, true, false, sym, subst}
-use Rattle.schemars_headline.proofs.Words.{Data, Text, Dialect, Row, State, path_of, MeansItsType}
-use Rattle.schemars_schema.specs.Verdict.{Verdict, verdict}
+use Rattle.schemars_headline.proofs.Words.{Data, Text, Dialect, Row, State, path_of, MeansItsType, Verdict, verdict, belongs, RootHeadline, IsSameAnswer, HaveSameAcceptance, RootsHaveSameAcceptance}
 use Rattle.schemars_types.specs.declared.contract.Contract.{Contract}
-use Rattle.schemars_types.specs.Meaning.{belongs}
-use Rattle.schemars_headline.specs.Headline.{RootHeadline}
-use Rattle.schemars_headline.specs.Same.{IsSameAnswer, HaveSameAcceptance, RootsHaveSameAcceptance}
 
 told : (x y : Verdict) (b : Bool) → x ≡ verdict b → y ≡ verdict b → IsSameAnswer x y
 told x y true h g = inl (h, g)

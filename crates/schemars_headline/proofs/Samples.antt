@@ -1,11 +1,10 @@
 -- Root documents of examples accept them in Draft 7 and 2019-09 too, after the transforms of these drafts.
 use Rattle.std.proofs.Common.{◌≡◌, ℕ, List, [], ◌∷◌, inl, inr, Option, Some, None, true, codes, refl, sym, ap, ◌∙◌, subst}
-use Rattle.schemars_headline.proofs.Words.{Data, null, boolean, number, string, array, object, no_items, item, Members, no_members, put, get_member, items_of, Text, is_listed, members_in, Dialect, Patterns, draft2020_12, draft2019_09, draft07, accepts, follow, differ, IsSilent, without_siblings, remove_ref_siblings, prefix_as_items, replace_prefix_items, unevaluated_as_additional, replace_unevaluated_properties, with_definitions, IsDraftPath, Everywhere, asked_of_members, IsOnce, AreSchemas, HasPlainItems, IsTextWith, Stands, IsForOpenApi, for_draft07, for_draft2019_09, change_rules, weaker, text-alone, Draft2020_12, Draft2019_09, Draft07, keyword_names, Yes, context, Example, truth, whole, decimal, character, text, bytes, no_value, some_value, unit_struct, newtype_struct, newtype_variant, seq, tuple, tuple_variant, collected_map, struct_variant, Examples, no_examples, example, Entries, no_entries, entry, sample_json, json_array, sample_schema, item_schemas, entry_schemas, value_schemas, choice_among, one_beside, shared_by, tuple_schema, struct_schema, map_schema, titled_schema, with_name, with_example, sample_root, AcceptsExample, one_beside-holds, shared_by-holds, root_free, Rules, rewritten, HasPlainUnevaluated, NamedBy, HasPlainReference, HasNoUnevaluated, alone_by, without_unevaluated, AfterNullable, AfterSiblings, Rewrites, schema-moved, none-plain, const-plain, after, keep-unevaluated, keep-siblings, text-named, unevaluated-moves, siblings-moves, prefix-moves, Draft, dialect_of, made_for, AcceptsExampleUnder, DraftSamples}
+use Rattle.schemars_headline.proofs.Words.{Data, null, boolean, number, string, array, object, no_items, item, Members, no_members, put, get_member, items_of, Text, is_listed, members_in, Dialect, Patterns, draft2020_12, draft2019_09, draft07, accepts, follow, differ, IsSilent, without_siblings, remove_ref_siblings, prefix_as_items, replace_prefix_items, unevaluated_as_additional, replace_unevaluated_properties, with_definitions, IsDraftPath, Everywhere, asked_of_members, IsOnce, AreSchemas, HasPlainItems, IsTextWith, Stands, IsForOpenApi, for_draft07, for_draft2019_09, change_rules, weaker, text-alone, Draft2020_12, Draft2019_09, Draft07, keyword_names, Yes, context, Example, truth, whole, decimal, character, text, bytes, no_value, some_value, unit_struct, newtype_struct, newtype_variant, seq, tuple, tuple_variant, collected_map, struct_variant, Examples, no_examples, example, Entries, no_entries, entry, sample_json, json_array, sample_schema, item_schemas, entry_schemas, value_schemas, choice_among, one_beside, shared_by, tuple_schema, struct_schema, map_schema, titled_schema, with_name, with_example, sample_root, AcceptsExample, one_beside-holds, shared_by-holds, root_free, Rules, rewritten, HasPlainUnevaluated, NamedBy, HasPlainReference, HasNoUnevaluated, alone_by, without_unevaluated, AfterNullable, AfterSiblings, Rewrites, schema-moved, none-plain, const-plain, after, keep-unevaluated, keep-siblings, text-named, unevaluated-moves, siblings-moves, prefix-moves, Draft, dialect_of, made_for, AcceptsExampleUnder, DraftSamples, asked}
 use Rattle.schemars_types.specs.declared.contract.Contract.TheVariants.{Serialize}
 use Rattle.schemars_sample.specs.Example.{unit_variant, struct}
 use Rattle.schemars_headline.proofs.Keys.{IsDefinitionsKey}
 use Rattle.schemars_headline.proofs.Placed.{StandsAt, IsPlaced, placed_in, draft_key}
-use Rattle.schemars_laws.specs.Everywhere.{asked}
 use Rattle.schemars_headline.proofs.Changes.{Demand, without_rest, Class, IsDraft2019_09, for_openapi, for_items, AreGood, are-put, IsGood, good, good_truth, good-members, good-allow_null}
 use Rattle.schemars_headline.proofs.Documents.{own-items, type-good, are-typed, char-good, bytes-good, seq-good, AllGood, asked-items, any_of-good, asked-named}
 use Rattle.schemars_headline.proofs.RootClass.{are-with_meta_schema, same_key, with-definitions}

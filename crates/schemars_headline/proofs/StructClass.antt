@@ -1,13 +1,10 @@
 -- In a table that is plain under its contract the document of each row is one that the law of 2019-09 speaks of, those of structs with
 -- flattened enums too.
 use Rattle.std.proofs.Common.{◌≡◌, ℕ, zero, inr, List, [], ◌∷◌, Option, Some, None, Bool, true, false, codes, refl, sym, ap, ◌∙◌, subst, arith}
-use Rattle.schemars_headline.proofs.Words.{bytes_eq-Decides, bytes_eq, if◌then◌else◌, Data, null, array, object, Members, no_members, member, get_member, items_of, Text, is_listed, NoSchemas, OneSchema, SchemaList, place_under, Judge, draft2020_12, follow, context2020_12, flattened, Everywhere, demanded, asked_of_items, asked_of_keywords, AreSchemas, IsSchemaList, IsTextWith, AreSomeTypes, absent-once, Field, Flattened, Fields, Entry, Row, entry_at, Keyword, required_names, AreNoted, IsNotedThroughout, Basis, Ask, part, members_of, Template, asks_of, filled, with_flattened, struct_template, Describes, Fit, under_rows, with_same_object, with_same_objects, Context, get_member-here, get_member-later, IsNoObject, IsNoList, VariantMatch, is_required, ArePartsUnder, IsEntryUnder, with_keywords, first, fields_template, parted, map_fills, field_keywords, IsSorted, get_member-above, Part, Parts, objects, unevaluated_beside, unevaluated_there, struct_keywords, IsForm, no_parts, IsItem, AllItems, PartsAre, OneIs, IsStruct, under_apart, struct_stands, tell_inside, IsSettled}
+use Rattle.schemars_headline.proofs.Words.{bytes_eq-Decides, bytes_eq, if◌then◌else◌, Data, null, array, object, Members, no_members, member, get_member, items_of, Text, is_listed, NoSchemas, OneSchema, SchemaList, place_under, Judge, draft2020_12, follow, context2020_12, flattened, Everywhere, demanded, asked_of_items, asked_of_keywords, AreSchemas, IsSchemaList, IsTextWith, AreSomeTypes, absent-once, Field, Flattened, Fields, Entry, Row, entry_at, Keyword, required_names, AreNoted, IsNotedThroughout, Basis, Ask, part, members_of, Template, asks_of, filled, with_flattened, struct_template, Describes, Fit, under_rows, with_same_object, with_same_objects, Context, get_member-here, get_member-later, IsNoObject, IsNoList, VariantMatch, is_required, ArePartsUnder, IsEntryUnder, with_keywords, first, fields_template, parted, map_fills, field_keywords, IsSorted, get_member-above, Part, Parts, objects, unevaluated_beside, unevaluated_there, struct_keywords, IsForm, no_parts, IsItem, AllItems, PartsAre, OneIs, IsStruct, under_apart, struct_stands, tell_inside, IsSettled, asked, closed_there, all_there, one_there}
 use Rattle.schemars_flatten.proofs.Kept as kept
-use Rattle.schemars_laws.specs.Everywhere.{asked}
 use Rattle.schemars_types.specs.declared.contract.Contract.{Contract}
-use Rattle.schemars_documents.specs.Template.{asked as asked_for}
-use Rattle.schemars_meaning.proofs.MapKeywords.{closed_there}
-use Rattle.schemars_meaning.proofs.StructForm.{all_there, one_there}
+use Rattle.schemars_templates.specs.Template.{asked as asked_for}
 use Rattle.schemars_headline.proofs.Changes.{Demand, with_rest, Class, class-of, nothing, are-put, IsGood, good}
 use Rattle.schemars_headline.proofs.Documents.{map-good, fields-named}
 use Rattle.schemars_headline.proofs.Held.{by_listed, by_place, Holds, HoldsList, HoldsEach, HoldsAt, holds-everywhere, held-members, flattened-holds, part-holds}

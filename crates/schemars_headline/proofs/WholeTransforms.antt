@@ -1,7 +1,6 @@
 -- Built-in transforms leave the numbers of a document whole.
 use Rattle.std.proofs.Common.{◌≡◌, List, [], ◌∷◌, Option, Some, None, Bool, true, false, refl}
-use Rattle.schemars_headline.proofs.Words.{bytes_eq, codes, is_some, option_and_then, if◌then◌else◌, Data, null, boolean, number, string, array, object, Items, no_items, item, Members, no_members, member, put, get_member, has_float, members_have_float, Text, members_in, holds_text, Place, NoSchemas, OneSchema, SchemaList, SchemaOrList, SchemasByName, form_at, reference_moved, without_siblings, old_items_moved, prefix_moved, prefix_as_items, closed_by, unevaluated_as_additional, as_str, get, items_have_float, inserted, removed, put_missing, with_last, has_one_member, members_have_float-put, Rules, Forms, rewritten, everywhere, all_changed, bool_rules, referring, first_as_example, with_single_example, value_as_enum, const_as_enum, all_null, is_null_name, without_null, one_or_list, type_without_null, null_taken_out, null_alone, null_among, nullable_by, with_nullable, nulls_in, with_names, object_with_names, properties_made, properties_named, property_names, with_properties, format_rules, format_stays, function_of, made_by, value_made_by, each_made_by, or_parts}
-use Rattle.schemars_walk.specs.Rewritten.{forms, in_items, in_names, in_keywords}
+use Rattle.schemars_headline.proofs.Words.{bytes_eq, codes, is_some, option_and_then, if◌then◌else◌, Data, null, boolean, number, string, array, object, Items, no_items, item, Members, no_members, member, put, get_member, has_float, members_have_float, Text, members_in, holds_text, Place, NoSchemas, OneSchema, SchemaList, SchemaOrList, SchemasByName, form_at, reference_moved, without_siblings, old_items_moved, prefix_moved, prefix_as_items, closed_by, unevaluated_as_additional, as_str, get, items_have_float, inserted, removed, put_missing, with_last, has_one_member, members_have_float-put, Rules, Forms, rewritten, everywhere, all_changed, bool_rules, referring, first_as_example, with_single_example, value_as_enum, const_as_enum, all_null, is_null_name, without_null, one_or_list, type_without_null, null_taken_out, null_alone, null_among, nullable_by, with_nullable, nulls_in, with_names, object_with_names, properties_made, properties_named, property_names, with_properties, format_rules, format_stays, function_of, made_by, value_made_by, each_made_by, or_parts, forms, in_items, in_names, in_keywords}
 use Rattle.schemars_transform.specs.declared.gen_transform.GenTransform.{GenTransform}
 use Rattle.schemars_transform.specs.declared.gen_transform.GenTransform.TheVariants.{ReplaceBoolSchemas, RemoveRefSiblings, SetSingleExample, ReplaceConstValue, ReplacePrefixItems, AddNullable, ReplaceUnevaluatedProperties, RestrictFormats, Own}
 use Rattle.schemars_transform.specs.declared.built_in.nullable.AddNullable as options

@@ -2,7 +2,7 @@
 use Rattle.std.specs.Prelude.{◌≡◌, ℕ, List, [], true, false, Some, None}
 use Rattle.serde_json.specs.Data.{Data}
 use Rattle.schemars_schema.specs.Json.{Text}
-use Rattle.schemars_documents.specs.Documents.{reference}
+use Rattle.schemars_templates.specs.Finished.{reference}
 use Rattle.schemars_documents.specs.PlainTable.{IsPlainTable}
 use Rattle.schemars_build.specs.Naming.{name_of}
 use Rattle.schemars_build.specs.Placed.{is_in_place}

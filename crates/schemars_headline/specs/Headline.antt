@@ -5,16 +5,18 @@ use Rattle.serde_json.specs.Data.{Data, object, Members, no_members, member}
 use Rattle.serde_json.specs.Find.{get_member, pointer}
 use Rattle.schemars_schema.specs.Verdict.{verdict}
 use Rattle.schemars_schema.specs.Json.{Text, IsJson}
-use Rattle.schemars_schema.specs.Acceptance.{Dialect, Patterns, draft2020_12, accepts, bound}
+use Rattle.schemars_schema.specs.Dialects.{Dialect, draft2020_12}
+use Rattle.schemars_schema.specs.Judges.{Patterns}
+use Rattle.schemars_schema.specs.Acceptance.{accepts, bound}
 use Rattle.schemars_schema.specs.References.{ReferencesResolve, all_resolve, references}
 use Rattle.schemars_schema.specs.Placing.{placed_at}
 use Rattle.schemars_types.specs.Rows.{Row, name_at}
 use Rattle.schemars_types.specs.Edges.{numbers_at}
-use Rattle.schemars_types.specs.Walks.{OnCycle, IsFree}
+use Rattle.schemars_cycles.specs.Walks.{OnCycle, IsFree}
 use Rattle.schemars_types.specs.declared.contract.Contract.{Contract}
 use Rattle.schemars_types.specs.Meaning.{belongs}
 use Rattle.schemars_documents.specs.PlainTable.{IsPlainTable, IsPlainUnder}
-use Rattle.schemars_documents.specs.Documents.{root_document}
+use Rattle.schemars_templates.specs.Finished.{root_document}
 use Rattle.schemars_build.specs.Registry.{Registry, Step}
 use Rattle.schemars_build.specs.Parts.{IsDocumentOf}
 use Rattle.schemars_build.specs.Reached.{AreReached}

@@ -3,7 +3,9 @@ use Rattle.std.specs.Prelude.{◌≡◌, ◌⊎◌, ◌≤◌, ℕ}
 use Rattle.serde_json.specs.Data.{Data}
 use Rattle.schemars_schema.specs.Json.{Text, IsJson}
 use Rattle.schemars_schema.specs.Verdict.{Verdict, Yes, No}
-use Rattle.schemars_schema.specs.Acceptance.{Dialect, Patterns, accepts, bound}
+use Rattle.schemars_schema.specs.Dialects.{Dialect}
+use Rattle.schemars_schema.specs.Judges.{Patterns}
+use Rattle.schemars_schema.specs.Acceptance.{accepts, bound}
 use Rattle.schemars_headline.specs.State.{State, path_of, HasOwnDefinitions}
 use Rattle.schemars_headline.specs.Headline.{IsPlainFor, IsDraftPath}
 

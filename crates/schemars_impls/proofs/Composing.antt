@@ -2,9 +2,7 @@
 use Rattle.std.proofs.Common.{◌≡◌, inl, List, sym, subst}
 use Rattle.schemars_types.specs.declared.error.TypesError.{TypesError}
 use Rattle.schemars_types.specs.declared.error.TypesError.TheVariants.{OutOfMemory}
-use Rattle.schemars_types.specs.Rows.{Row}
-use Rattle.schemars_impls.specs.Dictionary.{Dictionary, Follows, TypeRow, IsInPart, KeepsTo, RefusesAs, Describes, RefusesPart, RefusesType}
-use Rattle.schemars_impls.specs.Keeps.{Keeps, KeepsRows}
+use Rattle.schemars_impls.proofs.Words.{Row, Dictionary, Follows, TypeRow, IsInPart, KeepsTo, RefusesAs, Describes, RefusesPart, RefusesType, Keeps, KeepsRows}
 use Rattle.schemars_impls.proofs.Keeping.{keeps-refl, keeps-same, keeps-trans, place_of-kept, known-one, known-two, known_cons}
 use Rattle.schemars_impls.proofs.Placing.{known_more, place_added, adds_none, adds_then, adds_placed}
 

@@ -1,16 +1,6 @@
 -- Tables that follow a dictionary, as rows join and are defined.
 use Rattle.std.proofs.Common.{◌≡◌, ◌⊎◌, inl, inr, ◌<◌, ◌+◌, ℕ, zero, suc, List, [], ◌∷◌, ◌++◌, Bool, true, false, Option, IsSome, Some, None, cond, length, is_some, option_map, option_and_then, refl, ap, sym, ◌∙◌, subst, arith, if◌then◌else◌, ◌==◌}
-use Rattle.std.specs.List.{position_from}
-use Rattle.std.specs.Str.{bytes_eq}
-use Rattle.std.proofs.lemmas.Slice.Eq.{bytes_eq-Decides}
-use Rattle.schemars_schema.specs.Json.{Text}
-use Rattle.schemars_shapes.specs.Shape.{Entry, array, tuple, in_place}
-use Rattle.schemars_types.specs.Rows.{Row, place_of, entry_at, id_at, name_at, reserved, defined}
-use Rattle.schemars_types.proofs.Registered.{place_of-below}
-use Rattle.schemars_types.proofs.TableLemmas.{reserved-absent, place_of-defined}
-use Rattle.schemars_impls.specs.Describes.{Making, Always, OfOne, OfTwo, OfAll, OfArray, Unsaid, IsMade, places_of}
-use Rattle.schemars_impls.specs.Dictionary.{Told, Stage, Defined, Pending, Open, Dictionary, staged, IsNamed, IsEntryOf, IsAtStage, IsAsTold, Follows, IsFree, IsLeft}
-use Rattle.schemars_impls.specs.Keeps.{Keeps}
+use Rattle.schemars_impls.proofs.Words.{position_from, bytes_eq, bytes_eq-Decides, Text, Entry, array, tuple, in_place, Row, place_of, entry_at, id_at, name_at, reserved, defined, place_of-below, reserved-absent, place_of-defined, Making, Always, OfOne, OfTwo, OfAll, OfArray, Unsaid, IsMade, places_of, Told, Stage, Defined, Pending, Open, Dictionary, staged, IsNamed, IsEntryOf, IsAtStage, IsAsTold, Follows, IsFree, IsLeft, Keeps}
 use Rattle.schemars_impls.proofs.Keeping.{keeps-refl, place_of-kept, reserved_keeps, all-joined}
 use Rattle.schemars_impls.proofs.Placing.{places_of-kept}
 

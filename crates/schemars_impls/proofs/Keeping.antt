@@ -1,19 +1,7 @@
 -- Tables that keep their rows: that they do, and what lasts in them.
 use Rattle.std.proofs.Common.{◌≡◌, ◌≤◌, ◌<◌, ◌+◌, ℕ, zero, suc, List, [], ◌∷◌, ◌++◌, Bool, true, false, not, Option, Some, None, cond, length, find, nat_le, is_some, option_map, option_and_then, refl, ap, sym, ◌∙◌, subst, arith, if◌then◌else◌}
-use Rattle.std.specs.List.{position_from}
-use Rattle.std.specs.Option.{option_map_or}
-use Rattle.std.specs.Str.{bytes_eq}
-use Rattle.schemars_schema.specs.Json.{Text}
-use Rattle.schemars_shapes.specs.Equality.{entry_eq}
-use Rattle.schemars_shapes.specs.Shape.{Entry}
-use Rattle.schemars_shapes.proofs.EqualEntries.{same_entry}
+use Rattle.schemars_impls.proofs.Words.{position_from, option_map_or, bytes_eq, Text, entry_eq, Entry, same_entry, first_unknown, refusal_of, Registers, Row, place_of, entry_at, reserved, defined, holds_another, place_of-below, nat_le-above, entry_at-joined, known_in_more, place_of-reserved, reserved-absent, place_of-defined, entry_under, Keeps, AllContinue, Continues}
 use Rattle.schemars_types.specs.declared.error.TypesError.TheVariants.{AlreadyDefined, UnknownType}
-use Rattle.schemars_types.specs.Refusals.{first_unknown, refusal_of, Registers}
-use Rattle.schemars_types.specs.Rows.{Row, place_of, entry_at, reserved, defined, holds_another}
-use Rattle.schemars_types.proofs.Registered.{place_of-below, nat_le-above, entry_at-joined, known_in_more}
-use Rattle.schemars_types.proofs.TableLemmas.{place_of-reserved, reserved-absent, place_of-defined}
-use Rattle.schemars_impls.specs.Describes.{entry_under}
-use Rattle.schemars_impls.specs.Keeps.{Keeps, AllContinue, Continues}
 
 continues-trans : (r s t : Row) → Continues r s → Continues s t → Continues r t
 continues-trans r s t (id1, name1, entry1) (id2, name2, entry2) = (id2 ∙ id1, name2 ∙ name1, λ e is. entry2 e (entry1 e is))

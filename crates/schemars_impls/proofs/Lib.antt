@@ -6,3 +6,4 @@ pub mod Composing
 pub mod OwnRows
 pub mod Noting
 pub mod OwnTypes
+mod Words

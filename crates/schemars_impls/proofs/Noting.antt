@@ -1,11 +1,6 @@
 -- The last of several fields or variants is annotated: what they are then, and that their numbers are the same.
 use Rattle.std.proofs.Common.{◌≡◌, ◌+◌, ℕ, zero, suc, List, [], ◌∷◌, ◌++◌, length, map, find, nat_le, None, refl, ap, sym, subst, ◌∙◌, arith, slice_set, slice_index_or, Result, Ok, Err, OnOk, OnErr}
-use Rattle.serde_json.specs.Data.{Data}
-use Rattle.schemars_schema.specs.Json.{Text}
-use Rattle.schemars_shapes.specs.Shape.{Field, Variant, payload_numbers, variant_numbers}
-use Rattle.schemars_types.specs.Rows.{Row}
-use Rattle.schemars_impls.specs.Fields.{FieldsAreKnown, VariantsAreKnown}
-use Rattle.schemars_impls.specs.Notes.{at_last, noted_field, noted_variant}
+use Rattle.schemars_impls.proofs.Words.{Data, Text, Field, Variant, payload_numbers, variant_numbers, Row, FieldsAreKnown, VariantsAreKnown, at_last, noted_field, noted_variant}
 
 -- The last element is replaced by one that shows as its change.
 pub last-changed : {A B : Type 0} (show : A → B) (change : B → B) (xs : List A) (i : ℕ) (x e : A) → i + 1 ≡ length xs

@@ -1,21 +1,9 @@
 -- Rows that a type of one's own is made of besides those of other types, in tables that follow a dictionary.
 use Rattle.std.proofs.Common.{◌≡◌, ◌⊎◌, ◌≤◌, inl, inr, ℕ, List, [], ◌∷◌, ◌++◌, Bool, true, false, Option, Some, None, IsSome, length, find, nat_le, is_some, option_map, option_and_then, refl, ap, sym, ◌∙◌, subst, arith, ◌==◌, if◌then◌else◌}
-use Rattle.std.proofs.lemmas.Bool.Decides.{nat_tests}
-use Rattle.schemars_schema.specs.Json.{Text}
-use Rattle.schemars_shapes.specs.Shape.{Entry, in_place, option, seq, set, tuple, array, array_of, map_from}
+use Rattle.schemars_impls.proofs.Words.{nat_tests, Text, Entry, in_place, option, seq, set, tuple, array, array_of, map_from, option_id, option_name, seq_id, seq_name, set_id, set_name, array_id, array_name, map_id, map_name, Refuses, Registers, Row, place_of, id_at, name_at, reserved, defined, unknown_in, with_entry, place_of-below, nat_le-above, place_of-reserved, reserved-absent, place_of-defined, IsMade, Making, OfOne, OfArray, Told, Dictionary, IsNamed, Follows, TypeRow, IsTold, IsLeft, IsIn, IsInPart, KeepsTo, RefusesAs, RefusesPart, of_one, of_two, option_row, seq_row, set_row, array_row, map_row, RefusesNumbers, IsNumber, HasMap, IsMapOf, with_row, HasRow, HasRowOf, HasOptionOf, HasSeqOf, HasSetOf, IsReserved, IsCalled, called, IsMadeOf, IsOptionOf, IsSeqOf, IsSetOf, IsArrayOf, Keeps, KeepsRows}
 use Rattle.schemars_types.specs.declared.error.TypesError.{TypesError}
 use Rattle.schemars_types.specs.declared.error.TypesError.TheVariants.{OutOfMemory, UnknownType}
 use Rattle.schemars_types.specs.declared.error.TypesError.TheVariants as fault
-use Rattle.schemars_types.specs.Names.{option_id, option_name, seq_id, seq_name, set_id, set_name, array_id, array_name, map_id, map_name}
-use Rattle.schemars_types.specs.Refusals.{Refuses, Registers}
-use Rattle.schemars_types.specs.Rows.{Row, place_of, id_at, name_at, reserved, defined, unknown_in, with_entry}
-use Rattle.schemars_types.proofs.Registered.{place_of-below, nat_le-above}
-use Rattle.schemars_types.proofs.TableLemmas.{place_of-reserved, reserved-absent, place_of-defined}
-use Rattle.schemars_impls.specs.Describes.{IsMade, Making, OfOne, OfArray}
-use Rattle.schemars_impls.specs.Dictionary.{Told, Dictionary, IsNamed, Follows, TypeRow, IsTold, IsLeft, IsIn, IsInPart, KeepsTo, RefusesAs, RefusesPart, of_one, of_two}
-use Rattle.schemars_impls.specs.Containers.{option_row, seq_row, set_row, array_row, map_row}
-use Rattle.schemars_impls.specs.OwnRows.{RefusesNumbers, IsNumber, HasMap, IsMapOf, with_row, HasRow, HasRowOf, HasOptionOf, HasSeqOf, HasSetOf, IsReserved, IsCalled, called, IsMadeOf, IsOptionOf, IsSeqOf, IsSetOf, IsArrayOf}
-use Rattle.schemars_impls.specs.Keeps.{Keeps, KeepsRows}
 use Rattle.schemars_impls.proofs.Keeping.{keeps-same, keeps-trans, all-joined, reserved_keeps, place_of-kept, length-kept}
 use Rattle.schemars_impls.proofs.Following.{follows-reserved, follows-joined, made-kept, id-there}
 use Rattle.schemars_impls.proofs.Registering.{named, described}

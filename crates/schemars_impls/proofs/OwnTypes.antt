@@ -1,14 +1,7 @@
 -- The fields of types of one's own: that their numbers are those of rows.
 use Rattle.std.proofs.Common.{◌≡◌, ◌<◌, ℕ, List, [], ◌∷◌, ◌++◌, Bool, true, false, Some, None, cond, length, find, nat_le, map, refl, sym, subst, ap, ◌∙◌, append-nil, append_assoc}
-use Rattle.schemars_schema.specs.Json.{Text}
-use Rattle.schemars_shapes.specs.Shape.{Entry, Field, Flattened, Payload, bare_fields, no_payload, newtype_payload, tuple_payload, struct_payload, Required, Variant, payload_numbers, variant_numbers}
+use Rattle.schemars_impls.proofs.Words.{Text, Entry, Field, Flattened, Payload, bare_fields, no_payload, newtype_payload, tuple_payload, struct_payload, Required, Variant, payload_numbers, variant_numbers, Row, place_of, Dictionary, TypeRow, IsInPart, KeepsTo, RefusesAs, Describes, RefusesPart, nat_le-above, place_of-below, FieldsAreKnown, NumbersAreKnown, PartsAreKnown, VariantsAreKnown, bare_variant, fields_with, plain_field, part, Keeps, KeepsRows, IsReserved, IsOptionOf, IsSeqOf, IsSetOf, IsArrayOf, IsMapOf}
 use Rattle.schemars_types.specs.declared.error.TypesError.{TypesError}
-use Rattle.schemars_types.specs.Rows.{Row, place_of}
-use Rattle.schemars_impls.specs.Dictionary.{Dictionary, TypeRow, IsInPart, KeepsTo, RefusesAs, Describes, RefusesPart}
-use Rattle.schemars_types.proofs.Registered.{nat_le-above, place_of-below}
-use Rattle.schemars_impls.specs.Fields.{FieldsAreKnown, NumbersAreKnown, PartsAreKnown, VariantsAreKnown, bare_variant, fields_with, plain_field, part}
-use Rattle.schemars_impls.specs.Keeps.{Keeps, KeepsRows}
-use Rattle.schemars_impls.specs.OwnRows.{IsReserved, IsOptionOf, IsSeqOf, IsSetOf, IsArrayOf, IsMapOf}
 use Rattle.schemars_impls.proofs.Keeping.{keeps-refl, keeps-same, keeps-trans, numbers-kept, known-one, place_of-kept, reserved_keeps}
 use Rattle.schemars_impls.proofs.Placing.{known_more, place_added, adds_none, adds_then, adds_placed}
 use Rattle.schemars_impls.proofs.Composing.{keeps_to_refl, keeps_to_part, refuses_memory, refuses_part, describes_none, describes_then, part_memory, part_refuses, rows_none, rows_then}

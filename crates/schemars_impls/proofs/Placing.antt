@@ -1,9 +1,6 @@
 -- The numbers of several parts, one after another.
 use Rattle.std.proofs.Common.{◌≡◌, ℕ, List, [], ◌∷◌, ◌++◌, Bool, true, false, Option, Some, None, cond, length, find, nat_le, option_map, option_and_then, refl, ap, sym, ◌∙◌, subst, append_assoc, append-nil}
-use Rattle.schemars_schema.specs.Json.{Text}
-use Rattle.schemars_types.specs.Rows.{Row, place_of}
-use Rattle.schemars_impls.specs.Describes.{places_of, Adds}
-use Rattle.schemars_impls.specs.Keeps.{Keeps}
+use Rattle.schemars_impls.proofs.Words.{Text, Row, place_of, places_of, Adds, Keeps}
 use Rattle.schemars_impls.proofs.Keeping.{keeps-refl, keeps-trans, place_of-kept, numbers-kept, known-one}
 
 pub places_of-kept : (ids : List Text) (ns : List ℕ) (old new : List Row) → Keeps old new → places_of ids old ≡ Some ns

@@ -1,18 +1,8 @@
 -- What `register` makes of a table, in the words of its clauses.
 use Rattle.std.proofs.Common.{◌≡◌, ◌<◌, ℕ, zero, suc, List, [], ◌∷◌, ◌++◌, Bool, true, false, not, Option, Some, None, length, nat_le, is_some, option_and_then, refl, ap, sym, ◌∙◌, subst, arith, if◌then◌else◌}
-use Rattle.std.specs.Option.{option_map_or}
-use Rattle.schemars_schema.specs.Json.{Text}
-use Rattle.schemars_shapes.specs.Equality.{entry_eq}
-use Rattle.schemars_shapes.specs.Shape.{Entry}
+use Rattle.schemars_impls.proofs.Words.{option_map_or, Text, entry_eq, Entry, refusal_of, first_unknown, Row, place_of, entry_at, name_at, reserved, defined, unknown_in, place_of-below, nat_le-above, place_of-reserved, reserved-absent, IsMade, IsDescribed, entry_under, Told, Defined, Pending, Open, Dictionary, staged, IsNamed, IsEntryOf, IsAtStage, Follows, TypeRow, IsTold, IsLeft, IsTypeIn, IsIn, IsInPart, KeepsTo, RefusesAs, Describes, RefusesPart, Completes, Keeps, AllContinue}
 use Rattle.schemars_types.specs.declared.error.TypesError.{TypesError}
 use Rattle.schemars_types.specs.declared.error.TypesError.TheVariants.{AlreadyDefined, UnknownType}
-use Rattle.schemars_types.specs.Refusals.{refusal_of, first_unknown}
-use Rattle.schemars_types.specs.Rows.{Row, place_of, entry_at, name_at, reserved, defined, unknown_in}
-use Rattle.schemars_types.proofs.Registered.{place_of-below, nat_le-above}
-use Rattle.schemars_types.proofs.TableLemmas.{place_of-reserved, reserved-absent}
-use Rattle.schemars_impls.specs.Describes.{IsMade, IsDescribed, entry_under}
-use Rattle.schemars_impls.specs.Dictionary.{Told, Defined, Pending, Open, Dictionary, staged, IsNamed, IsEntryOf, IsAtStage, Follows, TypeRow, IsTold, IsLeft, IsTypeIn, IsIn, IsInPart, KeepsTo, RefusesAs, Describes, RefusesPart, Completes}
-use Rattle.schemars_impls.specs.Keeps.{Keeps, AllContinue}
 use Rattle.schemars_impls.proofs.Keeping.{place_of-kept, defined-there}
 use Rattle.schemars_impls.proofs.Following.{made-kept, name_at-last, staged-same, restaged, restaged-twice, follows-open, follows-reserved, follows-defined, follows-settled}
 

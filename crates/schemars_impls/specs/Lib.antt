@@ -8,3 +8,4 @@ pub mod Fields
 pub mod Notes
 pub mod Floats
 pub mod Zoned
+pub mod Words

@@ -2,13 +2,8 @@
 #![tactic(auto, using(crate::proofs::OwnTypes::adding))]
 
 ghost use Rattle.std.specs.Prelude.{◌≡◌, List, [], ◌∷◌, None, IfErr, IfOk, OnOk, false};
-ghost use Rattle.schemars_shapes.specs.Shape.{Shape as shape, entry_of, shape_of, without_notes};
-ghost use Rattle.schemars_types.specs.Rows.{Row, unknown_in};
-ghost use Rattle.schemars_impls.specs.Describes.{IsMade, OfOne};
-ghost use Rattle.schemars_impls.specs.Dictionary.{IsIn, KeepsTo, RefusesAs};
-ghost use Rattle.schemars_impls.specs.Fields.{NumbersAreKnown};
-ghost use Rattle.schemars_impls.specs.Keeps.{Keeps};
-ghost use Rattle.schemars_impls.specs.OwnRows.{RefusesNumbers};
+ghost use Rattle.schemars_impls.specs.Words.{entry_of, shape_of, without_notes, Row, unknown_in, IsMade, OfOne, IsIn, KeepsTo, RefusesAs, NumbersAreKnown, Keeps, RefusesNumbers};
+ghost use Rattle.schemars_shapes.specs.Shape.{Shape as shape};
 
 use crate::law::{JsonSchema, entry, register};
 use schemars_types::{Shape, TypeEntry, TypeNo, Types, TypesError};

@@ -1,11 +1,7 @@
 //! The fields of a user-defined struct, which are added one after another.
 ghost use Rattle.std.specs.Prelude.{◌≡◌, ◌++◌, List, [], ◌∷◌, None, Some, IfErr, OnErr, OnOk, false, map, option_map};
-ghost use Rattle.schemars_shapes.specs.Shape.{Shape as shape, bare_fields, entry_of, field_of, flattened_of, required_of, shape_of, without_notes};
-ghost use Rattle.schemars_types.specs.Rows.{Row, place_of, unknown_in};
-ghost use Rattle.schemars_impls.specs.Dictionary.{IsIn, KeepsTo, RefusesAs};
-ghost use Rattle.schemars_impls.specs.Fields.{fields_with, part, plain_field, FieldsAreKnown, PartsAreKnown};
-ghost use Rattle.schemars_impls.specs.Keeps.{Keeps};
-ghost use Rattle.schemars_impls.specs.OwnRows.{RefusesNumbers};
+ghost use Rattle.schemars_impls.specs.Words.{bare_fields, entry_of, field_of, flattened_of, required_of, shape_of, without_notes, Row, place_of, unknown_in, IsIn, KeepsTo, RefusesAs, fields_with, part, plain_field, FieldsAreKnown, PartsAreKnown, Keeps, RefusesNumbers};
+ghost use Rattle.schemars_shapes.specs.Shape.{Shape as shape};
 
 use crate::law::{JsonSchema, entry, register};
 use schemars_types::{

@@ -1,11 +1,6 @@
 //! What an implementation of `JsonSchema` promises, and how a type is added to a table.
 ghost use Rattle.std.specs.Prelude.{◌≡◌, None, Some, is_some, IfErr, IfOk, IfSome, IsSome, OnOk};
-ghost use Rattle.std.specs.Cow.{cow_str_bytes};
-ghost use Rattle.schemars_shapes.specs.Shape.{entry_of, shape_of, without_notes};
-ghost use Rattle.schemars_types.specs.Rows.{place_of, unknown_in};
-ghost use Rattle.schemars_impls.specs.Keeps.{Keeps, KeepsRows};
-ghost use Rattle.schemars_impls.specs.Describes.{entry_under, IsMade};
-ghost use Rattle.schemars_impls.specs.Dictionary.{TypeRow, Describes, RefusesPart, IsAdded, IsIn, KeepsTo, Completes, RefusesType};
+ghost use Rattle.schemars_impls.specs.Words.{cow_str_bytes, entry_of, shape_of, without_notes, place_of, unknown_in, Keeps, KeepsRows, entry_under, IsMade, TypeRow, Describes, RefusesPart, IsAdded, IsIn, KeepsTo, Completes, RefusesType};
 
 use schemars_types::{Shape, TypeEntry, TypeNo, Types, TypesError};
 use std::alloc::{AllocError, Global};

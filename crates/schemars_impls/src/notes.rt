@@ -1,11 +1,7 @@
 //! Annotations of a user-defined type, of its fields and of its variants, such as titles and
 //! descriptions.
 ghost use Rattle.std.specs.Prelude.{◌≡◌, List, OnErr, OnOk, map};
-ghost use Rattle.serde_json.specs.View.{view};
-ghost use Rattle.schemars_shapes.specs.Shape.{entry_of, field_of, internal_variant_of, shape_of, variant_of};
-ghost use Rattle.schemars_types.specs.Rows.{Row};
-ghost use Rattle.schemars_impls.specs.Fields.{FieldsAreKnown, VariantsAreKnown};
-ghost use Rattle.schemars_impls.specs.Notes.{at_last, noted_entry, noted_field, noted_variant};
+ghost use Rattle.schemars_impls.specs.Words.{view, entry_of, field_of, internal_variant_of, shape_of, variant_of, Row, FieldsAreKnown, VariantsAreKnown, at_last, noted_entry, noted_field, noted_variant};
 
 use schemars_types::{Field, InternalVariant, TypeEntry, Variant};
 use serde_json::{Value, put};

@@ -3,13 +3,8 @@
 #![tactic(auto, using(crate::proofs::OwnTypes::adding))]
 
 ghost use Rattle.std.specs.Prelude.{◌≡◌, ◌++◌, ℕ, [], ◌∷◌, Some, IfErr, OnErr, OnOk, map};
-ghost use Rattle.schemars_shapes.specs.Shape.{field_of, required_of};
+ghost use Rattle.schemars_impls.specs.Words.{field_of, required_of, place_of, KeepsTo, RefusesAs, plain_field, FieldsAreKnown, Keeps, HasArrayOf, HasMapOf, HasOptionOf, HasSeqOf, HasSetOf, IsArrayOf, IsMapOf, IsOptionOf, IsReserved, IsSeqOf, IsSetOf};
 ghost use Rattle.schemars_types.specs.declared.error.TypesError as TypesError;
-ghost use Rattle.schemars_types.specs.Rows.{place_of};
-ghost use Rattle.schemars_impls.specs.Dictionary.{KeepsTo, RefusesAs};
-ghost use Rattle.schemars_impls.specs.Fields.{plain_field, FieldsAreKnown};
-ghost use Rattle.schemars_impls.specs.Keeps.{Keeps};
-ghost use Rattle.schemars_impls.specs.OwnRows.{HasArrayOf, HasMapOf, HasOptionOf, HasSeqOf, HasSetOf, IsArrayOf, IsMapOf, IsOptionOf, IsReserved, IsSeqOf, IsSetOf};
 
 use crate::fields::push_field;
 use crate::law::JsonSchema;

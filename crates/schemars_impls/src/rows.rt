@@ -5,12 +5,8 @@
 
 ghost use Rattle.std.specs.Prelude.{◌≡◌, ◌++◌, Some, IfErr, IfOk, OnErr, OnOk, string_bytes};
 ghost use Rattle.schemars_types.specs.declared.error.TypesError as TypesError;
-ghost use Rattle.schemars_shapes.specs.Shape.{Shape as shape, in_place};
-ghost use Rattle.schemars_types.specs.Names.{array_id, map_id, map_name};
-ghost use Rattle.schemars_types.specs.Rows.{name_at, place_of, reserved};
-ghost use Rattle.schemars_impls.specs.Dictionary.{KeepsTo, RefusesAs};
-ghost use Rattle.schemars_impls.specs.Keeps.{Keeps};
-ghost use Rattle.schemars_impls.specs.OwnRows.{HasArrayOf, HasMapOf, HasOptionOf, HasRowOf, HasSeqOf, HasSetOf, IsArrayOf, IsMapOf, IsNumber, IsOptionOf, IsReserved, IsSeqOf, IsSetOf};
+ghost use Rattle.schemars_impls.specs.Words.{in_place, array_id, map_id, map_name, name_at, place_of, reserved, KeepsTo, RefusesAs, Keeps, HasArrayOf, HasMapOf, HasOptionOf, HasRowOf, HasSeqOf, HasSetOf, IsArrayOf, IsMapOf, IsNumber, IsOptionOf, IsReserved, IsSeqOf, IsSetOf};
+ghost use Rattle.schemars_shapes.specs.Shape.{Shape as shape};
 
 use crate::impls::maps::map_id_to;
 use crate::law::{JsonSchema, register};

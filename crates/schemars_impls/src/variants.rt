@@ -2,12 +2,8 @@
 #![tactic(auto, using(crate::proofs::OwnTypes::adding))]
 
 ghost use Rattle.std.specs.Prelude.{◌≡◌, ◌++◌, List, [], ◌∷◌, None, Some, IfErr, OnErr, OnOk, false, map, option_map, string_bytes};
-ghost use Rattle.schemars_shapes.specs.Shape.{Shape as shape, Tagging as tagging, bare_fields, entry_of, field_of, flattened_of, internal_payload_of, internal_variant_of, newtype_payload, no_payload, payload_of, shape_of, struct_payload, tuple_payload, variant_of, without_notes};
-ghost use Rattle.schemars_types.specs.Rows.{Row, place_of, unknown_in};
-ghost use Rattle.schemars_impls.specs.Dictionary.{IsIn, KeepsTo, RefusesAs};
-ghost use Rattle.schemars_impls.specs.Fields.{bare_variant, fields_with, FieldsAreKnown, NumbersAreKnown, PartsAreKnown, VariantsAreKnown};
-ghost use Rattle.schemars_impls.specs.Keeps.{Keeps};
-ghost use Rattle.schemars_impls.specs.OwnRows.{RefusesNumbers};
+ghost use Rattle.schemars_impls.specs.Words.{bare_fields, entry_of, field_of, flattened_of, internal_payload_of, internal_variant_of, newtype_payload, no_payload, payload_of, shape_of, struct_payload, tuple_payload, variant_of, without_notes, Row, place_of, unknown_in, IsIn, KeepsTo, RefusesAs, bare_variant, fields_with, FieldsAreKnown, NumbersAreKnown, PartsAreKnown, VariantsAreKnown, Keeps, RefusesNumbers};
+ghost use Rattle.schemars_shapes.specs.Shape.{Shape as shape, Tagging as tagging};
 
 use crate::law::{JsonSchema, entry, register};
 use schemars_types::{

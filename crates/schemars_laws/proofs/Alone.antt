@@ -1,7 +1,6 @@
 -- After the siblings of references have gone, no schema has a keyword beside `$ref`.
 use Rattle.std.proofs.Common.{◌≡◌, inl, inr, Option, Some, None, Bool, true, false, codes, refl, ◌∙◌}
-use Rattle.schemars_laws.proofs.Words.{if◌then◌else◌, ◌==◌, Data, object, Members, get_member, members_len, without, differ, reference_moved, without_siblings, remove_ref_siblings, asked_of_keywords, IsOnce, IsReferenceAlone, LeavesReferencesAlone}
-use Rattle.schemars_laws.specs.Everywhere.{asked}
+use Rattle.schemars_laws.proofs.Words.{if◌then◌else◌, ◌==◌, Data, object, Members, get_member, members_len, without, differ, reference_moved, without_siblings, remove_ref_siblings, asked_of_keywords, IsOnce, IsReferenceAlone, LeavesReferencesAlone, asked}
 use Rattle.schemars_laws.proofs.Looked.{change_rules, walked, once-walked}
 use Rattle.schemars_laws.proofs.Siblings.{schema-siblings, get-moved}
 use Rattle.schemars_laws.proofs.Preserved.{Preserves, after, change-preserves, asked-without}

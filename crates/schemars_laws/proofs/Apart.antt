@@ -1,7 +1,6 @@
 -- The keywords of which dialects read some in another way, apart from all others.
 use Rattle.std.proofs.Common.{◌≡◌, ◌≢◌, ◌⊎◌, ℕ, inl, inr, List, [], ◌∷◌, Option, Bool, true, false, codes, option_map, refl, sym, ap, ◌∙◌, subst, true≢false}
-use Rattle.schemars_laws.proofs.Words.{fun_ext, ◌++◌, if◌then◌else◌, ◌&&◌, ◌||◌, not, Data, object, Members, get_member, Text, is_listed, Verdict, Yes, No, Open, both, all_of, Dialect, Context, Raw, Readings, Judge, Part, key, position, judges_rest, judged_by_items, judged_by_contains, judged_by_list, judged_by_condition, judged_by_dependents, judged_by_reference, is_covered, has_schema, keywords, items_say, reference_says, type_says, const_says, enum_says, each_says, judged_beside, reference_alone, is_reference, judge, read_members, reading_at, reading_at-members, HasNone, of_draft06}
-use Rattle.schemars_schema.specs.Acceptance.{all_keywords, read_data}
+use Rattle.schemars_laws.proofs.Words.{fun_ext, ◌++◌, if◌then◌else◌, ◌&&◌, ◌||◌, not, Data, object, Members, get_member, Text, is_listed, Verdict, Yes, No, Open, both, all_of, Dialect, Context, Raw, Readings, Judge, Part, key, position, judges_rest, judged_by_items, judged_by_contains, judged_by_list, judged_by_condition, judged_by_dependents, judged_by_reference, is_covered, has_schema, keywords, items_say, reference_says, type_says, const_says, enum_says, each_says, judged_beside, reference_alone, is_reference, judge, read_members, reading_at, reading_at-members, HasNone, of_draft06, all_keywords, read_data}
 use Rattle.schemars_laws.proofs.Keywords.{counts_say, members_say, last_say, fits-all, left_out, AgreeOutside, left_out-agree, AllNone, left_out-none}
 use Rattle.schemars_laws.proofs.Seen.{judge_ext}
 

@@ -1,9 +1,6 @@
 -- Definitions at one key, such as `$defs`.
 use Rattle.std.proofs.Common.{◌≡◌, ◌⊎◌, inl, inr, Option, Some, None, Bool, true, false, option_map, refl, sym, ap, ◌∙◌, subst}
-use Rattle.schemars_laws.proofs.Words.{option_and_then, if◌then◌else◌, Data, null, boolean, number, string, array, object, Members, get_member, Text, lookup, is_schema, NoSchemas, SchemasByName, place_under, schema_only, Dialect, judge, accepts, resolved-whole, Rules, form_at, in_names, in_keywords, rewritten, keywords_get, demanded, Everywhere, IsNameOf, IsName, Named, IsMap, MovesAcceptance}
-use Rattle.schemars_schema.specs.Lookup.{resolved}
-use Rattle.schemars_walk.specs.Rewritten.{forms}
-use Rattle.schemars_laws.specs.Everywhere.{asked}
+use Rattle.schemars_laws.proofs.Words.{option_and_then, if◌then◌else◌, Data, null, boolean, number, string, array, object, Members, get_member, Text, lookup, is_schema, NoSchemas, SchemasByName, place_under, schema_only, Dialect, judge, accepts, resolved-whole, Rules, form_at, in_names, in_keywords, rewritten, keywords_get, demanded, Everywhere, IsNameOf, IsName, Named, IsMap, MovesAcceptance, resolved, forms, asked}
 use Rattle.schemars_laws.proofs.Kept.{IsTruth}
 use Rattle.schemars_laws.proofs.Preserved.{asked-get}
 use Rattle.schemars_laws.proofs.Moved.{Moves, IsLed, Leads, schema-moved}

@@ -1,7 +1,7 @@
 -- Objects in place of truth values say the same.
 use Rattle.std.proofs.Common.{◌≡◌, ◌⊎◌, ℕ, inl, inr, Some, None, Bool, true, false, [], ◌∷◌, codes, refl, ap, ◌∙◌}
-use Rattle.schemars_laws.proofs.Words.{and-false, bytes_eq, if◌then◌else◌, ◌&&◌, not, is_some, Data, boolean, object, Members, no_members, member, as_bool, Text, members_in, NoSchemas, place_under, Yes, opposite, Dialect, Context, Readings, Raw, Judge, Part, position, judged_by_items, judge, reading_at, keywords, reference_alone, truth_value, bool_rules, in_keywords, both-yes, items_none, const_none, unevaluated_none}
-use Rattle.schemars_schema.specs.Acceptance.{key as member_key, read_data, all_keywords}
+use Rattle.schemars_laws.proofs.Words.{and-false, bytes_eq, if◌then◌else◌, ◌&&◌, not, is_some, Data, boolean, object, Members, no_members, member, as_bool, Text, members_in, NoSchemas, place_under, Yes, opposite, Dialect, Context, Readings, Raw, Judge, Part, position, judged_by_items, judge, reading_at, keywords, reference_alone, truth_value, bool_rules, in_keywords, both-yes, items_none, const_none, unevaluated_none, read_data, all_keywords}
+use Rattle.schemars_schema.specs.Judges.{key as member_key}
 use Rattle.schemars_transform.specs.declared.built_in.bool_schemas.ReplaceBoolSchemas.{ReplaceBoolSchemas}
 use Rattle.schemars_laws.proofs.Seen.{judge_ext}
 use Rattle.schemars_laws.proofs.Kept.{IsTruth}

@@ -1,7 +1,6 @@
 -- All transforms of OpenAPI, over documents that hold definitions at /components/schemas and nothing else.
 use Rattle.std.proofs.Common.{◌≡◌, ℕ, suc, Option, Some, None, true, codes, option_map, refl, sym, ap, ◌∙◌, subst}
-use Rattle.schemars_laws.proofs.Words.{Data, null, boolean, number, string, array, object, no_items, item, Members, no_members, member, get_member, pointer, members_len, Text, IsSchema, Dialect, Patterns, draft2020_12, openapi3, accepts, plain-components, pointer-components, differ, Rules, in_keywords, rewritten, bool_rules, without_siblings, with_single_example, const_as_enum, prefix_as_items, unevaluated_as_additional, Everywhere, HasPlainItems, HasPlainReference, HasPlainType, HasNoUnevaluated, IsTypes, IsConstAlone, without_unevaluated, with_nullable_read, alone_by, without_const, HasPlainUnevaluated, NamedBy, IsDefinitionAt, EachEverywhere, each_changed, components, components_of, AreSomeTypes, Stands, IsForOpenApi, AfterNullable, AfterSiblings, Anything, MovesToOpenApi, for_openapi3}
-use Rattle.schemars_walk.specs.Rewritten.{forms, in_names}
+use Rattle.schemars_laws.proofs.Words.{Data, null, boolean, number, string, array, object, no_items, item, Members, no_members, member, get_member, pointer, members_len, Text, IsSchema, Dialect, Patterns, draft2020_12, openapi3, accepts, plain-components, pointer-components, differ, Rules, in_keywords, rewritten, bool_rules, without_siblings, with_single_example, const_as_enum, prefix_as_items, unevaluated_as_additional, Everywhere, HasPlainItems, HasPlainReference, HasPlainType, HasNoUnevaluated, IsTypes, IsConstAlone, without_unevaluated, with_nullable_read, alone_by, without_const, HasPlainUnevaluated, NamedBy, IsDefinitionAt, EachEverywhere, each_changed, components, components_of, AreSomeTypes, Stands, IsForOpenApi, AfterNullable, AfterSiblings, Anything, MovesToOpenApi, for_openapi3, forms, in_names}
 use Rattle.schemars_transform.specs.declared.built_in.bool_schemas.ReplaceBoolSchemas.{ReplaceBoolSchemas}
 use Rattle.schemars_laws.proofs.Moved.{Rewrites, schema-moved}
 use Rattle.schemars_laws.proofs.Looked.{change_rules, items-walked}

@@ -1,7 +1,6 @@
 -- An `enum` of one value in place of `const`, for readers that do not know `const`.
 use Rattle.std.proofs.Common.{◌≡◌, ◌≢◌, ◌⊎◌, inl, inr, Option, Some, None, Bool, false, codes, refl, sym, ap, ◌∙◌}
-use Rattle.schemars_laws.proofs.Words.{or-false, bytes_eq, Data, boolean, array, object, no_items, item, Members, put, get_member, get_member-put, get_member-put_other, Text, json_eq, IsSchema, without, Verdict, Dialect, Context, judge, keywords, truth_value, read_members, reading_at, differ, const_as_enum, value_as_enum, IsOnce, of_draft06, IsConstAlone, without_const, with_const}
-use Rattle.schemars_schema.specs.Acceptance.{read_data}
+use Rattle.schemars_laws.proofs.Words.{or-false, bytes_eq, Data, boolean, array, object, no_items, item, Members, put, get_member, get_member-put, get_member-put_other, Text, json_eq, IsSchema, without, Verdict, Dialect, Context, judge, keywords, truth_value, read_members, reading_at, differ, const_as_enum, value_as_enum, IsOnce, of_draft06, IsConstAlone, without_const, with_const, read_data}
 use Rattle.schemars_laws.proofs.Looked.{without-other, walked, raw-walked, once-walked, nones-walked, Change}
 use Rattle.schemars_laws.proofs.Apart.{four_of, four_by, look_up, says-moved, placed-agree, outside}
 

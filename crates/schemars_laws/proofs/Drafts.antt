@@ -1,7 +1,6 @@
 -- What documents accept after all transforms of Draft 7, and after that of 2019-09.
 use Rattle.std.proofs.Common.{◌≡◌, ◌≢◌, ℕ, Option, Some, None, Bool, true, false, codes, refl, sym, ◌∙◌, subst}
-use Rattle.schemars_laws.proofs.Words.{if◌then◌else◌, option_and_then, ◌==◌, Data, object, Members, no_members, member, get_member, as_str, members_len, Text, without, NoSchemas, OneSchema, SchemaList, SchemasByName, place_under, Dialect, Patterns, accepts, draft2020_12, draft2019_09, draft07, differ, reference_moved, without_siblings, remove_ref_siblings, replace_prefix_items, unevaluated_as_additional, closed_by, replace_unevaluated_properties, Everywhere, asked_of_keywords, IsName, IsNamedBy, HasNameOf, HasNoObjects, Named, IsMap, IsOnce, of_draft2019_09, HasPlainItems, HasPlainReference, HasNoUnevaluated, IsDraft07, alone_by, without_unevaluated, MovesAcceptance, for_draft07, for_draft2019_09}
-use Rattle.schemars_laws.specs.Everywhere.{asked}
+use Rattle.schemars_laws.proofs.Words.{if◌then◌else◌, option_and_then, ◌==◌, Data, object, Members, no_members, member, get_member, as_str, members_len, Text, without, NoSchemas, OneSchema, SchemaList, SchemasByName, place_under, Dialect, Patterns, accepts, draft2020_12, draft2019_09, draft07, differ, reference_moved, without_siblings, remove_ref_siblings, replace_prefix_items, unevaluated_as_additional, closed_by, replace_unevaluated_properties, Everywhere, asked_of_keywords, IsName, IsNamedBy, HasNameOf, HasNoObjects, Named, IsMap, IsOnce, of_draft2019_09, HasPlainItems, HasPlainReference, HasNoUnevaluated, IsDraft07, alone_by, without_unevaluated, MovesAcceptance, for_draft07, for_draft2019_09, asked}
 use Rattle.schemars_laws.proofs.Laws.{replace_unevaluated_properties-at, remove_ref_siblings-at, replace_prefix_items-at, other, none}
 use Rattle.schemars_laws.proofs.Looked.{change_rules, walked, raw-walked, items-walked, changed-document}
 use Rattle.schemars_laws.proofs.Siblings.{schema-siblings, definitions-stay as siblings-stay, moved_members, get-moved}

@@ -1,8 +1,7 @@
 -- Changes of keywords that the classes don't ask about.
 use Rattle.std.proofs.Common.{◌≡◌, ◌≢◌, ◌⊎◌, inl, inr, Option, Some, None, Bool, true, false, Ordering, Less, Equal, Greater, nat_cmp, codes, is_eq, refl, sym, ap, ◌∙◌, subst}
-use Rattle.schemars_laws.proofs.Words.{bytes_eq, if◌then◌else◌, slice_cmp, match_ordering, is_eq-slice_cmp, bytes_eq-Decides, Data, array, Items, no_items, item, Members, no_members, member, put, get_member, get_member-put_other, Text, without, replaced, with_item, with_last, differ, get_member-member, unequal, referring, asked_of_items, asked_of_keywords, IsOnce, is_null_alone, HasNone, of_draft06, IsConstAlone, IsTextWith, Stands, AreSomeTypes, HasSomeTypes}
+use Rattle.schemars_laws.proofs.Words.{bytes_eq, if◌then◌else◌, slice_cmp, match_ordering, is_eq-slice_cmp, bytes_eq-Decides, Data, array, Items, no_items, item, Members, no_members, member, put, get_member, get_member-put_other, Text, without, replaced, with_item, with_last, differ, get_member-member, unequal, referring, asked_of_items, asked_of_keywords, IsOnce, is_null_alone, HasNone, of_draft06, IsConstAlone, IsTextWith, Stands, AreSomeTypes, HasSomeTypes, asked}
 use Rattle.schemars_schema.proofs.Members.{without-put as put_without}
-use Rattle.schemars_laws.specs.Everywhere.{asked}
 use Rattle.schemars_laws.proofs.Looked.{without-other}
 use Rattle.schemars_laws.proofs.Siblings.{replaced-other, moved_members, get-moved}
 use Rattle.schemars_laws.proofs.Plain.{Alike, without-swap}

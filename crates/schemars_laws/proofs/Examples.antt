@@ -1,14 +1,6 @@
 -- `example` in place of `examples` changes nothing of what is accepted.
 use Rattle.std.proofs.Common.{◌≡◌, ◌≢◌, Option, Some, None, Bool, codes, refl, ap, ◌∙◌}
-use Rattle.serde_json.specs.Data.{Data, null, boolean, number, string, array, object, no_items, item, Members, put}
-use Rattle.serde_json.specs.Find.{get_member}
-use Rattle.serde_json.proofs.Views.{get_member-put_other}
-use Rattle.schemars_schema.specs.Json.{Text}
-use Rattle.schemars_schema.specs.SchemaData.{IsSchema}
-use Rattle.schemars_schema.specs.Edits.{without}
-use Rattle.schemars_schema.specs.Acceptance.{Dialect, Context, judge, keywords, truth_value, read_data, read_members, reading_at}
-use Rattle.schemars_schema.proofs.Objects.{judge-agree, judge-put, apart}
-use Rattle.schemars_transform.specs.Built.{first_as_example, with_single_example}
+use Rattle.schemars_laws.proofs.Words.{Data, null, boolean, number, string, array, object, no_items, item, Members, put, get_member, get_member-put_other, Text, IsSchema, without, Dialect, Context, judge, keywords, truth_value, read_data, read_members, reading_at, judge-agree, judge-put, apart, first_as_example, with_single_example}
 use Rattle.schemars_laws.proofs.Looked.{without-other, walked, Change}
 
 schema-example : (o : Option Data) (s : Data) → IsSchema s → IsSchema (first_as_example o s)

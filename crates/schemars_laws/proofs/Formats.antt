@@ -1,7 +1,6 @@
 -- A format less changes nothing of what is accepted.
 use Rattle.std.proofs.Common.{◌≡◌, ◌≢◌, inl, Bool, true, false, codes, refl, ◌∙◌, String, Global}
-use Rattle.schemars_laws.proofs.Words.{if◌then◌else◌, option_and_then, BTreeSet, Data, boolean, object, Members, get_member, as_str, Text, IsSchema, without, removed, Dialect, Context, judge, truth_value, judge-agree, apart, in_keywords, format_rules, format_stays}
-use Rattle.schemars_schema.specs.Acceptance.{read_data}
+use Rattle.schemars_laws.proofs.Words.{if◌then◌else◌, option_and_then, BTreeSet, Data, boolean, object, Members, get_member, as_str, Text, IsSchema, without, removed, Dialect, Context, judge, truth_value, judge-agree, apart, in_keywords, format_rules, format_stays, read_data}
 use Rattle.schemars_laws.proofs.Moved.{Moves}
 use Rattle.schemars_laws.proofs.Looked.{without-other}
 use Rattle.schemars_laws.proofs.Examples.{same-dialect}

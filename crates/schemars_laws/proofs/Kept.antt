@@ -1,9 +1,6 @@
 -- A rewrite of every schema keeps what is said of values, where what it makes of one schema does.
 use Rattle.std.proofs.Common.{◌≡◌, ◌⊎◌, inl, inr, Option, Some, None, Bool, true, false, codes, option_map, refl, sym, ap, ◌∙◌, subst, []}
-use Rattle.schemars_laws.proofs.Words.{fun_ext, bytes_eq-Decides, bytes_eq, if◌then◌else◌, ◌&&◌, Data, boolean, array, object, Items, no_items, item, Members, no_members, member, get_member, Text, IsSchema, Place, NoSchemas, OneSchema, SchemaList, SchemaOrList, SchemasByName, place_under, Dialect, Context, Raw, Readings, Reading, reads_dependencies, judge, keywords, truth_value, all_named, some_named, read_items, read_members, reading_at, schema-judge, reading_at-members, Rules, form_at, in_items, in_names, in_keywords, keywords_get, demanded, asked_of_items, asked_of_members, asked_of_keywords, IsNoObject, AreNoObjects, HasNoObjects, HasPlainUnevaluated}
-use Rattle.schemars_schema.specs.Acceptance.{read_data}
-use Rattle.schemars_walk.specs.Rewritten.{forms}
-use Rattle.schemars_laws.specs.Everywhere.{asked}
+use Rattle.schemars_laws.proofs.Words.{fun_ext, bytes_eq-Decides, bytes_eq, if◌then◌else◌, ◌&&◌, Data, boolean, array, object, Items, no_items, item, Members, no_members, member, get_member, Text, IsSchema, Place, NoSchemas, OneSchema, SchemaList, SchemaOrList, SchemasByName, place_under, Dialect, Context, Raw, Readings, Reading, reads_dependencies, judge, keywords, truth_value, all_named, some_named, read_items, read_members, reading_at, schema-judge, reading_at-members, Rules, form_at, in_items, in_names, in_keywords, keywords_get, demanded, asked_of_items, asked_of_members, asked_of_keywords, IsNoObject, AreNoObjects, HasNoObjects, HasPlainUnevaluated, read_data, forms, asked}
 use Rattle.schemars_laws.proofs.Seen.{AgreeOn, seen, seen_under, place_read, at_no_schemas, unread_under, keywords-seen, keywords-unread, keywords-follow}
 
 abbrev pub IsTruth : Data → Type 0

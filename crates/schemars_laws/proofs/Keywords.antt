@@ -1,12 +1,6 @@
 -- What the keywords of an object say, in groups, and keywords of which some are left out.
 use Rattle.std.proofs.Common.{◌≡◌, List, [], ◌∷◌, Option, None, Bool, true, false, codes, refl, sym, subst, true≢false}
-use Rattle.std.proofs.lemmas.Slice.Eq.{bytes_eq-Decides}
-use Rattle.std.specs.Prelude.{◌++◌, ◌||◌, bytes_eq, if◌then◌else◌}
-use Rattle.serde_json.specs.Data.{Data}
-use Rattle.schemars_schema.specs.Json.{Text}
-use Rattle.schemars_text.specs.OrderedText.{is_listed}
-use Rattle.schemars_schema.specs.Verdict.{Verdict, all_of, any_of, one_of}
-use Rattle.schemars_schema.specs.Acceptance.{Context, Raw, Readings, Part, key, position, reads_dependencies, all_keywords, multiple_of_says, dependencies_say, unevaluated_items_say, items_say, judged_beside, is_covered, reference_says, type_says, const_says, enum_says, minimum_says, maximum_says, exclusive_minimum_says, exclusive_maximum_says, min_length_says, max_length_says, pattern_says, min_items_says, max_items_says, unique_items_says, contains_says, min_properties_says, max_properties_says, required_says, dependent_required_says, property_names_say, properties_say, pattern_properties_say, additional_properties_say, each_says, not_says, condition_says, dependent_schemas_say, unevaluated_properties_say}
+use Rattle.schemars_laws.proofs.Words.{bytes_eq-Decides, ◌++◌, ◌||◌, bytes_eq, if◌then◌else◌, Data, Text, is_listed, Verdict, all_of, any_of, one_of, reads_dependencies, Context, Raw, Readings, Part, key, position, multiple_of_says, type_says, const_says, enum_says, minimum_says, maximum_says, exclusive_minimum_says, exclusive_maximum_says, min_length_says, max_length_says, pattern_says, min_items_says, max_items_says, unique_items_says, min_properties_says, max_properties_says, required_says, dependent_required_says, dependencies_say, unevaluated_items_say, items_say, is_covered, reference_says, contains_says, property_names_say, properties_say, pattern_properties_say, additional_properties_say, each_says, not_says, condition_says, dependent_schemas_say, unevaluated_properties_say, judged_beside, all_keywords}
 
 -- about numbers and texts, and about lists as wholes
 abbrev pub counts_say : Context → Raw → Data → List Verdict

@@ -1,7 +1,6 @@
 -- The laws of transforms over whole documents, whose definitions stand at one key or under components.
 use Rattle.std.proofs.Common.{◌≡◌, ◌≢◌, codes, refl, sym, ap, ◌∙◌}
-use Rattle.schemars_laws.proofs.Words.{object, Members, Text, Place, NoSchemas, OneSchema, SchemaList, SchemaOrList, SchemasByName, place_under, Dialect, differ, Rules, in_keywords, rewritten, replace_bool_schemas, remove_ref_siblings, set_single_example, replace_const_value, replace_prefix_items, bool_rules, without_siblings, with_single_example, const_as_enum, prefix_as_items, add_nullable, format_rules, restrict_formats, unevaluated_as_additional, replace_unevaluated_properties, IsConstAlone, HasPlainItems, HasPlainReference, HasPlainType, HasNoUnevaluated, plain_nullable, without_const, with_const, by_items, by_prefix_items, alone_by, beside_by, with_nullable_read, without_nullable_read, with_unevaluated, without_unevaluated, Anything, MovesAcceptance, MovesDocuments}
-use Rattle.schemars_walk.specs.Rewritten.{forms}
+use Rattle.schemars_laws.proofs.Words.{object, Members, Text, Place, NoSchemas, OneSchema, SchemaList, SchemaOrList, SchemasByName, place_under, Dialect, differ, Rules, in_keywords, rewritten, replace_bool_schemas, remove_ref_siblings, set_single_example, replace_const_value, replace_prefix_items, bool_rules, without_siblings, with_single_example, const_as_enum, prefix_as_items, add_nullable, format_rules, restrict_formats, unevaluated_as_additional, replace_unevaluated_properties, IsConstAlone, HasPlainItems, HasPlainReference, HasPlainType, HasNoUnevaluated, plain_nullable, without_const, with_const, by_items, by_prefix_items, alone_by, beside_by, with_nullable_read, without_nullable_read, with_unevaluated, without_unevaluated, Anything, MovesAcceptance, MovesDocuments, forms}
 use Rattle.schemars_transform.specs.declared.built_in.bool_schemas.ReplaceBoolSchemas.{ReplaceBoolSchemas}
 use Rattle.schemars_transform.specs.declared.built_in.formats.RestrictFormats.{RestrictFormats}
 use Rattle.schemars_laws.proofs.Moved.{Moves}

@@ -1,7 +1,6 @@
 -- Look-ups in members of which one is taken out, and rewrites that change every schema alike.
 use Rattle.std.proofs.Common.{◌≡◌, ◌≢◌, inl, List, Option, Some, None, Bool, option_map, refl, sym, ap, ◌∙◌, subst}
-use Rattle.schemars_laws.proofs.Words.{Data, null, boolean, number, string, array, object, Members, get_member, Text, IsSchema, without, NoSchemas, SchemaList, SchemaOrList, SchemasByName, place_under, Dialect, Context, judge, keywords, truth_value, read_members, reading_at, unequal, get_member-without, Rules, everywhere, rewritten, in_keywords, read_at, keywords_get, IsMap, IsOnce, HasNone, IsSchemaList, IsNoList, HasPlainItems}
-use Rattle.schemars_walk.specs.Rewritten.{forms}
+use Rattle.schemars_laws.proofs.Words.{Data, null, boolean, number, string, array, object, Members, get_member, Text, IsSchema, without, NoSchemas, SchemaList, SchemaOrList, SchemasByName, place_under, Dialect, Context, judge, keywords, truth_value, read_members, reading_at, unequal, get_member-without, Rules, everywhere, rewritten, in_keywords, read_at, keywords_get, IsMap, IsOnce, HasNone, IsSchemaList, IsNoList, HasPlainItems, forms}
 use Rattle.schemars_laws.proofs.Moved.{Moves}
 use Rattle.schemars_laws.proofs.Walking.{raw-walked as raw-walked_by, none-walked as none-walked_by, nones-walked as nones-walked_by, once-walked as once-walked_by, list-walked as list-walked_by, no_list-walked as no_list-walked_by, items-walked as items-walked_by}
 

@@ -1,8 +1,7 @@
 -- A rewrite of every schema moves what schemas accept from one document to another, wherever definitions stand: it is enough
 -- that each reference of which N holds leads in both to schemas, of which the new one says what the old one, rewritten, says.
 use Rattle.std.proofs.Common.{◌≡◌, ◌⊎◌, ℕ, zero, suc, Option, Some, None, Bool, codes, refl, ap, ◌∙◌}
-use Rattle.schemars_laws.proofs.Words.{option_and_then, Data, null, boolean, number, string, array, object, Members, get_member, as_str, Text, IsSchema, NoSchemas, place_under, resolved, Dialect, Patterns, Context, Judge, judge, keywords, truth_value, read_data, read_members, reading_at, context, accepts, unanswered, nothing, Rules, forms, in_keywords, Everywhere, IsNamedBy, NamedBy}
-use Rattle.schemars_schema.specs.Acceptance.{follow}
+use Rattle.schemars_laws.proofs.Words.{option_and_then, Data, null, boolean, number, string, array, object, Members, get_member, as_str, Text, IsSchema, NoSchemas, place_under, resolved, Dialect, Patterns, Context, Judge, judge, keywords, truth_value, read_data, read_members, reading_at, context, accepts, unanswered, nothing, Rules, forms, in_keywords, Everywhere, IsNamedBy, NamedBy, follow}
 use Rattle.schemars_laws.proofs.Seen.{AgreeOn}
 use Rattle.schemars_laws.proofs.Kept.{Keeps, IsTruth, one}
 

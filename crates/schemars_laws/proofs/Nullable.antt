@@ -1,7 +1,6 @@
 -- `nullable` in place of null among types, for readers that know it.
 use Rattle.std.proofs.Common.{List, ◌≡◌, ◌≢◌, ◌⊎◌, inl, inr, Option, Some, None, Bool, true, false, codes, refl, sym, ap, ◌∙◌, subst, true≢false}
-use Rattle.schemars_laws.proofs.Words.{option_map, bytes_eq, if◌then◌else◌, ◌&&◌, ◌||◌, Data, null, boolean, number, string, array, object, Items, no_items, item, Members, put, get_member, get_member-put, get_member-put_other, Text, is_listed, IsSchema, without, replaced, holds_text, Verdict, Yes, No, Open, both, verdict, Dialect, Context, judge, keywords, truth_value, read_members, reading_at, is_null, type_says, type_fits, types_in, is_of_some_type, where_some, items_say, enum_says, differ, get_member-replaced, null-json_eq, all_null, nulls_in, type_without_null, null_taken_out, nullable_by, with_nullable, IsTypes, is_null_alone, HasPlainType, plain_nullable, with_nullable_read, without_nullable_read}
-use Rattle.schemars_schema.specs.Acceptance.{read_data}
+use Rattle.schemars_laws.proofs.Words.{option_map, bytes_eq, if◌then◌else◌, ◌&&◌, ◌||◌, Data, null, boolean, number, string, array, object, Items, no_items, item, Members, put, get_member, get_member-put, get_member-put_other, Text, is_listed, IsSchema, without, replaced, holds_text, Verdict, Yes, No, Open, both, verdict, Dialect, Context, judge, keywords, truth_value, read_members, reading_at, is_null, type_says, type_fits, types_in, is_of_some_type, where_some, items_say, enum_says, differ, get_member-replaced, null-json_eq, all_null, nulls_in, type_without_null, null_taken_out, nullable_by, with_nullable, IsTypes, is_null_alone, HasPlainType, plain_nullable, with_nullable_read, without_nullable_read, read_data}
 use Rattle.schemars_laws.proofs.Looked.{without-other, walked, raw-walked, Change}
 use Rattle.schemars_laws.proofs.Apart.{four_of, four_by, look_up, says-moved, placed-agree, outside}
 use Rattle.schemars_laws.proofs.Siblings.{replaced-other}

@@ -1,9 +1,6 @@
 -- Where references lead in documents whose definitions stand at a path, and laws for those under components.
 use Rattle.std.proofs.Common.{◌≡◌, inl, inr, Option, Some, None, Bool, true, false, Ordering, Less, Equal, Greater, nat_cmp, codes, option_map, refl, sym, ap, ◌∙◌, subst}
-use Rattle.schemars_laws.proofs.Words.{option_and_then, if◌then◌else◌, slice_cmp, match_ordering, Data, boolean, object, Members, no_members, member, put, get_member, pointer, get_member-put, Text, lookup, IsSchema, is_schema, members_in, schema_only, Dialect, judge, judge-put, IsPlain, plain-components, pointer-components, lookup-definition, resolved-whole, Rules, in_keywords, rewritten, Everywhere, NamedBy, IsDefinitionAt, IsNameAt, EachEverywhere, each_changed, components, MovesComponents}
-use Rattle.schemars_schema.specs.Lookup.{resolved}
-use Rattle.schemars_walk.specs.Rewritten.{forms, in_names}
-use Rattle.schemars_laws.specs.Everywhere.{asked_of_members}
+use Rattle.schemars_laws.proofs.Words.{option_and_then, if◌then◌else◌, slice_cmp, match_ordering, Data, boolean, object, Members, no_members, member, put, get_member, pointer, get_member-put, Text, lookup, IsSchema, is_schema, members_in, schema_only, Dialect, judge, judge-put, IsPlain, plain-components, pointer-components, lookup-definition, resolved-whole, Rules, in_keywords, rewritten, Everywhere, NamedBy, IsDefinitionAt, IsNameAt, EachEverywhere, each_changed, components, MovesComponents, resolved, forms, in_names, asked_of_members}
 use Rattle.schemars_laws.proofs.Moved.{Rewrites, SaysAs, IsLed, Leads, schema-moved}
 
 -- ---- schemas by name

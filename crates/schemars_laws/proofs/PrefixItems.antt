@@ -1,7 +1,6 @@
 -- A list under `items` in place of `prefixItems`, for readers that judge by position under `items`.
 use Rattle.std.proofs.Common.{◌≡◌, ◌≢◌, ℕ, inl, List, [], ◌∷◌, Option, Some, None, Bool, true, false, codes, option_map, refl, sym, ap, ◌∙◌, subst}
-use Rattle.schemars_laws.proofs.Words.{or-false, bytes_eq, nat_lt, length, ◌||◌, Data, null, boolean, number, string, array, object, Items, no_items, item, Members, put, get_member, as_array, get_member-put, get_member-put_other, Text, IsSchema, without, Verdict, Dialect, Context, Judge, judge, keywords, truth_value, read_items, read_members, reading_at, items_say, judged_by_items, has_schema, schema-judge, prefix_as_items, prefix_moved, old_items_moved, IsOnce, AreSchemas, IsSchemaList, IsNoList, HasPlainItems, by_items, by_prefix_items, both-yes, silent, differ}
-use Rattle.schemars_schema.specs.Acceptance.{read_data}
+use Rattle.schemars_laws.proofs.Words.{or-false, bytes_eq, nat_lt, length, ◌||◌, Data, null, boolean, number, string, array, object, Items, no_items, item, Members, put, get_member, as_array, get_member-put, get_member-put_other, Text, IsSchema, without, Verdict, Dialect, Context, Judge, judge, keywords, truth_value, read_items, read_members, reading_at, items_say, judged_by_items, has_schema, schema-judge, prefix_as_items, prefix_moved, old_items_moved, IsOnce, AreSchemas, IsSchemaList, IsNoList, HasPlainItems, by_items, by_prefix_items, both-yes, silent, differ, read_data}
 use Rattle.schemars_laws.proofs.Looked.{without-other, walked, none-walked, once-walked, list-walked, no_list-walked, Change}
 use Rattle.schemars_laws.proofs.Apart.{four_of, four_by, placed_of, placed_in, look_up, says-moved, outside}
 

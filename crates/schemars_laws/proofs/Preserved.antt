@@ -1,8 +1,6 @@
 -- What holds of every schema object after a rewrite of each.
 use Rattle.std.proofs.Common.{◌≡◌, ◌⊎◌, inl, inr, Some, Bool, true, false, Ordering, Less, Equal, Greater, nat_cmp, is_eq, refl, sym, ap, ◌∙◌, subst}
-use Rattle.schemars_laws.proofs.Words.{bytes_eq-Decides, is_eq-slice_cmp, slice_cmp, match_ordering, bytes_eq, if◌then◌else◌, Data, boolean, array, object, Items, no_items, item, Members, no_members, member, put, get_member, Text, IsSchema, without, replaced, Place, NoSchemas, OneSchema, SchemaList, SchemaOrList, SchemasByName, place_under, Rules, form_at, in_items, in_names, in_keywords, demanded, asked_of_items, asked_of_members}
-use Rattle.schemars_walk.specs.Rewritten.{forms}
-use Rattle.schemars_laws.specs.Everywhere.{asked, asked_of_keywords}
+use Rattle.schemars_laws.proofs.Words.{bytes_eq-Decides, is_eq-slice_cmp, slice_cmp, match_ordering, bytes_eq, if◌then◌else◌, Data, boolean, array, object, Items, no_items, item, Members, no_members, member, put, get_member, Text, IsSchema, without, replaced, Place, NoSchemas, OneSchema, SchemaList, SchemaOrList, SchemasByName, place_under, Rules, form_at, in_items, in_names, in_keywords, demanded, asked_of_items, asked_of_members, forms, asked, asked_of_keywords}
 use Rattle.schemars_laws.proofs.Kept.{IsTruth}
 use Rattle.schemars_laws.proofs.Looked.{change_rules, walked}
 

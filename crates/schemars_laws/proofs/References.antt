@@ -1,13 +1,6 @@
 -- The references that generators write are names.
 use Rattle.std.proofs.Common.{◌≡◌, inr, List, [], ◌∷◌, Option, Some, None, Bool, true, false, codes, refl, ap, ◌∙◌}
-use Rattle.std.specs.Prelude.{IsUtf8, ◌++◌, option_and_then, if◌then◌else◌}
-use Rattle.serde_json.specs.Data.{Data, object, Members}
-use Rattle.serde_json.specs.Find.{get_member, pointer}
-use Rattle.serde_json.proofs.OnLiterals.{serde_json_on_literals}
-use Rattle.schemars_schema.specs.Json.{Text}
-use Rattle.schemars_schema.specs.Encoding.{lookup, encoded, percent_decoded, percent_decoded_bytes, text_of_bytes}
-use Rattle.schemars_schema.proofs.Placings.{pointer-defs, pointer-definitions, plain-defs, plain-definitions, lookup-definition}
-use Rattle.schemars_laws.specs.Names.{IsName}
+use Rattle.schemars_laws.proofs.Words.{IsUtf8, ◌++◌, option_and_then, if◌then◌else◌, Data, object, Members, get_member, pointer, serde_json_on_literals, Text, lookup, encoded, percent_decoded, percent_decoded_bytes, text_of_bytes, pointer-defs, pointer-definitions, plain-defs, plain-definitions, lookup-definition, IsName}
 
 -- a path through what isn't there leads nowhere, whatever its text is decoded to
 text-nowhere : (p : Text → Option Data) (bs : List _) → p bs ≡ None → option_and_then p (text_of_bytes bs) ≡ None

@@ -1,13 +1,6 @@
 -- What an object says depends on one reading of what stands under each keyword: as a schema, as a list, or by name.
 use Rattle.std.proofs.Common.{◌≡◌, ℕ, List, [], ◌∷◌, Option, Some, None, Bool, true, false, codes, option_map, refl, sym, ap, ◌∙◌}
-use Rattle.std.proofs.Math.Path.{fun_ext}
-use Rattle.std.specs.Prelude.{bytes_eq, if◌then◌else◌, ◌||◌, ◌&&◌, ◌++◌, option_and_then}
-use Rattle.serde_json.specs.Find.{as_str}
-use Rattle.serde_json.specs.Data.{Data, null, boolean, number, string, array, object}
-use Rattle.schemars_schema.specs.Json.{Text}
-use Rattle.schemars_schema.specs.Verdict.{Verdict, Yes, No, Open, all_of, any_of, one_of}
-use Rattle.schemars_schema.specs.References.{Place, NoSchemas, OneSchema, SchemaList, SchemaOrList, SchemasByName, place_under}
-use Rattle.schemars_schema.specs.Acceptance.{Dialect, Context, Raw, Readings, Reading, Judge, Part, key, position, Patterns, reads_dependencies, judged_itself, judges_rest, judged_by_items, judged_by_contains, dependencies_say, unevaluated_items_say, keywords, all_keywords, items_say, properties_say, pattern_properties_say, additional_properties_say, each_says, not_says, reference_says, reference_alone, judged_by, judged_by_reference, unevaluated_properties_say, judged_beside, is_covered, has_schema, judged_by_list, contains_says, property_names_say, condition_says, dependent_schemas_say, judged_by_schema, judged_by_condition, judged_by_dependents, branch_of}
+use Rattle.schemars_laws.proofs.Words.{fun_ext, bytes_eq, if◌then◌else◌, ◌||◌, ◌&&◌, ◌++◌, option_and_then, as_str, Data, null, boolean, number, string, array, object, Text, Verdict, Yes, No, Open, all_of, any_of, one_of, Place, NoSchemas, OneSchema, SchemaList, SchemaOrList, SchemasByName, place_under, Dialect, reads_dependencies, Context, Raw, Readings, Reading, Judge, Part, key, position, Patterns, dependencies_say, unevaluated_items_say, items_say, properties_say, pattern_properties_say, additional_properties_say, each_says, not_says, reference_says, unevaluated_properties_say, is_covered, contains_says, property_names_say, condition_says, dependent_schemas_say, judged_itself, judges_rest, judged_by_items, judged_by_contains, judged_by, judged_by_reference, judged_beside, has_schema, judged_by_list, judged_by_schema, judged_by_condition, judged_by_dependents, branch_of, keywords, all_keywords, reference_alone}
 use Rattle.schemars_laws.proofs.Keywords.{values_say, keys_say, schemas_say, before_say, joined_say, left_say, all_say, fits-all}
 
 -- the place under a keyword whose schemas are read, whether a walk reaches them or not

@@ -1,7 +1,6 @@
 -- What each of the seven transforms of OpenAPI keeps of the classes.
 use Rattle.std.proofs.Common.{◌≡◌, ◌⊎◌, inl, inr, Option, Some, None, Bool, true, false, codes, refl, sym, ap, ◌∙◌, subst, true≢false}
-use Rattle.schemars_laws.proofs.Words.{bytes_eq, if◌then◌else◌, ◌==◌, Data, null, boolean, number, string, array, object, no_items, item, Members, no_members, member, put, get_member, members_len, Text, IsSchema, members_in, without, replaced, holds_text, SchemaOrList, draft2020_12, differ, in_keywords, bool_rules, reference_moved, without_siblings, first_as_example, with_single_example, value_as_enum, const_as_enum, prefix_as_items, prefix_moved, old_items_moved, all_null, nulls_in, nullable_by, null_taken_out, type_without_null, unevaluated_as_additional, closed_by, demanded, asked_of_keywords, IsSchemaList, is_null_alone, HasNone, of_draft06, of_draft2019_09, IsConstAlone, HasPlainItems, plain_nullable, IsTextWith, Stands, IsForOpenApi, AfterNullable, AfterSiblings, Anything}
-use Rattle.schemars_laws.specs.Everywhere.{asked}
+use Rattle.schemars_laws.proofs.Words.{bytes_eq, if◌then◌else◌, ◌==◌, Data, null, boolean, number, string, array, object, no_items, item, Members, no_members, member, put, get_member, members_len, Text, IsSchema, members_in, without, replaced, holds_text, SchemaOrList, draft2020_12, differ, in_keywords, bool_rules, reference_moved, without_siblings, first_as_example, with_single_example, value_as_enum, const_as_enum, prefix_as_items, prefix_moved, old_items_moved, all_null, nulls_in, nullable_by, null_taken_out, type_without_null, unevaluated_as_additional, closed_by, demanded, asked_of_keywords, IsSchemaList, is_null_alone, HasNone, of_draft06, of_draft2019_09, IsConstAlone, HasPlainItems, plain_nullable, IsTextWith, Stands, IsForOpenApi, AfterNullable, AfterSiblings, Anything, asked}
 use Rattle.schemars_laws.proofs.Looked.{change_rules}
 use Rattle.schemars_laws.proofs.Siblings.{schema-siblings, moved_members}
 use Rattle.schemars_laws.proofs.Nullable.{nullable_change, nullable}

@@ -1,7 +1,7 @@
 -- A reference at the end of `allOf` in place of one beside other keywords, for readers that pass over those.
 use Rattle.std.proofs.Common.{◌≡◌, ◌≢◌, ℕ, suc, arith, List, [], ◌∷◌, Option, Some, None, Bool, true, false, codes, option_map, map, refl, sym, ap, ◌∙◌, subst, true≢false}
-use Rattle.schemars_laws.proofs.Words.{fun_ext, bytes_eq-Decides, nat_tests, and-false, or-false, or_assoc, bytes_eq, if◌then◌else◌, ◌||◌, ◌&&◌, ◌++◌, ◌==◌, Data, null, boolean, number, string, array, object, Items, no_items, item, Members, no_members, member, put, get_member, members_len, get_member-put, get_member-put_other, Text, is_listed, IsSchema, without, replaced, with_item, with_last, changed_at, Verdict, Yes, No, Open, both, all_of, is_yes, Dialect, Context, Raw, Readings, Judge, judge, keywords, reference_alone, is_reference, truth_value, read_items, read_members, reading_at, judged_by_reference, judged_by, judged_by_list, judged_by_some, judged_beside, judged_itself, judges_rest, Part, position, both_some, reference_says, each_says, judged_by_condition, judged_by_dependents, schema-judge, reading_at-members, judge-agree, referring, reference_moved, without_siblings, IsOnce, IsText, IsSchemaList, HasPlainReference, alone_by, beside_by, both-yes, both-assoc, items_none, const_none, unevaluated_none, differ, get_member-member, unequal, get_member-replaced, get_member-replaced_other}
-use Rattle.schemars_schema.specs.Acceptance.{all_keywords, read_data, key as member_key}
+use Rattle.schemars_laws.proofs.Words.{fun_ext, bytes_eq-Decides, nat_tests, and-false, or-false, or_assoc, bytes_eq, if◌then◌else◌, ◌||◌, ◌&&◌, ◌++◌, ◌==◌, Data, null, boolean, number, string, array, object, Items, no_items, item, Members, no_members, member, put, get_member, members_len, get_member-put, get_member-put_other, Text, is_listed, IsSchema, without, replaced, with_item, with_last, changed_at, Verdict, Yes, No, Open, both, all_of, is_yes, Dialect, Context, Raw, Readings, Judge, judge, keywords, reference_alone, is_reference, truth_value, read_items, read_members, reading_at, judged_by_reference, judged_by, judged_by_list, judged_by_some, judged_beside, judged_itself, judges_rest, Part, position, both_some, reference_says, each_says, judged_by_condition, judged_by_dependents, schema-judge, reading_at-members, judge-agree, referring, reference_moved, without_siblings, IsOnce, IsText, IsSchemaList, HasPlainReference, alone_by, beside_by, both-yes, both-assoc, items_none, const_none, unevaluated_none, differ, get_member-member, unequal, get_member-replaced, get_member-replaced_other, all_keywords, read_data}
+use Rattle.schemars_schema.specs.Judges.{key as member_key}
 use Rattle.schemars_laws.proofs.Keywords.{before_say, last_say, fits-all, left_out, AgreeOutside, left_out-agree}
 use Rattle.schemars_laws.proofs.Seen.{judge_ext}
 use Rattle.schemars_laws.proofs.Looked.{without-other, walked, raw-walked, once-walked, list-walked, Change}

@@ -1,7 +1,7 @@
 -- Where there are no `unevaluatedProperties`, nothing changes, whether they are read or not.
 use Rattle.std.proofs.Common.{◌≡◌, ◌≢◌, List, ◌∷◌, Option, Some, None, Bool, true, false, codes, refl, sym, ap, ◌∙◌, subst}
-use Rattle.schemars_laws.proofs.Words.{fun_ext, bytes_eq-Decides, bytes_eq, if◌then◌else◌, ◌&&◌, not, Data, boolean, object, Members, no_members, member, put, get_member, get_member-put_other, Text, IsSchema, without, Dialect, Context, Raw, Readings, Part, position, judge, keywords, reference_alone, is_reference, read_members, reading_at, judge-agree, differ, unevaluated_as_additional, closed_by, property_names, properties_made, properties_named, object_with_names, with_names, of_draft2019_09, HasNoUnevaluated, with_unevaluated, without_unevaluated}
-use Rattle.schemars_schema.specs.Acceptance.{key as member_key, all_keywords, read_data}
+use Rattle.schemars_laws.proofs.Words.{fun_ext, bytes_eq-Decides, bytes_eq, if◌then◌else◌, ◌&&◌, not, Data, boolean, object, Members, no_members, member, put, get_member, get_member-put_other, Text, IsSchema, without, Dialect, Context, Raw, Readings, Part, position, judge, keywords, reference_alone, is_reference, read_members, reading_at, judge-agree, differ, unevaluated_as_additional, closed_by, property_names, properties_made, properties_named, object_with_names, with_names, of_draft2019_09, HasNoUnevaluated, with_unevaluated, without_unevaluated, all_keywords, read_data}
+use Rattle.schemars_schema.specs.Judges.{key as member_key}
 use Rattle.schemars_laws.proofs.Keywords.{left_out, AllNone, left_out-none}
 use Rattle.schemars_laws.proofs.Formats.{truth-judge}
 use Rattle.schemars_laws.proofs.Seen.{judge_ext}

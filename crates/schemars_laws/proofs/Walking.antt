@@ -1,16 +1,7 @@
 -- What a walk leaves under the keywords that the laws ask about, by any rewrite that goes down under the keywords of which
 -- Enters holds as references say.
 use Rattle.std.proofs.Common.{◌≡◌, List, [], ◌∷◌, Option, Some, None, Bool, true, false, codes, option_map, refl, sym, ap, ◌∙◌, subst}
-use Rattle.std.specs.Prelude.{bytes_eq, if◌then◌else◌}
-use Rattle.serde_json.specs.Data.{Data, null, boolean, number, string, array, object, Items, no_items, item, Members, no_members, member}
-use Rattle.serde_json.specs.Find.{get_member}
-use Rattle.schemars_schema.specs.Json.{Text}
-use Rattle.schemars_schema.specs.SchemaData.{IsSchema}
-use Rattle.schemars_schema.specs.Edits.{without}
-use Rattle.schemars_schema.specs.References.{Place, NoSchemas, SchemaList, SchemaOrList, place_under}
-use Rattle.schemars_walk.specs.Rewritten.{Rules, form_at, forms, in_items, in_keywords}
-use Rattle.schemars_walk.proofs.KeywordLaws.{keywords_get}
-use Rattle.schemars_laws.specs.Classes.{IsOnce, HasNone, AreSchemas, IsSchemaList, IsNoList, HasPlainItems}
+use Rattle.schemars_laws.proofs.Words.{bytes_eq, if◌then◌else◌, Data, null, boolean, number, string, array, object, Items, no_items, item, Members, no_members, member, get_member, Text, IsSchema, without, Place, NoSchemas, SchemaList, SchemaOrList, place_under, Rules, form_at, forms, in_items, in_keywords, keywords_get, IsOnce, HasNone, AreSchemas, IsSchemaList, IsNoList, HasPlainItems}
 
 module _ {R : Type 0} (ρ : Rules R) (Enters : Text → Type 0)
     (place : (r : R) (k : Text) (d : Data) → Enters k → ρ.place r k d ≡ place_under k) where

@@ -6,7 +6,7 @@ use Rattle.serde_json.specs.Find.{get_member}
 use Rattle.schemars_schema.specs.Json.{Text}
 use Rattle.schemars_schema.specs.SchemaData.{IsSchema}
 use Rattle.schemars_schema.specs.Edits.{without, holds_text}
-use Rattle.schemars_schema.specs.Acceptance.{Dialect}
+use Rattle.schemars_schema.specs.Dialects.{Dialect}
 use Rattle.schemars_transform.specs.Nullable.{all_null}
 use Rattle.schemars_transform.specs.declared.built_in.nullable.AddNullable.{AddNullable}
 

@@ -3,7 +3,9 @@ use Rattle.std.specs.Prelude.{◌≡◌, ℕ, true, codes}
 use Rattle.serde_json.specs.Data.{Data, object, Members}
 use Rattle.serde_json.specs.Find.{get_member}
 use Rattle.schemars_schema.specs.Json.{Text}
-use Rattle.schemars_schema.specs.Acceptance.{Dialect, Patterns, draft2020_12, openapi3, accepts}
+use Rattle.schemars_schema.specs.Dialects.{Dialect, draft2020_12, openapi3}
+use Rattle.schemars_schema.specs.Judges.{Patterns}
+use Rattle.schemars_schema.specs.Acceptance.{accepts}
 use Rattle.schemars_transform.specs.Built.{replace_bool_schemas, remove_ref_siblings, set_single_example, replace_const_value, replace_prefix_items}
 use Rattle.schemars_transform.specs.Nullable.{add_nullable}
 use Rattle.schemars_transform.specs.Unevaluated.{replace_unevaluated_properties}

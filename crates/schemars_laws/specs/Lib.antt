@@ -5,3 +5,4 @@ pub mod Classes
 pub mod Paths
 pub mod Stages
 pub mod Laws
+pub mod Words

@@ -4,7 +4,7 @@ use Rattle.serde_json.specs.Data.{Data, null, boolean, number, string, array, ob
 use Rattle.serde_json.specs.Find.{get_member, as_str}
 use Rattle.schemars_schema.specs.Json.{Text}
 use Rattle.schemars_schema.specs.Encoding.{lookup}
-use Rattle.schemars_schema.specs.Acceptance.{Dialect, reads_dependencies}
+use Rattle.schemars_schema.specs.Dialects.{Dialect, reads_dependencies}
 
 -- if a document has a map at key, the reference leads to its member k, and to nothing if there is no such member
 pub record IsNameOf (key k reference : Text) : Type 0 where

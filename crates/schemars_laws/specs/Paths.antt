@@ -6,7 +6,9 @@ use Rattle.serde_json.specs.Find.{get_member}
 use Rattle.schemars_schema.specs.Json.{Text}
 use Rattle.schemars_schema.specs.Encoding.{encoded}
 use Rattle.schemars_schema.specs.SchemaData.{members_in}
-use Rattle.schemars_schema.specs.Acceptance.{Dialect, Patterns, accepts}
+use Rattle.schemars_schema.specs.Dialects.{Dialect}
+use Rattle.schemars_schema.specs.Judges.{Patterns}
+use Rattle.schemars_schema.specs.Acceptance.{accepts}
 use Rattle.schemars_laws.specs.Everywhere.{Everywhere}
 use Rattle.schemars_laws.specs.Names.{NamedBy}
 

@@ -6,17 +6,14 @@
 //! each definition is transformed too. References are `#` or name a definition there. Where the
 //! dialects read `unevaluatedProperties`, `unevaluatedItems`, `dependentSchemas` or
 //! `dependencies`, no schema object is under them.
-ghost use Rattle.schemars_schema.specs.Acceptance.{Dialect, draft2020_12};
-ghost use Rattle.schemars_schema.specs.Acceptance as dialect;
+ghost use Rattle.schemars_laws.specs.Words.{Dialect, draft2020_12, IsConstAlone, HasPlainItems, HasPlainReference, HasPlainType, HasNoUnevaluated, IsDraft07, plain_nullable, without_const, with_const, by_items, by_prefix_items, alone_by, beside_by, with_nullable_read, without_nullable_read, with_unevaluated, without_unevaluated, Anything, MovesDrafts, MovesDocuments, MovesToOpenApi, LeavesReferencesAlone, for_draft07, for_draft2019_09, for_openapi3};
+ghost use Rattle.schemars_schema.specs.Dialects as dialect;
 ghost use Rattle.schemars_transform.specs.Built as made;
 ghost use Rattle.schemars_transform.specs.Nullable as nullable;
 ghost use Rattle.schemars_transform.specs.declared.built_in.bool_schemas.ReplaceBoolSchemas as src;
 ghost use Rattle.schemars_transform.specs.Formats as formats;
 ghost use Rattle.schemars_transform.specs.declared.built_in.formats.RestrictFormats as restricts;
 ghost use Rattle.schemars_transform.specs.Unevaluated as unevaluated;
-ghost use Rattle.schemars_laws.specs.Classes.{IsConstAlone, HasPlainItems, HasPlainReference, HasPlainType, HasNoUnevaluated, IsDraft07, plain_nullable, without_const, with_const, by_items, by_prefix_items, alone_by, beside_by, with_nullable_read, without_nullable_read, with_unevaluated, without_unevaluated};
-ghost use Rattle.schemars_laws.specs.Stages.{Anything};
-ghost use Rattle.schemars_laws.specs.Laws.{MovesDrafts, MovesDocuments, MovesToOpenApi, LeavesReferencesAlone, for_draft07, for_draft2019_09, for_openapi3};
 
 /// Truth values as objects mean the same.
 pub fn replace_bool_schemas()

@@ -1,9 +1,8 @@
 -- What the document of an enum says whose values have name and content under two keys.
 use Rattle.std.proofs.Common.{◌≡◌, ℕ, ◌<◌, List, [], ◌∷◌, ◌++◌, map, Some, Bool, true, false, refl, sym, ap, ◌∙◌, subst}
-use Rattle.schemars_meaning.proofs.Words.{bytes_eq, list_any, Data, no_members, depth, Text, IsJson, IsSchema, verdict, Context, judge, unit_variant, Field, Flattened, Payload, Variant, no_payload, newtype_payload, tuple_payload, struct_payload, VariantMatch, has_payload, expanded_payload, expanded_variant, AreDistinctVariants, Ask, Template, asks_of, asks_in, filled, filled_in, templates_of, payload_template, said, whole_template, adjacent_payload, adjacent_item, adjacent_template}
-use Rattle.schemars_schema.specs.Acceptance.{read_data}
+use Rattle.schemars_meaning.proofs.Words.{bytes_eq, list_any, Data, no_members, depth, Text, IsJson, IsSchema, verdict, Context, judge, unit_variant, Field, Flattened, Payload, Variant, no_payload, newtype_payload, tuple_payload, struct_payload, VariantMatch, has_payload, expanded_payload, expanded_variant, AreDistinctVariants, Ask, Template, asks_of, asks_in, filled, filled_in, templates_of, payload_template, said, whole_template, adjacent_payload, adjacent_item, adjacent_template, read_data, has_beside, has_adjacent, must_have}
 use Rattle.schemars_types.specs.declared.contract.Contract.{Contract}
-use Rattle.schemars_types.specs.Meaning.{is_text, has_beside, has_adjacent, must_have}
+use Rattle.schemars_types.specs.Meaning.{is_text}
 use Rattle.schemars_meaning.proofs.Filling.{Fit, without_end, parted}
 use Rattle.schemars_meaning.proofs.Notes.{annotated-schema, annotated_fits}
 use Rattle.schemars_meaning.proofs.SmallMaps.{one_means, two_mean}

@@ -1,7 +1,6 @@
 -- What holds of objects by their keywords, and of all documents that are put together of them.
 use Rattle.std.proofs.Common.{◌≡◌, ℕ, ℤ, pos, negsuc, List, [], ◌∷◌, ◌++◌, map, length, Bool, true, false, Option, Some, None, refl, arith, Contains}
-use Rattle.schemars_meaning.proofs.Words.{AllByRecursion, codes, bytes_eq, not, Data, boolean, number, string, array, Text, get_member, IsSchema, members_in, object_of, references, NoSchemas, text_items, unit_variant, Shape, Fields, Flattened, KeyOptions, keys, required_names, type_alone, int_document, non_zero_document, bytes_document, Basis, Template, Ask, part, content, asked, finished, row, list, members, nullable, KeywordTemplate, templates_of, property, map_template, fields_template, with_flattened, struct_template, tuple_template, said, values_of, all_patterns, pattern_properties_at, properties_at, values_template, template_of, Contains-append_right, unsigned, of_integer, is_float, has_float, items_have_float, is_listed, Place, SchemaList, SchemasByName, place_under, zero_schema, format_of, pattern_of, least_of, greatest_of, int_keywords, is_signed, char_document, formatted_document, empty_list_document, schema_document, with_keywords, object_with, typed_template, count_template, exactly, list_template, units_template, members_asked, required_at, closed_keyword, other_values, literal_document}
-use Rattle.schemars_schema.specs.References.{found_in}
+use Rattle.schemars_meaning.proofs.Words.{AllByRecursion, codes, bytes_eq, not, Data, boolean, number, string, array, Text, get_member, IsSchema, members_in, object_of, references, NoSchemas, text_items, unit_variant, Shape, Fields, Flattened, KeyOptions, keys, required_names, type_alone, int_document, non_zero_document, bytes_document, Basis, Template, Ask, part, content, asked, finished, row, list, members, nullable, KeywordTemplate, templates_of, property, map_template, fields_template, with_flattened, struct_template, tuple_template, said, values_of, all_patterns, pattern_properties_at, properties_at, values_template, template_of, Contains-append_right, unsigned, of_integer, is_float, has_float, items_have_float, is_listed, Place, SchemaList, SchemasByName, place_under, zero_schema, format_of, pattern_of, least_of, greatest_of, int_keywords, is_signed, char_document, formatted_document, empty_list_document, schema_document, with_keywords, object_with, typed_template, count_template, exactly, list_template, units_template, members_asked, required_at, closed_keyword, other_values, literal_document, found_in}
 use Rattle.schemars_shapes.specs.Shape as shape
 use Rattle.schemars_shapes.specs.declared.shape.IntegerKeys.{IntegerKeys}
 use Rattle.schemars_types.specs.declared.contract.Contract.{Contract}

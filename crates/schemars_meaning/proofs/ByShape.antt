@@ -1,12 +1,9 @@
 -- What fills the template of a shape is the shape's document, shape by shape.
-use Rattle.std.proofs.Common.{◌≡◌, ℕ, zero, suc, List, [], ◌∷◌, ◌++◌, Bool, true, false, length, map, refl, sym, ap, ◌∙◌, subst, append-nil}
-use Rattle.schemars_meaning.proofs.Words.{codes, Data, boolean, array, Items, no_items, item, items_of, Text, object_of, allow_null, text_items, unit_variant, Shape, Field, Flattened, Entry, key_options, effective, Keyword, typed, type_alone, int_document, non_zero_document, bytes_document, required_names, annotated, parts_in, ArePlainParts, Basis, Ask, part, row, asks_of, asks_in, filled, filled_in, templates_of, tuple_template, template_of, entry_template, values_template, Fills}
+use Rattle.std.proofs.Common.{◌≡◌, ℕ, zero, suc, List, [], ◌∷◌, Bool, true, false, length, map, refl, sym, ap, ◌∙◌, subst, append-nil}
+use Rattle.schemars_meaning.proofs.Words.{codes, Data, boolean, array, Items, no_items, item, items_of, Text, object_of, allow_null, text_items, unit_variant, Shape, Field, Flattened, Entry, key_options, effective, Keyword, typed, type_alone, int_document, non_zero_document, bytes_document, annotated, parts_in, ArePlainParts, Basis, Ask, part, row, asks_of, asks_in, filled, filled_in, templates_of, tuple_template, template_of, entry_template, values_template, Fills, char_document, formatted_document, count_at, empty_list_document, schema_document, literal_document, enum_template}
 use Rattle.schemars_shapes.specs.Shape as shape
-use Rattle.schemars_types.specs.declared.contract.Contract.{Contract}
-use Rattle.schemars_documents.specs.Documents.{char_document, formatted_document, count_at, empty_list_document, schema_document}
-use Rattle.schemars_documents.specs.OfShape.{literal_document, enum_template}
 use Rattle.schemars_meaning.proofs.MapDocument.{map_document}
-use Rattle.schemars_meaning.proofs.Spread.{field_keywords, IsFieldsDocument, AnswersFields}
+use Rattle.schemars_meaning.proofs.Spread.{IsFieldsDocument, AnswersFields}
 use Rattle.schemars_meaning.proofs.Filling.{ArePartsWritten, Fit, rows_asked, parts_answered}
 use Rattle.schemars_meaning.proofs.Flattened.{struct_fills}
 
@@ -40,11 +37,6 @@ tuple_document (t ∷ ts) =
     ∷ count_at (codes "maxItems") (length (t ∷ ts)) ∷ [])
 
 -- ---- structs
-
--- a map with these fields, and with the variant's name under the tag, in place of any field there
-abbrev pub tagged_document : Contract → Text → Text → List Field → List Data → Bool → Data
-tagged_document contract tag name fields ts closed =
-    map_document (field_keywords fields ts ++ (tag, unit_variant name) ∷ []) (tag ∷ required_names contract fields) closed
 
 -- ---- choices
 

@@ -1,13 +1,9 @@
 -- What a choice of documents says under 2020-12, and the documents of maps with members that have to be there.
 use Rattle.std.proofs.Common.{◌≡◌, ℕ, ◌<◌, List, [], ◌∷◌, map, Some, None, Bool, true, false, refl, ap, ◌∙◌}
-use Rattle.schemars_meaning.proofs.Words.{codes, ◌||◌, bytes_eq, Data, null, boolean, number, string, array, object, depth, verdict, opposite, one_of, as_str, list_any, text_items, context2020_12, Text, IsJson, IsSchema, Patterns, Judge, Context, judge, read_items, both-yes, schema-judge, unit_variant, has_shape, exactly_one, none, items_of, key_options, Basis}
-use Rattle.schemars_schema.specs.Verdict.{none_of}
-use Rattle.schemars_schema.specs.Json.{alike, is_among}
-use Rattle.schemars_schema.specs.Acceptance.{read_data, all_keywords}
+use Rattle.schemars_meaning.proofs.Words.{codes, ◌||◌, bytes_eq, Data, null, boolean, number, string, array, object, depth, verdict, opposite, one_of, as_str, list_any, text_items, context2020_12, Text, IsJson, IsSchema, Patterns, Judge, Context, judge, read_items, both-yes, schema-judge, unit_variant, has_shape, exactly_one, none, items_of, key_options, Basis, none_of, alike, is_among, read_data, all_keywords, has_member, no_choices}
 use Rattle.schemars_shapes.specs.Shape as shape
 use Rattle.schemars_types.specs.declared.contract.Contract.{Contract}
-use Rattle.schemars_types.specs.Meaning.{is_text, has_member}
-use Rattle.schemars_types.specs.OpenStructs.{no_choices}
+use Rattle.schemars_types.specs.Meaning.{is_text}
 use Rattle.schemars_meaning.proofs.ByShape.{one_of_document, any_of_document, units_document, member_document, range_document, result_document, bound_document, either_document}
 use Rattle.schemars_meaning.proofs.Verdicts.{none_verdict, one_verdict}
 use Rattle.schemars_meaning.proofs.SmallMaps.{one_means, two_mean}

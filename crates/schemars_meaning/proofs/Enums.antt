@@ -1,8 +1,6 @@
 -- What the documents of untagged enums say under 2020-12.
 use Rattle.std.proofs.Common.{◌≡◌, ◌⊎◌, ℕ, List, [], ◌∷◌, map, Bool, true, false, refl, ap, ◌∙◌}
-use Rattle.schemars_meaning.proofs.Words.{list_any, Data, Members, verdict, Text, IsSchema, Patterns, Judge, Context, judge, AreNotes, context2020_12, Variant, newtype_payload, Basis, Ask, Template, noted, asks_of, asks_in, filled, filled_in, templates_of, payload_template, payload_item, untagged_template, titled}
-use Rattle.schemars_schema.specs.Acceptance.{read_data}
-use Rattle.schemars_documents.specs.OfShape.{any_of_template, title_alone}
+use Rattle.schemars_meaning.proofs.Words.{list_any, Data, Members, verdict, Text, IsSchema, Patterns, Judge, Context, judge, AreNotes, context2020_12, Variant, newtype_payload, Basis, Ask, Template, noted, asks_of, asks_in, filled, filled_in, templates_of, payload_template, payload_item, untagged_template, titled, read_data, any_of_template, title_alone}
 use Rattle.schemars_meaning.proofs.Filling.{Fit, without_end, parted}
 use Rattle.schemars_meaning.proofs.Notes.{judge-annotated, annotated-schema}
 use Rattle.schemars_meaning.proofs.Choices.{Say, any_of_says}

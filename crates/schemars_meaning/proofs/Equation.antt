@@ -1,9 +1,8 @@
 -- In a table without faults more steps change nothing in what a row means, so that the meaning of a row is that of its shape, where the
 -- rows in the shape have their meanings.
 use Rattle.std.proofs.Common.{◌≡◌, ◌⊎◌, inl, inr, ◌<◌, ◌≤◌, ℕ, zero, suc, ◌+◌, ◌*◌, List, [], length, Bool, false, Option, Some, None, Contains, refl, sym, ap, ◌∙◌, arith}
-use Rattle.schemars_meaning.proofs.Words.{mul-le-mul_right, Data, depth, Patterns, Shape, Entry, Tagging, by_name, by_nothing, by_tag, by_tag_and_content, Payload, no_payload, newtype_payload, tuple_payload, struct_payload, payload_flattened, payload_same, payload_same_by, same_value_numbers, flattened_numbers, rank, flattened_in, part_enums, expanded_shape_in, IsChecked, key_options, VariantMatch, has_shape, shape_choices, belongs, Row, entry_at, entry_low, of_variants-more, nothing_among, choices, MeansByShape}
+use Rattle.schemars_meaning.proofs.Words.{mul-le-mul_right, Data, depth, Patterns, Shape, Entry, Tagging, by_name, by_nothing, by_tag, by_tag_and_content, Payload, no_payload, newtype_payload, tuple_payload, struct_payload, payload_flattened, payload_same, payload_same_by, same_value_numbers, flattened_numbers, rank, flattened_in, part_enums, expanded_shape_in, IsChecked, key_options, VariantMatch, has_shape, shape_choices, belongs, Row, entry_at, entry_low, of_variants-more, nothing_among, choices, MeansByShape, belongs_within, choices_within}
 use Rattle.schemars_shapes.specs.Shape as shape
-use Rattle.schemars_types.specs.Meaning.{belongs_within, choices_within}
 use Rattle.schemars_types.specs.declared.contract.Contract.{Contract}
 use Rattle.schemars_types.proofs.Asked.{asked}
 use Rattle.schemars_meaning.proofs.Congruence.{AreSameBelow, shape_same, offers_same}

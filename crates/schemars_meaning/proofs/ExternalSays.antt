@@ -1,11 +1,8 @@
 -- What the document of an enum says whose variants have their names as keys, and whose payloads may have enums among their members.
 use Rattle.std.proofs.Common.{◌≡◌, ℕ, ◌<◌, List, [], ◌∷◌, ◌++◌, map, Option, Some, None, Bool, true, false, refl, sym, ap, ◌∙◌, subst, true≢false}
-use Rattle.schemars_meaning.proofs.Words.{bytes_eq, if◌then◌else◌, ◌||◌, list_any, option_map_or, and_parts, bytes_eq-Decides, Data, string, object, Members, no_members, member, depth, Text, IsJson, IsSchema, AreNotes, verdict, Context, judge, unit_variant, Field, Flattened, Payload, Variant, no_payload, newtype_payload, tuple_payload, struct_payload, is_bare_unit, none, exactly_one, VariantMatch, has_payload, AreDistinctVariants, Ask, Template, noted, asks_of, asks_in, filled, filled_in, templates_of, member_template, payload_template, named_template, bare_units, other_items, choice_of, external_template, expanded_payload, expanded_variant}
-use Rattle.std.proofs.lemmas.Option.{same_Some}
-use Rattle.schemars_schema.specs.Acceptance.{key, read_data}
+use Rattle.schemars_meaning.proofs.Words.{bytes_eq, if◌then◌else◌, ◌||◌, list_any, option_map_or, and_parts, bytes_eq-Decides, Data, string, object, Members, no_members, member, depth, Text, IsJson, IsSchema, AreNotes, verdict, Context, judge, unit_variant, Field, Flattened, Payload, Variant, no_payload, newtype_payload, tuple_payload, struct_payload, is_bare_unit, none, exactly_one, VariantMatch, has_payload, AreDistinctVariants, Ask, Template, noted, asks_of, asks_in, filled, filled_in, templates_of, member_template, payload_template, named_template, bare_units, other_items, choice_of, external_template, expanded_payload, expanded_variant, same_Some, key, read_data, has_external, has_member, must_have, IsNoVariant}
 use Rattle.schemars_types.specs.declared.contract.Contract.{Contract}
-use Rattle.schemars_types.specs.Meaning.{is_text, has_external, has_member, must_have}
-use Rattle.schemars_documents.specs.PlainTable.{IsNoVariant}
+use Rattle.schemars_types.specs.Meaning.{is_text}
 use Rattle.schemars_meaning.proofs.Filling.{Fit, without_end, parted}
 use Rattle.schemars_meaning.proofs.Offers.{AllSay, one_object, object_fits}
 use Rattle.schemars_meaning.proofs.UnitMembers.{units_schema}

@@ -1,11 +1,10 @@
 -- A field's schema is found at its name.
 use Rattle.std.proofs.Common.{◌≡◌, ℕ, List, [], ◌∷◌, Option, Some, None, Bool, true, false, refl, sym, ◌∙◌, true≢false, map}
-use Rattle.schemars_meaning.proofs.Words.{bytes_eq, ◌&&◌, ◌||◌, not, is_some, if◌then◌else◌, bytes_eq-Decides, Data, Members, put, get_member, get_member-put, get_member-put_other, Text, IsSchema, put_all, have_all, AreNotes, Field, is_required, field_named, IsNoName, AreDistinct, AreNoted, annotated, required_names}
+use Rattle.schemars_meaning.proofs.Words.{bytes_eq, ◌&&◌, ◌||◌, not, is_some, if◌then◌else◌, bytes_eq-Decides, Data, Members, put, get_member, get_member-put, get_member-put_other, Text, IsSchema, put_all, have_all, AreNotes, Field, is_required, field_named, IsNoName, AreDistinct, AreNoted, annotated, required_names, has_each, field_member}
 use Rattle.schemars_types.specs.declared.contract.Contract.{Contract}
 use Rattle.schemars_meaning.proofs.Spread.{field_keywords, AreWritten}
 use Rattle.schemars_meaning.proofs.Notes.{annotated-schema}
 use Rattle.schemars_meaning.proofs.Named.{AreEntries}
-use Rattle.schemars_types.specs.Meaning.{has_each, field_member}
 
 module _ (W : ℕ → Data → Type 0) where
   abbrev pub Finds : Option Field → Option Data → Option Data → Type 0

@@ -1,8 +1,6 @@
 -- In a plain table a flattened struct has the document of a map with its fields, and null can be added to each document.
 use Rattle.std.proofs.Common.{◌≡◌, inl, inr, ℕ, zero, suc, List, [], ◌∷◌, Option, Some, None, Bool, false, refl, sym, ap, ◌∙◌, subst, arith}
-use Rattle.schemars_meaning.proofs.Words.{is_some, ◌&&◌, option_map_or, Data, Text, Dialect, allow_null, IsReady, Field, Flattened, Fields, Shape, Entry, entry_at, effective, flattened_in, part_enums, shape_fields, flattened_part, annotated, required_names, ArePlainParts, IsPlainEntry, Basis, Ask, asks_of, filled, template_of, struct_template, IsOwnDocument, IsAnswered, IsWritten, IsDraft, AcceptsNullToo, ready-law, option_at, part_fields, IsOpenStruct, IsPlainTable, bare, part_same, parts_apart}
-use Rattle.schemars_types.specs.Effective.{fields_within}
-use Rattle.schemars_documents.specs.Describes.{Describes}
+use Rattle.schemars_meaning.proofs.Words.{is_some, ◌&&◌, option_map_or, Data, Text, Dialect, allow_null, IsReady, Field, Flattened, Fields, Shape, Entry, entry_at, effective, flattened_in, part_enums, shape_fields, flattened_part, annotated, required_names, ArePlainParts, IsPlainEntry, Basis, Ask, asks_of, filled, template_of, struct_template, IsOwnDocument, IsAnswered, IsWritten, IsDraft, AcceptsNullToo, ready-law, option_at, part_fields, IsOpenStruct, IsPlainTable, bare, part_same, parts_apart, fields_within, Describes}
 use Rattle.schemars_meaning.proofs.Spread.{field_keywords, IsFieldsDocument, AnswersFields}
 use Rattle.schemars_meaning.proofs.Flattening.{part-stays}
 use Rattle.schemars_meaning.proofs.Filling.{Fit}

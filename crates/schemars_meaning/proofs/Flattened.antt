@@ -1,9 +1,8 @@
 -- What fills the template of a struct is the document of a map with its own fields and those of the rows flattened into it.
 use Rattle.std.proofs.Common.{◌≡◌, ℕ, List, [], ◌∷◌, ◌++◌, Bool, true, false, map, refl, sym, ap, ◌∙◌, subst, append_assoc, append-nil}
-use Rattle.schemars_meaning.proofs.Words.{if◌then◌else◌, Data, Members, Text, text_items, flattened, Field, Flattened, Fields, is_required, Row, effective, flattened_fields, Keyword, annotated, required_names, IsPlainPart, ArePlainParts, Ask, part, members_of, Template, asked, asks_of, asks_in, filled, filled_in, first, keyed, templates_of, property, map_template, with_flattened, struct_template, fields_template}
+use Rattle.schemars_meaning.proofs.Words.{if◌then◌else◌, Data, Members, Text, text_items, flattened, Field, Flattened, Fields, is_required, Row, effective, flattened_fields, Keyword, annotated, required_names, IsPlainPart, ArePlainParts, Ask, part, members_of, Template, asked, asks_of, asks_in, filled, filled_in, first, keyed, templates_of, property, map_template, with_flattened, struct_template, fields_template, with_keywords}
 use Rattle.schemars_types.specs.declared.contract.Contract.{Contract}
 use Rattle.schemars_types.specs.declared.contract.Contract.TheVariants.{Deserialize, Serialize}
-use Rattle.schemars_documents.specs.Template.{with_keywords}
 use Rattle.schemars_meaning.proofs.MapDocument.{map_document, noted_by, AllNotes}
 use Rattle.schemars_meaning.proofs.Spread.{field_keywords, AreWritten, IsFieldsDocument, AnswersFields}
 use Rattle.schemars_meaning.proofs.Flattening.{flattened-maps}

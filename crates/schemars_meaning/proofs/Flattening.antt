@@ -1,7 +1,6 @@
 -- The documents of maps put into one another, and into the content of a tagged variant.
 use Rattle.std.proofs.Common.{◌≡◌, List, [], ◌∷◌, ◌++◌, Option, Some, None, Bool, true, false, refl, sym, ap, ◌∙◌, true≢false}
-use Rattle.schemars_meaning.proofs.Words.{◌&&◌, bytes_eq, codes, if◌then◌else◌, option_and_then, Data, string, array, object, no_items, Members, no_members, member, put, get, get_member, as_str, as_array, get_member-put, get_member-put_other, Text, replaced, removed, with_member, with_first, on_list, is_annotation, NoSchemas, differ, IsSorted, sorted-put, with_property, has_null_type, internally_tagged_variant, unit_variant, united_all, flattened, united_option, united_none, opened, unit_objects, first_as_objects, list_changed_at, units_as_objects, flattened_part, Keyword, type_alone, option_map, is_text, same_members, closed_where, is_joined, is_merged, moved_beside, either_option, same_object_place, opening, opened_here, has_type, with_units}
-use Rattle.schemars_walk.specs.Rewritten.{forms, in_keywords}
+use Rattle.schemars_meaning.proofs.Words.{◌&&◌, bytes_eq, codes, if◌then◌else◌, option_and_then, Data, string, array, object, no_items, Members, no_members, member, put, get, get_member, as_str, as_array, get_member-put, get_member-put_other, Text, replaced, removed, with_member, with_first, on_list, is_annotation, NoSchemas, differ, IsSorted, sorted-put, with_property, has_null_type, internally_tagged_variant, unit_variant, united_all, flattened, united_option, united_none, opened, unit_objects, first_as_objects, list_changed_at, units_as_objects, flattened_part, Keyword, option_map, is_text, same_members, closed_where, is_joined, is_merged, moved_beside, either_option, same_object_place, opening, opened_here, has_type, with_units, forms, in_keywords}
 use Rattle.schemars_builders.specs.Properties.{tagged}
 use Rattle.schemars_flatten.specs.Flatten.{with_keywords}
 use Rattle.schemars_meaning.proofs.MapDocument.{map_document, noted_by, AllNotes}
@@ -138,12 +137,6 @@ tagged-map notes tag name deny es r closed all =
     (no_null notes tag name es r closed all deny)
     ∙ (ap object (tagged-same notes tag name es r closed all)
     ∙ sym (noted_by-object notes (keywords (es ++ (tag, unit_variant name) ∷ []) (tag ∷ r) closed))))
-
--- a variant that holds nothing
-pub tagged-null : (tag name : Text) (deny : Bool) → internally_tagged_variant tag name deny (type_alone (codes "null"))
-    ≡ map_document ((tag, unit_variant name) ∷ []) (tag ∷ []) deny
-tagged-null tag name false = refl
-tagged-null tag name true = refl
 
 -- ---- two documents of maps
 

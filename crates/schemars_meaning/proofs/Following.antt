@@ -1,10 +1,7 @@
 -- A document accepts just what belongs to its row, through references and rows that lead back to themselves.
 use Rattle.std.proofs.Common.{◌≡◌, ◌⊎◌, inl, inr, ℕ, zero, suc, ◌+◌, ◌*◌, ◌<◌, ◌≤◌, List, [], ◌∷◌, Option, Some, None, Bool, true, false, refl, ap, ◌∙◌, arith, add-one}
-use Rattle.schemars_meaning.proofs.Words.{if◌then◌else◌, Data, depth, verdict, Text, IsJson, Patterns, Judge, draft2020_12, judge, follow, both-yes, context2020_12, IsReady, ready-schema, Entry, Row, entry_at, key_options, expanded_shape_in, VariantMatch, has_shape, choices_within, reference, IsEntryUnder, parts_in, Basis, Ask, filled, template_of, Fills, IsOwnDocument, IsAnswered, IsWritten, nat_lt, length, mul-le-mul_right, nat_tests, resolved}
-use Rattle.schemars_schema.specs.Acceptance.{read_data, all_keywords}
+use Rattle.schemars_meaning.proofs.Words.{if◌then◌else◌, Data, depth, verdict, Text, IsJson, Patterns, Judge, draft2020_12, judge, follow, both-yes, context2020_12, IsReady, ready-schema, Entry, Row, entry_at, key_options, expanded_shape_in, VariantMatch, has_shape, choices_within, reference, IsEntryUnder, parts_in, Basis, Ask, filled, template_of, Fills, IsOwnDocument, IsAnswered, IsWritten, nat_lt, length, mul-le-mul_right, nat_tests, resolved, read_data, all_keywords, belongs_within, Describes}
 use Rattle.schemars_types.specs.declared.contract.Contract.{Contract}
-use Rattle.schemars_types.specs.Meaning.{belongs_within}
-use Rattle.schemars_documents.specs.Describes.{Describes}
 use Rattle.schemars_meaning.proofs.Notes.{judge-annotated}
 use Rattle.schemars_meaning.proofs.Meanings.{IsSame, Inside}
 use Rattle.schemars_meaning.proofs.Heights as heights

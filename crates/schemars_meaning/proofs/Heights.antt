@@ -1,9 +1,6 @@
 -- Smaller values first, for documents of every depth; then references; then the depth of the document.
 use Rattle.std.proofs.Common.{◌≡◌, ◌⊎◌, inl, inr, ℕ, zero, suc, ◌+◌, ◌*◌, ◌<◌, ◌≤◌, Some, Bool, sym, ap, ◌∙◌, subst, arith}
-use Rattle.schemars_meaning.proofs.Words.{Data, depth, Text, IsJson, verdict, Dialect, Patterns, Judge, judge}
-use Rattle.schemars_schema.specs.Lookup.{resolved}
-use Rattle.schemars_schema.specs.Acceptance.{follow}
-use Rattle.schemars_builders.specs.NullLaw.{context_of}
+use Rattle.schemars_meaning.proofs.Words.{Data, depth, Text, IsJson, verdict, Dialect, Patterns, Judge, judge, resolved, follow, context_of}
 
 module _ (dialect : Dialect) (patterns : Patterns) (document : Data) (Refers : ℕ → Text → Type 0) (D : ℕ → ℕ → Data → Type 0)
     (B : ℕ → ℕ → Data → Bool) (hops rank : ℕ → ℕ) (most ranks : ℕ)

@@ -1,9 +1,8 @@
 -- An enum that is tagged inside its maps, where it is flattened.
 use Rattle.std.proofs.Common.{◌≡◌, ℕ, ◌<◌, List, [], ◌∷◌, Bool, true, map, refl, sym, subst}
-use Rattle.schemars_meaning.proofs.Words.{Data, Members, depth, Text, IsJson, IsSchema, AreNotes, verdict, Context, judge, unit_variant, Field, Fields, Payload, Variant, no_payload, newtype_payload, tuple_payload, struct_payload, VariantMatch, AreDistinct, AreNoted, annotated, Ask, part, asks_of, asks_in, filled, filled_in, templates_of, struct_template, content_template, internal_item, internal_template}
+use Rattle.schemars_meaning.proofs.Words.{Data, Members, depth, Text, IsJson, IsSchema, AreNotes, verdict, Context, judge, unit_variant, Field, Fields, Payload, Variant, no_payload, newtype_payload, tuple_payload, struct_payload, VariantMatch, AreDistinct, AreNoted, annotated, Ask, part, asks_of, asks_in, filled, filled_in, templates_of, struct_template, content_template, internal_item, internal_template, internal_choice, tagged}
 use Rattle.schemars_types.specs.declared.contract.Contract.{Contract}
-use Rattle.schemars_types.specs.Meaning.{is_text, internal_choice}
-use Rattle.schemars_documents.specs.Template.{tagged}
+use Rattle.schemars_types.specs.Meaning.{is_text}
 use Rattle.schemars_meaning.proofs.Filling.{Fit, without_end, parted}
 use Rattle.schemars_meaning.proofs.Offers.{one_object}
 use Rattle.schemars_meaning.proofs.Items.{IsItem, AnyItems}

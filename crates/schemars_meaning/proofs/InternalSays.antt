@@ -1,7 +1,6 @@
 -- What the document of an enum says that is tagged inside its maps, whose structs may have enums among their members.
 use Rattle.std.proofs.Common.{◌≡◌, ℕ, ◌<◌, List, [], ◌∷◌, map, Option, Some, None, Bool, true, false, refl, sym, ap, ◌∙◌, subst, true≢false, Ordering, Less, Equal, Greater, nat_cmp, is_eq}
-use Rattle.schemars_meaning.proofs.Words.{bytes_eq, if◌then◌else◌, is_some, ◌||◌, option_and_then, codes, list_any, match_ordering, slice_cmp, and_parts, bytes_eq-Decides, Data, null, object, Members, no_members, member, depth, get_member, as_str, Text, IsJson, IsSchema, AreNotes, without, verdict, Context, judge, unit_variant, internally_tagged_variant, Field, Fields, Flattened, Payload, Variant, no_payload, newtype_payload, tuple_payload, struct_payload, holds, every_member, none, exactly_one, VariantMatch, every_part, excludes_key, matches_of, has_tagged, AreDistinctVariants, AreDistinct, AreNoted, type_alone, Ask, part, asks_of, asks_in, filled, filled_in, templates_of, struct_template, content_template, internal_item, internal_template, expanded_variant, effective, flattened_enums, enum_at, option_map_or, not, is_eq-slice_cmp, same_Some, as_object, has_content, has_internal, Member, member_named, has_each, are_members, tag_member, has_members_with, field_member, IsNoVariant, tagged}
-use Rattle.schemars_schema.specs.Acceptance.{read_data}
+use Rattle.schemars_meaning.proofs.Words.{bytes_eq, if◌then◌else◌, is_some, ◌||◌, option_and_then, codes, list_any, match_ordering, slice_cmp, and_parts, bytes_eq-Decides, Data, null, object, Members, no_members, member, depth, get_member, as_str, Text, IsJson, IsSchema, AreNotes, without, verdict, Context, judge, unit_variant, internally_tagged_variant, Field, Fields, Flattened, Payload, Variant, no_payload, newtype_payload, tuple_payload, struct_payload, holds, every_member, none, exactly_one, VariantMatch, every_part, excludes_key, matches_of, has_tagged, AreDistinctVariants, AreDistinct, AreNoted, type_alone, Ask, part, asks_of, asks_in, filled, filled_in, templates_of, struct_template, content_template, internal_item, internal_template, expanded_variant, effective, flattened_enums, enum_at, option_map_or, not, is_eq-slice_cmp, same_Some, as_object, has_content, has_internal, Member, member_named, has_each, are_members, tag_member, has_members_with, field_member, IsNoVariant, tagged, read_data}
 use Rattle.schemars_types.specs.declared.contract.Contract.{Contract}
 use Rattle.schemars_types.specs.Meaning.{is_text}
 use Rattle.schemars_meaning.proofs.MapDocument.{map_document}
@@ -34,10 +33,6 @@ told_in tag ms = option_and_then as_str (get_member tag ms)
 
 pub told : Text → Data → Option Text
 told tag v = option_and_then (told_in tag) (as_object v)
-
-pub told_object : (tag : Text) (ms : Members) → told tag (object ms) ≡ told_in tag ms
-unfolding told
-told_object tag ms = refl
 
 text_is : (name : Text) (o : Option Text) → holds o (bytes_eq name) ≡ true → o ≡ Some name
 text_is name None h = absurd (true≢false (sym h))

@@ -1,10 +1,7 @@
 -- Keywords put in one after another where both sides may have choices.
 use Rattle.std.proofs.Common.{◌≡◌, Option, Some, None, Bool, true, false, refl, sym, ap, ◌∙◌, subst}
-use Rattle.schemars_meaning.proofs.Words.{bytes_eq-Decides, codes, bytes_eq, if◌then◌else◌, Data, Members, no_members, member, put, get_member, get_member-put, get_member-put_other, Text, without, get_member-later, differ, flipped, get_member-here, get_member-without, IsSorted, united_option, united_none}
-use Rattle.schemars_schema.specs.Json.{IsAbove}
-use Rattle.schemars_schema.proofs.SortedMembers.{above-trans, get_member-above}
-use Rattle.schemars_flatten.specs.Flatten.{is_choice, with_united, with_choice, both_choices, with_keyword, with_keywords}
-use Rattle.schemars_flatten.proofs.Lookups.{united_here, united_beside}
+use Rattle.schemars_meaning.proofs.Words.{bytes_eq-Decides, codes, bytes_eq, if◌then◌else◌, Data, Members, no_members, member, put, get_member, get_member-put, get_member-put_other, Text, without, get_member-later, differ, flipped, get_member-here, get_member-without, IsSorted, united_option, united_none, IsAbove, above-trans, get_member-above, is_choice, with_united, with_choice, both_choices, with_keyword, united_here, united_beside}
+use Rattle.schemars_flatten.specs.Flatten.{with_keywords}
 use Rattle.schemars_meaning.proofs.MapKeywords.{lacks-first, lacks-later, sorted-with_keywords}
 
 -- ---- a keyword that is taken out
@@ -41,9 +38,6 @@ with_both (Some a) (Some b) x = united_option (codes "allOf") x (Some (both_choi
 -- no choice of at least one
 abbrev pub NoAny : Members → Type 0
 NoAny ms = get_member (codes "anyOf") ms ≡ None
-
-is_choice-one : (k : Text) → bytes_eq k (codes "oneOf") ≡ true → is_choice k ≡ true
-is_choice-one k is = rw is
 
 is_choice-none : (k : Text) → bytes_eq k (codes "oneOf") ≡ false → bytes_eq k (codes "anyOf") ≡ false → is_choice k ≡ false
 is_choice-none k is any = rw (is, any)

@@ -1,9 +1,8 @@
 -- What the document of a map says under 2020-12, whose keys are those that the type of its keys allows.
 use Rattle.std.proofs.Common.{◌≡◌, ℕ, ◌<◌, ◌≤◌, List, [], ◌∷◌, ◌++◌, map, Option, Some, None, Bool, true, false, refl, sym, ap, ◌∙◌, arith, option_map, true≢false, inl, inr, subst, Ordering, Less, Equal, Greater, nat_cmp, filter, not}
-use Rattle.schemars_meaning.proofs.Words.{codes, bytes_eq, if◌then◌else◌, is_some, ◌&&◌, ◌||◌, bytes_eq-Decides, Data, null, boolean, number, string, array, object, Members, no_members, member, put, depth, get_member, slice_cmp, match_ordering, exact_bytes, or-false, list_any, option_map_or, get_member-put, get_member-put_other, Verdict, Yes, No, both, verdict, Text, IsJson, IsSchema, object_of, put_all, Patterns, Judge, Context, judge, each_member, schema_named, where_some, Reading, type_says, properties_say, additional_properties_say, is_covered, both-yes, both-verdict, each_agree, schema-judge, silent, context2020_12, IsReady, KeyOptions, keys, every_member, holds, Keyword, typed, Ask, part, Template, no_templates, template, finished, row, asks_of, asks_in, filled, filled_in, keyed, KeywordTemplate, templates_of, values_template, values_of, all_patterns, pattern_properties_at, properties_at, members_depth, as_object, or-true, AreJsonMembers, is_listed, matches, matches_some, by_patterns, pattern_properties_say, both-middle, pattern_of, is_key_allowed, has_keys, object_with, other_values}
-use Rattle.schemars_schema.specs.Acceptance.{read_data, all_keywords}
+use Rattle.schemars_meaning.proofs.Words.{codes, bytes_eq, if◌then◌else◌, is_some, ◌&&◌, ◌||◌, bytes_eq-Decides, Data, null, boolean, number, string, array, object, Members, no_members, member, put, depth, get_member, slice_cmp, match_ordering, exact_bytes, or-false, list_any, option_map_or, get_member-put, get_member-put_other, Verdict, Yes, No, both, verdict, Text, IsJson, IsSchema, object_of, put_all, Patterns, Judge, Context, judge, each_member, schema_named, where_some, Reading, type_says, properties_say, additional_properties_say, is_covered, both-yes, both-verdict, each_agree, schema-judge, silent, context2020_12, IsReady, KeyOptions, keys, every_member, holds, Keyword, typed, Ask, part, Template, no_templates, template, finished, row, asks_of, asks_in, filled, filled_in, keyed, KeywordTemplate, templates_of, values_template, values_of, all_patterns, pattern_properties_at, properties_at, members_depth, as_object, or-true, AreJsonMembers, is_listed, matches, matches_some, by_patterns, pattern_properties_say, both-middle, pattern_of, is_key_allowed, has_keys, object_with, other_values, read_data, all_keywords}
 use Rattle.schemars_shapes.specs.declared.shape.IntegerKeys.{IntegerKeys}
-use Rattle.schemars_documents.specs.OfShape.{typed_template as typed_at}
+use Rattle.schemars_templates.specs.Nodes.{typed_template as typed_at}
 use Rattle.schemars_meaning.proofs.MapDocument.{properties_keyword}
 use Rattle.schemars_meaning.proofs.Named.{AreEntries, schema_named-judges_in, judges_in, all_named-schemas, AreSchemas-put_all, each_yes, IsNoMap}
 use Rattle.schemars_meaning.proofs.Maps.{judges_of, named_says, properties_value, named_part}

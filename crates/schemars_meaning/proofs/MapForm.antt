@@ -1,9 +1,6 @@
 -- What an object with the keywords of a map says, with choices beside them, in each dialect that reads `unevaluatedProperties`.
 use Rattle.std.proofs.Common.{◌≡◌, Option, Some, None, Bool, true, false, option_map, refl, sym, ap, ◌∙◌, true≢false}
-use Rattle.schemars_meaning.proofs.Words.{or-false, codes, bytes_eq, if◌then◌else◌, ◌&&◌, ◌||◌, not, Data, string, object, Members, get_member, Text, Verdict, both, verdict, all_of, one_of, Context, Judge, Reading, judge, read_data, is_covered, type_says, required_says, properties_say, additional_properties_say, each_says, judged_by_list, both-yes}
-use Rattle.schemars_schema.specs.Acceptance.{key, Raw, all_keywords, unevaluated_properties_say, has_schema, judged_beside}
-use Rattle.schemars_schema.proofs.Objects.{says, judge-object, says-agree, IsKeyword}
-use Rattle.schemars_schema.proofs.Silent.{items_none, const_none}
+use Rattle.schemars_meaning.proofs.Words.{or-false, codes, bytes_eq, if◌then◌else◌, ◌&&◌, ◌||◌, not, Data, string, object, Members, get_member, Text, Verdict, both, verdict, all_of, one_of, Context, Judge, Reading, judge, read_data, is_covered, type_says, required_says, properties_say, additional_properties_say, each_says, judged_by_list, both-yes, key, Raw, unevaluated_properties_say, has_schema, judged_beside, all_keywords, says, judge-object, says-agree, IsKeyword, items_none, const_none}
 
 -- the value of each keyword
 pub record Keywords : Type 0 where

@@ -1,11 +1,7 @@
 -- Look-ups at keywords of a map with notes, and where members are put in, changed and united.
 use Rattle.std.proofs.Common.{◌≡◌, List, [], ◌∷◌, ◌++◌, Option, Some, None, Bool, true, false, append-nil, refl, sym, ap, ◌∙◌, subst, true≢false}
-use Rattle.schemars_meaning.proofs.Words.{bytes_eq-Decides, bytes_eq, codes, if◌then◌else◌, Data, boolean, string, array, object, Members, no_members, member, put, item, get_member, get_member-put, get_member-put_other, Text, put_all, put_members, object_of, replaced, without, is_annotation, AreNotes, get_member-later, differ, flipped, get_member-here, IsSorted, sorted-put, sorted-without, text_items, appended, united_option, united_none, Keyword, typed, annotated}
-use Rattle.schemars_schema.specs.Edits.{changed_at}
-use Rattle.schemars_schema.proofs.Members.{get_member-replaced, get_member-replaced_other}
-use Rattle.schemars_schema.proofs.SortedMembers.{sorted-put_all, sorted-put_members, sorted-replaced, same_members, get_member-above}
-use Rattle.schemars_flatten.specs.Flatten.{is_choice, united, with_united, with_choice, both_choices, with_keyword, with_keywords}
-use Rattle.schemars_flatten.proofs.Lookups.{united_here, united_beside, either_option}
+use Rattle.schemars_meaning.proofs.Words.{bytes_eq-Decides, bytes_eq, codes, if◌then◌else◌, Data, boolean, string, array, object, Members, no_members, member, put, item, get_member, get_member-put, get_member-put_other, Text, put_all, put_members, object_of, replaced, without, is_annotation, AreNotes, get_member-later, differ, flipped, get_member-here, IsSorted, sorted-put, sorted-without, text_items, appended, united_option, united_none, Keyword, typed, annotated, changed_at, get_member-replaced, get_member-replaced_other, sorted-put_all, sorted-put_members, sorted-replaced, same_members, get_member-above, is_choice, united, with_united, with_choice, both_choices, with_keyword, united_here, united_beside, either_option}
+use Rattle.schemars_flatten.specs.Flatten.{with_keywords}
 use Rattle.schemars_meaning.proofs.MapDocument.{properties_keyword, required_keyword, closed_keyword, noted_by, AllNotes}
 
 pub either_none : (a : Option Data) → either_option a None ≡ a

@@ -1,9 +1,7 @@
 -- What describes a row where there are more answers to what its template asks.
 use Rattle.std.proofs.Common.{inl, inr, ◌≤◌, ℕ, zero, suc, List, [], ◌∷◌, Option, Some, None, Bool, true, false, ◌≡◌, ◌⊎◌, arith}
-use Rattle.schemars_meaning.proofs.Words.{Data, Text, Field, Entry, Row, entry_at, opened_inside, Basis, Template, Ask, part, members_of, content, asks_of, AreAnswered, Fills, IsOwnDocument, IsAnswered, IsWritten}
+use Rattle.schemars_meaning.proofs.Words.{Data, Text, Field, Entry, Row, entry_at, opened_inside, Basis, Template, Ask, part, members_of, content, asks_of, AreAnswered, Fills, IsOwnDocument, IsAnswered, IsWritten, must_be_in_place, IsContent, Describes}
 use Rattle.schemars_types.specs.declared.contract.Contract.{Contract}
-use Rattle.schemars_flatten.specs.Opening.{must_be_in_place}
-use Rattle.schemars_documents.specs.Describes.{IsContent, Describes}
 use Rattle.schemars_meaning.proofs.Spread.{AreWritten, IsFieldsDocument}
 
 -- ---- other answers

@@ -1,8 +1,6 @@
 -- Schemas under names, and the judges that they make.
 use Rattle.std.proofs.Common.{◌≡◌, List, [], ◌∷◌, Option, Some, Bool, Ordering, Less, Equal, Greater, nat_cmp, is_eq, refl, ◌∙◌, option_map}
-use Rattle.schemars_meaning.proofs.Words.{bytes_eq, if◌then◌else◌, match_ordering, slice_cmp, Data, object, Members, no_members, member, put, get_member, Yes, Text, IsSchema, put_all, Judge, Context, judge, schema_named, each_member, schema-judge, Keyword}
-use Rattle.std.proofs.lemmas.Map.Text.{is_eq-slice_cmp}
-use Rattle.schemars_schema.specs.Acceptance.{read_data, read_members, all_named}
+use Rattle.schemars_meaning.proofs.Words.{bytes_eq, if◌then◌else◌, match_ordering, slice_cmp, Data, object, Members, no_members, member, put, get_member, Yes, Text, IsSchema, put_all, Judge, Context, judge, schema_named, each_member, schema-judge, Keyword, is_eq-slice_cmp, read_data, read_members, all_named}
 
 -- ---- the judges under names
 

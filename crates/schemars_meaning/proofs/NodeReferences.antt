@@ -1,9 +1,6 @@
 -- The references of a filled node of a template are those of its answers.
 use Rattle.std.proofs.Common.{◌≡◌, List, [], ◌∷◌, ◌++◌, Bool, true, false, sym, ap, ◌∙◌, subst, Contains, append_assoc, append-nil}
-use Rattle.schemars_meaning.proofs.Words.{All, AllByRecursion, codes, bytes_eq, if◌then◌else◌, All-nil, All-append, Data, Members, no_members, put, items_of, Text, put_all, IsSchema, AreNotes, NoSchemas, found_in_members, found_in_keywords, references, found_under, Template, Ask, finished, asked, list, members, nullable, noted, Templates, no_templates, template, asks_of, asks_in, left, left_in, keyed, filled, filled_in, AreAnswered, references_of}
-use Rattle.schemars_schema.specs.References.{Place, OneSchema, SchemaList, SchemaOrList, SchemasByName, place_under, at_place, found_in, found_in_items}
-use Rattle.schemars_documents.specs.Template.{with_keywords, tagged}
-use Rattle.schemars_flatten.proofs.References.{flattened-refers}
+use Rattle.schemars_meaning.proofs.Words.{All, AllByRecursion, codes, bytes_eq, if◌then◌else◌, All-nil, All-append, Data, Members, no_members, put, items_of, Text, put_all, IsSchema, AreNotes, NoSchemas, found_in_members, found_in_keywords, references, found_under, Template, Ask, finished, asked, list, members, nullable, noted, Templates, no_templates, template, asks_of, asks_in, left, left_in, keyed, filled, filled_in, AreAnswered, references_of, Place, OneSchema, SchemaList, SchemaOrList, SchemasByName, place_under, at_place, found_in, found_in_items, with_keywords, tagged, flattened-refers}
 use Rattle.schemars_meaning.proofs.Parts.{first_all, left_all}
 use Rattle.schemars_meaning.proofs.ReferencesKept.{Among, among_left, among_right, among_append, among_equal, among_turn, keywords-new, members-new, references-annotated, references-allow_null, in_list_of_schema, AreApart, AreNew, still_new, none_there}
 use Rattle.schemars_meaning.proofs.Refers.{refers-put, named-put, tagged-refers}

@@ -1,17 +1,12 @@
 -- Notes say nothing of a value, and leave a schema one to which null can be added.
 use Rattle.std.proofs.Common.{◌≡◌, inl, inr, List, [], ◌∷◌, Option, Some, None, Bool, true, false, refl, sym, ap, ◌∙◌, true≢false}
-use Rattle.schemars_meaning.proofs.Words.{codes, is_some, bytes_eq, option_and_then, if◌then◌else◌, bytes_eq-Decides, Data, boolean, string, object, Members, no_members, member, put, get_member, as_str, get_member-put, Text, put_members, IsSchema, members_in, Context, Patterns, Judge, judge, verdict, is_annotation, AreNotes, without, context2020_12, IsReady, annotated, Part, key, position, judge-put, judge-put_members, without-put, Yes, No, items_none, const_none, unevaluated_none, is_text, is_null_choice, HasPlainValues, choice_key, with_title, with_meta_schema, root_document}
-use Rattle.schemars_schema.specs.Acceptance.{read_data, all_keywords}
+use Rattle.schemars_meaning.proofs.Words.{codes, is_some, bytes_eq, option_and_then, if◌then◌else◌, bytes_eq-Decides, Data, boolean, string, object, Members, no_members, member, put, get_member, as_str, get_member-put, Text, put_members, IsSchema, members_in, Context, Patterns, Judge, judge, verdict, is_annotation, AreNotes, without, context2020_12, IsReady, annotated, Part, key, position, judge-put, judge-put_members, without-put, Yes, No, items_none, const_none, unevaluated_none, is_text, is_null_choice, HasPlainValues, choice_key, with_title, with_meta_schema, root_document, read_data, all_keywords}
 use Rattle.schemars_meaning.proofs.MapDocument.{noted_by, AllNotes}
 use Rattle.schemars_meaning.proofs.MapKeywords.{put_members-beside}
 
 pub annotated-schema : (notes : Members) (s : Data) → IsSchema s → IsSchema (annotated notes s)
 annotated-schema no_members s is = is
 annotated-schema (member k d notes) s is = tt
-
-pub noted_by-schema : (notes : List Members) (s : Data) → IsSchema s → IsSchema (noted_by notes s)
-noted_by-schema [] s is = is
-noted_by-schema (notes ∷ more) s is = annotated-schema notes (noted_by more s) (noted_by-schema more s is)
 
 module _ (patterns : Patterns) (f : Text → Judge) where
   abbrev c : Context
@@ -37,11 +32,6 @@ module _ (patterns : Patterns) (f : Text → Judge) where
   judge-annotated no_members s h is = refl
   judge-annotated (member k d notes) s h is = judge-put_members c (member k d notes) (members_in s) h
       ∙ judge-members_in s is
-
-  pub judge-noted_by : (notes : List Members) (s : Data) → AllNotes notes → IsSchema s → judge c (noted_by notes s) ≡ judge c s
-  judge-noted_by [] s h is = refl
-  judge-noted_by (notes ∷ more) s h is = judge-annotated notes (noted_by more s) h.0 (noted_by-schema more s is)
-      ∙ judge-noted_by more s h.1 is
 
   judge-with_title : (name : Text) (ms : Members) → judge c (object (with_title name ms)) ≡ judge c (object ms)
   judge-with_title name ms = go (is_some (get_member (codes "title") ms))

@@ -1,9 +1,6 @@
 -- What choices of schemas say, and which members they judge.
 use Rattle.std.proofs.Common.{◌≡◌, List, [], ◌∷◌, map, Option, Some, None, Bool, true, false, refl, sym, ap, ◌∙◌, subst}
-use Rattle.schemars_meaning.proofs.Words.{or-false, bytes_eq-Decides, codes, bytes_eq, if◌then◌else◌, ◌&&◌, ◌||◌, Data, array, no_members, member, get_member, items_of, Text, IsSchema, verdict, one_of, Context, Judge, judge, read_items, judged_by_list, each_says, both-yes, schema-judge, get_member-later, exactly_one, VariantMatch, claimed_by}
-use Rattle.schemars_schema.specs.Verdict.{is_yes}
-use Rattle.schemars_schema.specs.Acceptance.{key, read_data, judged_by, judged_by_some}
-use Rattle.schemars_flatten.specs.Flatten.{alone}
+use Rattle.schemars_meaning.proofs.Words.{or-false, bytes_eq-Decides, codes, bytes_eq, if◌then◌else◌, ◌&&◌, ◌||◌, Data, array, no_members, member, get_member, items_of, Text, IsSchema, verdict, one_of, Context, Judge, judge, read_items, judged_by_list, each_says, both-yes, schema-judge, get_member-later, exactly_one, VariantMatch, claimed_by, is_yes, key, judged_by, judged_by_some, read_data, alone}
 use Rattle.schemars_meaning.proofs.Verdicts.{one_verdict}
 use Rattle.schemars_meaning.proofs.MapForm.{Keywords, look_up, HasKeywords, object-says, says-fits, says-judges, no_type}
 

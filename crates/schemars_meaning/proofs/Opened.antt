@@ -1,9 +1,6 @@
 -- What becomes of the documents of maps and choices where they are parts of another object.
 use Rattle.std.proofs.Common.{◌≡◌, List, [], ◌∷◌, map, Option, Some, None, Bool, true, false, option_map, refl, sym, ap, ◌∙◌, subst}
-use Rattle.schemars_meaning.proofs.Words.{bytes_eq-Decides, codes, bytes_eq, Data, array, object, item, Members, no_members, member, get_member, items_of, Text, without, is_annotation, NoSchemas, get_member-later, get_member-here, get_member-without, IsSorted, sorted-without, opened, Keyword}
-use Rattle.schemars_schema.specs.Json.{IsAbove}
-use Rattle.schemars_walk.specs.Rewritten.{form_at, forms, in_items, in_keywords}
-use Rattle.schemars_flatten.specs.Opening.{opening, opened_here, opened_at, same_object_place}
+use Rattle.schemars_meaning.proofs.Words.{bytes_eq-Decides, codes, bytes_eq, Data, array, object, item, Members, no_members, member, get_member, items_of, Text, without, is_annotation, NoSchemas, get_member-later, get_member-here, get_member-without, IsSorted, sorted-without, opened, Keyword, IsAbove, form_at, forms, in_items, in_keywords, opening, opened_here, opened_at, same_object_place}
 use Rattle.schemars_meaning.proofs.MapDocument.{AllNotes}
 use Rattle.schemars_meaning.proofs.MapKeywords.{noted, noted-beside, sorted-noted, keywords, sorted-keywords, type-at, properties-at, required-at, closed-at, keyword-lacks, closed_there}
 use Rattle.schemars_meaning.proofs.MapForm.{Keywords, look_up}

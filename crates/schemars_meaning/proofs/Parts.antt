@@ -1,10 +1,6 @@
 -- What holds of every answer in a template, and of every document of a row.
 use Rattle.std.proofs.Common.{◌≡◌, ◌⊎◌, inl, inr, ℕ, zero, suc, List, [], ◌∷◌, Option, Some, None, refl, sym, subst}
-use Rattle.schemars_meaning.proofs.Words.{if◌then◌else◌, AllByRecursion, Data, boolean, Text, opened_inside, flattened_part, Entry, Row, entry_at, reference, Basis, Template, Ask, part, members_of, content, finished, asked, list, members, nullable, noted, Templates, no_templates, template, first, left, left_in, filled, entry_template, AreAnswered, IsOwnDocument, IsAnswered, IsWritten}
-use Rattle.std.specs.Prelude.{Bool, true, false}
-use Rattle.schemars_flatten.specs.Opening.{must_be_in_place}
-use Rattle.schemars_documents.specs.Template.{with_keywords, tagged, behind}
-use Rattle.schemars_documents.specs.Describes.{IsContent, Describes}
+use Rattle.schemars_meaning.proofs.Words.{if◌then◌else◌, AllByRecursion, Data, boolean, Text, opened_inside, flattened_part, Entry, Row, entry_at, reference, Basis, Template, Ask, part, members_of, content, finished, asked, list, members, nullable, noted, Templates, no_templates, template, first, left, left_in, filled, entry_template, AreAnswered, IsOwnDocument, IsAnswered, IsWritten, Bool, true, false, must_be_in_place, with_keywords, tagged, behind, IsContent, Describes}
 
 module _ (P : Data → Type 0) where
   pub either : (b : Bool) (d e : Data) → P d → P e → P (if b then d else e)

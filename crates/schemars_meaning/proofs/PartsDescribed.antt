@@ -1,11 +1,10 @@
 -- What rows of a table that is plain under the contract answer where they are flattened, as far as the documents go down.
 use Rattle.std.proofs.Common.{◌≡◌, ℕ, zero, suc, ◌<◌, List, [], ◌∷◌, ◌++◌, Option, Some, None, Bool, true, false, map, refl, sym, ap, ◌∙◌, subst, length, arith}
-use Rattle.schemars_meaning.proofs.Words.{is_some, ◌&&◌, not, if◌then◌else◌, map-append, Data, Members, depth, Text, IsJson, IsSchema, AreNotes, verdict, Context, judge, is_null, Patterns, null_schema, unit_variant, Field, Flattened, Fields, Shape, Entry, Payload, Variant, no_payload, newtype_payload, tuple_payload, struct_payload, Row, entry_at, is_required, VariantMatch, member_choice, matches_of, has_payload, belongs_within, parts_in, payload_parts, variant_parts, ArePartsUnder, IsEntryUnder, IsPlainShape, IsPlainPayload, ArePlainVariants, IsTagged, AreTagged, annotated, required_names, flattened_part, Basis, Ask, members_of, noted, asks_of, filled, struct_template, external_template, internal_template, payload_template, template_of, Fills, IsOwnDocument, IsAnswered, IsWritten, effective, flattened_in, shape_fields, flattened_enums, part_enums, enums_within, enum_at, expanded_payload, expanded_variant, expanded_shape_in, Required, option_at, external_choice, internal_choice, shape_choices, IsPartUnder, IsPartEntry, IsPartShape, may_miss, HasNoEnums, IsBare, HasBareUnits, VariantsHaveNoEnums, without_options, are_optional, required_only_if, row_fields, shape_enums}
+use Rattle.schemars_meaning.proofs.Words.{is_some, ◌&&◌, not, if◌then◌else◌, map-append, Data, Members, depth, Text, IsJson, IsSchema, AreNotes, verdict, Context, judge, is_null, Patterns, null_schema, unit_variant, Field, Flattened, Fields, Shape, Entry, Payload, Variant, no_payload, newtype_payload, tuple_payload, struct_payload, Row, entry_at, is_required, VariantMatch, member_choice, matches_of, has_payload, belongs_within, parts_in, payload_parts, variant_parts, ArePartsUnder, IsEntryUnder, IsPlainShape, IsPlainPayload, ArePlainVariants, IsTagged, AreTagged, annotated, required_names, flattened_part, Basis, Ask, members_of, noted, asks_of, filled, struct_template, external_template, internal_template, payload_template, template_of, Fills, IsOwnDocument, IsAnswered, IsWritten, effective, flattened_in, shape_fields, flattened_enums, part_enums, enums_within, enum_at, expanded_payload, expanded_variant, expanded_shape_in, Required, option_at, external_choice, internal_choice, shape_choices, IsPartUnder, IsPartEntry, IsPartShape, may_miss, HasNoEnums, IsBare, HasBareUnits, VariantsHaveNoEnums, without_options, are_optional, required_only_if, row_fields, shape_enums, choices_within, Describes}
 use Rattle.schemars_shapes.specs.Shape as shape
 use Rattle.schemars_types.specs.declared.contract.Contract.{Contract}
 use Rattle.schemars_types.specs.declared.contract.Contract.TheVariants.{Deserialize, Serialize}
-use Rattle.schemars_types.specs.Meaning.{is_text, choices_within}
-use Rattle.schemars_documents.specs.Describes.{Describes}
+use Rattle.schemars_types.specs.Meaning.{is_text}
 use Rattle.schemars_meaning.proofs.Schemas.{written_schema}
 use Rattle.schemars_meaning.proofs.Filling.{Fit}
 use Rattle.schemars_meaning.proofs.Spread.{field_keywords, AreWritten}

@@ -1,7 +1,6 @@
 -- Null can be added to each document.
 use Rattle.std.proofs.Common.{◌≡◌, inl, inr, ℕ, List, [], ◌∷◌, Bool, true, false, refl, sym, subst, true≢false}
-use Rattle.schemars_meaning.proofs.Words.{codes, Data, Text, IsReady, Keyword, int_document, non_zero_document, bytes_document, required_names, reference, Field}
-use Rattle.schemars_builders.proofs.Nulls.{AreReady, some_accepts_null}
+use Rattle.schemars_meaning.proofs.Words.{codes, Data, Text, IsReady, Keyword, int_document, non_zero_document, bytes_document, required_names, reference, Field, AreReady, some_accepts_null}
 use Rattle.schemars_shapes.specs.declared.shape.IntKind.{IntKind}
 use Rattle.schemars_shapes.specs.declared.shape.IntKind.TheVariants.{I8, I16, I32, I64, I128, Isize}
 use Rattle.schemars_types.specs.declared.contract.Contract.{Contract}

@@ -1,7 +1,6 @@
 -- Null can be added to each document of a table that is plain under its contract.
 use Rattle.std.proofs.Common.{inl, inr, ℕ, zero, suc, ◌<◌, List, Option, Some, None, refl, sym, subst, arith}
-use Rattle.schemars_meaning.proofs.Words.{Data, null, Text, Patterns, Judge, context2020_12, IsReady, Fields, Shape, Entry, entry_at, flattened_in, part_enums, expanded_shape_in, IsPlainShape, ArePartsUnder, IsEntryUnder, parts_in, Basis, Ask, asks_of, filled, struct_template, template_of, Fills, IsOwnDocument, IsAnswered, IsWritten}
-use Rattle.schemars_documents.specs.Describes.{Describes}
+use Rattle.schemars_meaning.proofs.Words.{Data, null, Text, Patterns, Judge, context2020_12, IsReady, Fields, Shape, Entry, entry_at, flattened_in, part_enums, expanded_shape_in, IsPlainShape, ArePartsUnder, IsEntryUnder, parts_in, Basis, Ask, asks_of, filled, struct_template, template_of, Fills, IsOwnDocument, IsAnswered, IsWritten, Describes}
 use Rattle.schemars_meaning.proofs.Filling.{Fit}
 use Rattle.schemars_meaning.proofs.Notes.{ready-annotated}
 use Rattle.schemars_meaning.proofs.Meanings.{shape_ready}

@@ -1,11 +1,9 @@
 -- The references of the document of each shape are those of its answers.
 use Rattle.std.proofs.Common.{◌≡◌, ℕ, List, [], ◌∷◌, ◌++◌, map, Bool, false, Some, refl, sym, ap, ◌∙◌, subst, Contains, append-nil}
-use Rattle.schemars_meaning.proofs.Words.{All, AllByRecursion, codes, bytes_eq, map-append, Data, Text, NoSchemas, finished, list, IsSchema, references, Shape, Field, Flattened, Fields, Entry, Payload, Variant, no_payload, newtype_payload, tuple_payload, struct_payload, Row, is_required, flattened_fields, effective, flattened_in, part_enums, expanded_payload, expanded_variant, expanded_shape_in, required_names, AreDistinct, AreNoted, IsPlainShape, IsPlainEntry, IsPlainPayload, ArePlainVariants, payload_parts, variant_parts, parts_in, ArePlainParts, Basis, Template, Ask, members_of, asked, Templates, asks_of, filled, KeywordTemplate, templates_of, property, template_of, entry_template, fields_template, with_flattened, struct_template, content_template, AreAnswered, references_of, flipped, All-contains, All-contains_itself, Place, SchemaList, SchemasByName, place_under, literal_is_schema, literal_refers_nowhere, Tagging, AreNotedVariants, IsNotedShape, IsNotedPayload, IsNotedThroughout, with_keywords, tagged, object_with, literal_document-schema}
-use Rattle.schemars_schema.specs.References.{found_in}
+use Rattle.schemars_meaning.proofs.Words.{All, AllByRecursion, codes, bytes_eq, map-append, Data, Text, NoSchemas, finished, list, IsSchema, references, Shape, Field, Flattened, Fields, Entry, Payload, Variant, no_payload, newtype_payload, tuple_payload, struct_payload, Row, is_required, flattened_fields, effective, flattened_in, part_enums, expanded_payload, expanded_variant, expanded_shape_in, required_names, AreDistinct, AreNoted, IsPlainShape, IsPlainEntry, IsPlainPayload, ArePlainVariants, payload_parts, variant_parts, parts_in, ArePlainParts, Basis, Template, Ask, members_of, asked, Templates, asks_of, filled, KeywordTemplate, templates_of, property, template_of, entry_template, fields_template, with_flattened, struct_template, content_template, AreAnswered, references_of, flipped, Place, SchemaList, SchemasByName, place_under, literal_is_schema, literal_refers_nowhere, Tagging, AreNotedVariants, IsNotedShape, IsNotedPayload, IsNotedThroughout, with_keywords, tagged, object_with, literal_document-schema, found_in}
 use Rattle.schemars_shapes.specs.Shape as shape
 use Rattle.schemars_meaning.proofs.Spread.{AnswersFields}
-use Rattle.schemars_meaning.proofs.ReferencesKept.{Among, among_left, among_right, AreApart}
-use Rattle.schemars_meaning.proofs.Schemas.{AreSchemas}
+use Rattle.schemars_meaning.proofs.ReferencesKept.{Among, among_right, AreApart}
 use Rattle.schemars_meaning.proofs.SpreadMaps.{answered_left, IsMapAt, map_keeps, map_holds, part_holds, tag_holds, struct_holds, names_in, more_names, names_apart, tag_apart, apart-first}
 use Rattle.schemars_meaning.proofs.NodeReferences.{StandsAt, AsSchema, AsList, AsNamed, AreItems, AreNamed, AreAtKeys, refers_schema, kept_schema}
 use Rattle.schemars_meaning.proofs.ShapeInduction.{Claim, Documents, Law, IsBeside, AreBeside, beside_halves, plain_variants, shape_holds}
@@ -250,21 +248,6 @@ all_refer P basis e notes ts all =
     let Answers : Ask → Data → Type 0 = λ a t. Unit {0} in
     refers_schema ⊥ Answers P (entry_template basis e) ts all
     (entry_as_schema ⊥ Answers basis (λ q. absurd q) e notes (λ q. absurd q))
-
-answers_refer : (us ts : List Data) → AreSchemas ts → Among (references_of ts) us
-    → AllByRecursion (λ t. IsSchema t × All (Contains us) (references t)) ts
-answers_refer us [] h among = tt
-answers_refer us (t ∷ ts) h among = (
-  (h.0, λ k d less. among _ (among_left (references t) (references_of ts) _ (All-contains_itself (references t) k d less))),
-  answers_refer us ts h.1 (λ x i. among x (among_right (references t) (references_of ts) x i)),
-)
-
--- each reference of a row's document is in one of the answers
-pub among_parts : (basis : Basis) (e : Entry) → IsNotedThroughout (Some e) → (ts : List Data) → AreSchemas ts
-    → Among (references (filled (entry_template basis e) ts)) (references_of ts)
-among_parts basis e notes ts h x i =
-    All-contains (Contains (references_of ts)) (references (filled (entry_template basis e) ts)) x
-    (all_refer (Contains (references_of ts)) basis e notes ts (answers_refer (references_of ts) ts h (λ y j. j))) i
 
 -- each reference of an answer is in the document
 pub parts_among : (basis : Basis) (e : Entry) → IsPlainEntry basis.rows (Some e) → (Answers : Ask → Data → Type 0)

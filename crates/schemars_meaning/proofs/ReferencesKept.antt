@@ -1,12 +1,6 @@
 -- Which references stay as members are put in, as a schema is given notes and as null is allowed.
 use Rattle.std.proofs.Common.{◌≡◌, inl, inr, List, [], ◌∷◌, ◌++◌, Bool, true, false, Option, Some, None, Ordering, Less, Equal, Greater, nat_cmp, refl, sym, ap, ◌∙◌, subst, Contains, append_assoc, append-nil, true≢false}
-use Rattle.schemars_meaning.proofs.Words.{codes, bytes_eq, is_some, not, if◌then◌else◌, match_ordering, slice_cmp, exact_bytes, bytes_eq-Decides, Data, null, boolean, number, string, array, object, no_items, item, Members, no_members, member, put, get_member, get_member-put_other, Text, IsSchema, put_members, members_in, AreNotes, without, is_null, found_in_members, found_in_keywords, references, found_under, allow_null, annotated}
-use Rattle.std.specs.Prelude.{filter}
-use Rattle.std.proofs.lemmas.List.Elements.{Contains-append_left, Contains-append_right, Contains-append_cases}
-use Rattle.schemars_schema.specs.References.{found_in}
-use Rattle.schemars_schema.proofs.Contents.{found_under-annotation}
-use Rattle.schemars_builders.specs.AllowNull.{is_null_choice, is_combined, or_null, type_with_null, null_in_type, enum_with_null, null_in_enum, const_or_null, null_in_const, null_in_values}
-use Rattle.schemars_documents.specs.Documents.{with_title, with_meta_schema, root_document}
+use Rattle.schemars_meaning.proofs.Words.{codes, bytes_eq, is_some, not, if◌then◌else◌, match_ordering, slice_cmp, exact_bytes, bytes_eq-Decides, Data, null, boolean, number, string, array, object, no_items, item, Members, no_members, member, put, get_member, get_member-put_other, Text, IsSchema, put_members, members_in, AreNotes, without, is_null, found_in_members, found_in_keywords, references, found_under, allow_null, annotated, filter, Contains-append_left, Contains-append_right, Contains-append_cases, found_in, found_under-annotation, is_null_choice, is_combined, or_null, type_with_null, null_in_type, enum_with_null, null_in_enum, const_or_null, null_in_const, null_in_values, with_title, with_meta_schema, root_document}
 
 -- ---- references among others
 
@@ -79,22 +73,6 @@ among_turn new here old after all f g x h =
     among_append (here ++ old) after new after f (λ y i. i) x
     (among_equal (here ++ (old ++ after)) ((here ++ old) ++ after) (sym (append_assoc here old after)) x moved)
 
--- where the key is new
-pub members-kept : (k : Text) (d : Data) (ms : Members) → get_member k ms ≡ None
-    → Among (found_in_members ms) (found_in_members (put k d ms))
-members-kept k d ms new x h = members-new k d ms new x (among_right (references d) (found_in_members ms) x h)
-
-pub members-has : (k : Text) (d : Data) (ms : Members) → Among (references d) (found_in_members (put k d ms))
-unfolding found_in
-members-has k d no_members = among_left (references d) []
-members-has k d (member l e ms) = go (slice_cmp nat_cmp k l) (members-has k d ms)
-  where
-    go : (o : Ordering) → Among (references d) (found_in_members (put k d ms))
-        → Among (references d) (found_in_members (match_ordering o (member k d (member l e ms)) (member l d ms) (member l e (put k d ms))))
-    go Less later = among_left (references d) (found_in_members (member l e ms))
-    go Equal later = among_left (references d) (found_in_members ms)
-    go Greater later = λ x h. Contains-append_right (references e) (found_in_members (put k d ms)) x (later x h)
-
 -- ---- where the value of the key has no reference
 
 keywords-put : (k : Text) (d : Data) (ms : Members) → ((e : Data) → found_under k e ≡ [])
@@ -125,14 +103,6 @@ keywords-removed k (member l e ms) none = go (bytes_eq k l) refl (keywords-remov
         ap (λ xs. xs ++ found_in_keywords ms) (sym nothing)
     go false is later = ap (λ xs. found_under l e ++ xs) later
 
-pub keywords-kept : (k : Text) (d : Data) (ms : Members) → ((e : Data) → found_under k e ≡ [])
-    → Among (found_in_keywords ms) (found_in_keywords (put k d ms))
-keywords-kept k d ms none = among_equal (found_in_keywords ms) (found_in_keywords (put k d ms)) (sym (keywords-put k d ms none))
-
-pub keywords-without : (k : Text) (ms : Members) → ((e : Data) → found_under k e ≡ [])
-    → Among (found_in_keywords ms) (found_in_keywords (without k ms))
-keywords-without k ms none = among_equal (found_in_keywords ms) (found_in_keywords (without k ms)) (sym (keywords-removed k ms none))
-
 -- ---- notes
 
 pub references-members_in : (s : Data) → found_in_keywords (members_in s) ≡ references s
@@ -149,12 +119,6 @@ pub references-annotated : (notes : Members) (s : Data) → AreNotes notes → r
 unfolding found_in
 references-annotated no_members s h = refl
 references-annotated (member k d notes) s h = references-put_members (member k d notes) (members_in s) h ∙ references-members_in s
-
-pub among_members_in : (s : Data) → Among (references s) (found_in_keywords (members_in s))
-among_members_in s = among_equal (references s) (found_in_keywords (members_in s)) (sym (references-members_in s))
-
-pub among_annotated : (notes : Members) (s : Data) → AreNotes notes → Among (references s) (references (annotated notes s))
-among_annotated notes s h = among_equal (references s) (references (annotated notes s)) (sym (references-annotated notes s h))
 
 -- ---- null
 
@@ -217,9 +181,6 @@ references-allow_null (object ms) = go (is_null_choice (object ms)) (is_combined
     go false true = references-or_null (object ms)
     go false false = references-null_in_const (get_member (codes "const") typed) typed
         ∙ references-null_in_type (get_member (codes "type") ms) ms
-
-pub among_allow_null : (s : Data) → Among (references s) (references (allow_null s))
-among_allow_null s = among_equal (references s) (references (allow_null s)) (sym (references-allow_null s))
 
 pub allow_null-schema : (s : Data) → IsSchema s → IsSchema (allow_null s)
 allow_null-schema (boolean true) h = tt

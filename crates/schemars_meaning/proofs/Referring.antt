@@ -1,12 +1,8 @@
 -- What holds of each reference to a row holds of those of what describes a row.
 use Rattle.std.proofs.Common.{◌≡◌, ℕ, List, [], ◌∷◌, Bool, Option, Some, None, subst}
-use Rattle.schemars_meaning.proofs.Words.{All, AllByRecursion, All-nil, All-cons, Data, string, Text, IsSchema, references, opened_inside, flattened_part, Entry, Row, entry_at, reference, IsPlainEntry, IsEntryUnder, IsPlainUnder, Basis, Ask, filled, entry_template, IsAnswered, IsWritten, Describes}
-use Rattle.schemars_schema.specs.References.{found_in}
-use Rattle.schemars_flatten.proofs.Schemas.{flattened_part-schema, opened_inside-schema}
+use Rattle.schemars_meaning.proofs.Words.{All, AllByRecursion, All-nil, All-cons, Data, string, Text, IsSchema, references, opened_inside, flattened_part, Entry, Row, entry_at, reference, IsPlainEntry, IsEntryUnder, IsPlainUnder, Basis, filled, entry_template, IsWritten, Describes, found_in, flattened_part-schema, opened_inside-schema, IsPlainTable, IsNotedThroughout, HasPlainNotesThroughout, flattened_part-refers, opened_inside-refers}
 use Rattle.schemars_types.specs.declared.contract.Contract.{Contract}
-use Rattle.schemars_documents.specs.PlainTable.{IsPlainTable, IsNotedThroughout, HasPlainNotesThroughout}
-use Rattle.schemars_meaning.proofs.Parts.{answer_holds, described_holds, written_holds}
-use Rattle.schemars_flatten.proofs.References.{flattened_part-refers, opened_inside-refers}
+use Rattle.schemars_meaning.proofs.Parts.{described_holds, written_holds}
 use Rattle.schemars_meaning.proofs.References.{plain-shape_noted, all_refer}
 use Rattle.schemars_meaning.proofs.Schemas.{AreSchemas, filled_schema}
 
@@ -34,12 +30,6 @@ module _ (P : Data → Type 0) where
 
   inside_refers : (s : Data) → IsReferring s → IsReferring (opened_inside s)
   inside_refers s h = (opened_inside-schema s h.0, opened_inside-refers P s h.1)
-
-  -- an answer is one, where documents of rows are and what is written for them
-  pub answered_refers : (rows : List Row) (InPlace : ℕ → Bool → Type 0) (Written Own : ℕ → Data → Type 0)
-      → ((j : ℕ) (t : Data) → Written j t → IsReferring t) → ((j : ℕ) (t : Data) → Own j t → IsReferring t)
-      → (a : Ask) (t : Data) → IsAnswered rows InPlace Written Own a t → IsReferring t
-  answered_refers = answer_holds IsReferring part_refers inside_refers
 
   module _ (basis : Basis) (Refers : ℕ → Text → Type 0) (noted : HasPlainNotesThroughout basis.rows)
       (lead : (j : ℕ) (r : Text) → Refers j r → P (string r)) where

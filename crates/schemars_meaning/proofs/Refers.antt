@@ -1,9 +1,6 @@
 -- What holds of the references of schemas holds of those of an object that they are put into.
 use Rattle.std.proofs.Common.{◌≡◌, List, [], ◌∷◌, ◌++◌, Bool, true, false, Option, Some, None, Ordering, Less, Equal, Greater, nat_cmp, refl, sym, subst}
-use Rattle.schemars_meaning.proofs.Words.{All, ◌&&◌, codes, bytes_eq, is_some, if◌then◌else◌, match_ordering, slice_cmp, All-nil, All-cons, All-append, exact_bytes, bytes_eq-Decides, Data, boolean, string, array, object, no_items, Members, no_members, member, put, get_member, Text, members_in, replaced, with_member, with_first, found_in_members, found_in_keywords, references, found_under, unit_variant, with_property, has_null_type, internally_tagged_variant}
-use Rattle.std.proofs.lemmas.List.Elements.{All-head, All-tail}
-use Rattle.schemars_schema.specs.Edits.{put_missing, changed_at}
-use Rattle.schemars_schema.specs.References.{found_in}
+use Rattle.schemars_meaning.proofs.Words.{All, ◌&&◌, codes, bytes_eq, is_some, if◌then◌else◌, match_ordering, slice_cmp, All-nil, All-cons, All-append, exact_bytes, bytes_eq-Decides, Data, boolean, string, array, object, no_items, Members, no_members, member, put, get_member, Text, members_in, replaced, with_member, with_first, found_in_members, found_in_keywords, references, found_under, unit_variant, with_property, has_null_type, internally_tagged_variant, All-head, All-tail, put_missing, changed_at, found_in}
 use Rattle.schemars_builders.specs.Properties.{tagged}
 use Rattle.schemars_meaning.proofs.ReferencesKept.{references-members_in}
 

@@ -1,10 +1,7 @@
 -- What is asked in a shape's template is of the rows of the shape.
 use Rattle.std.proofs.Common.{ℕ, List, [], ◌∷◌, ◌++◌, map, Bool, refl, arith, All, Contains}
-use Rattle.schemars_meaning.proofs.Words.{AllByRecursion, All-nil, All-cons, All-append, Shape, Field, Flattened, Fields, Payload, Variant, newtype_payload, is_required, KeyOptions, values_template, Basis, Template, Ask, part, members_of, content, asked, asks_of, asks_in, templates_of, property, struct_template, template_of}
-use Rattle.std.proofs.lemmas.List.Elements.{Contains-append_left, Contains-append_right}
-use Rattle.schemars_shapes.specs.Shape.{Tagging, enum, by_tag, numbers_of, flattened_numbers, flattened_rows, fields_numbers, payload_numbers, payload_flattened, variant_numbers, of_variants}
+use Rattle.schemars_meaning.proofs.Words.{AllByRecursion, All-nil, All-cons, All-append, Shape, Field, Flattened, Fields, Payload, Variant, newtype_payload, is_required, KeyOptions, values_template, Basis, Template, Ask, part, members_of, content, asked, asks_of, asks_in, templates_of, property, struct_template, template_of, Contains-append_left, Contains-append_right, Tagging, enum, by_tag, numbers_of, flattened_numbers, flattened_rows, fields_numbers, payload_numbers, payload_flattened, variant_numbers, of_variants, members_asked}
 use Rattle.schemars_types.specs.declared.contract.Contract.{Contract}
-use Rattle.schemars_documents.specs.OfShape.{members_asked}
 use Rattle.schemars_meaning.proofs.ShapeInduction.{of_each, AreKeysApart, Documents, Law, shape_holds}
 use Rattle.schemars_meaning.proofs.ByKeyword.{Keywords, by_value, by_keyword, struct_holds}
 

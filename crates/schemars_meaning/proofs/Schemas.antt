@@ -1,9 +1,6 @@
 -- What is filled with schemas is a schema, and so is what describes a row.
 use Rattle.std.proofs.Common.{ℕ, List}
-use Rattle.schemars_meaning.proofs.Words.{AllByRecursion, Data, boolean, Text, IsSchema, Shape, Entry, Basis, Template, finished, asked, list, members, nullable, noted, left, filled, template_of, entry_template, IsWritten, Describes}
-use Rattle.schemars_flatten.proofs.Schemas.{flattened-schema, flattened_part-schema, opened_inside-schema}
-use Rattle.schemars_documents.specs.Template.{with_keywords, tagged}
-use Rattle.schemars_documents.specs.OfShape.{literal_document}
+use Rattle.schemars_meaning.proofs.Words.{AllByRecursion, Data, boolean, Text, IsSchema, Shape, Entry, Basis, Template, finished, asked, list, members, nullable, noted, left, filled, template_of, entry_template, IsWritten, Describes, flattened-schema, flattened_part-schema, opened_inside-schema, with_keywords, tagged, literal_document}
 use Rattle.schemars_meaning.proofs.Notes.{annotated-schema}
 use Rattle.schemars_meaning.proofs.ByKeyword.{outer_holds}
 use Rattle.schemars_meaning.proofs.Parts.{first_all, described_holds, written_holds}

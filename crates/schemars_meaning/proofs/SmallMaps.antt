@@ -1,7 +1,6 @@
 -- What the document of a map says that has one member, or two, which have to be there.
 use Rattle.std.proofs.Common.{◌≡◌, ◌<◌, List, [], ◌∷◌, Some, None, Bool, true, false, refl, sym, ◌∙◌, true≢false}
-use Rattle.schemars_meaning.proofs.Words.{bytes_eq, bytes_eq-Decides, if◌then◌else◌, Data, no_members, depth, get_member, put, Text, IsJson, IsSchema, verdict, Context, judge, get_member-put, Keyword, get_member-put_other, not}
-use Rattle.schemars_types.specs.Meaning.{member_named, has_members, has_member, must_have}
+use Rattle.schemars_meaning.proofs.Words.{bytes_eq, bytes_eq-Decides, if◌then◌else◌, Data, no_members, depth, get_member, put, Text, IsJson, IsSchema, verdict, Context, judge, get_member-put, Keyword, get_member-put_other, not, member_named, has_members, has_member, must_have}
 use Rattle.schemars_meaning.proofs.StructMeans.{IsFound, value_means}
 use Rattle.schemars_meaning.proofs.MapDocument.{map_document}
 use Rattle.schemars_meaning.proofs.Opened.{no_parts, map_form}

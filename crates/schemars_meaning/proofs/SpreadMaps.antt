@@ -1,7 +1,6 @@
 -- The references of maps that fill templates, with the fields of flattened rows among their own.
 use Rattle.std.proofs.Common.{◌≡◌, List, [], ◌∷◌, ◌++◌, map, Bool, true, false, refl, sym, ap, ◌∙◌, subst, Contains, append_assoc, append-nil}
-use Rattle.schemars_meaning.proofs.Words.{All, bytes_eq, map-append, All-nil, Data, Members, no_members, put, Text, put_all, found_in_members, references, flipped, text_items, unit_variant, internally_tagged_variant, flattened, Field, Flattened, Fields, Row, is_required, flattened_fields, effective, flattened_in, Keyword, required_names, annotated, IsNoName, AreDistinct, AreNoted, IsPlainPart, ArePlainParts, Template, Ask, part, members_of, finished, asked, list, members, nullable, noted, Templates, no_templates, template, asks_of, asks_in, first, left, left_in, keyed, filled, filled_in, templates_of, property, map_template, fields_template, with_flattened, struct_template, AreAnswered, references_of, All-contains, All-contains_itself, with_keywords, tagged, behind}
-use Rattle.schemars_schema.specs.References.{found_in}
+use Rattle.schemars_meaning.proofs.Words.{All, bytes_eq, map-append, All-nil, Data, Members, no_members, put, Text, put_all, found_in_members, references, flipped, text_items, unit_variant, internally_tagged_variant, flattened, Field, Flattened, Fields, Row, is_required, flattened_fields, effective, flattened_in, Keyword, required_names, annotated, IsNoName, AreDistinct, AreNoted, IsPlainPart, ArePlainParts, Template, Ask, part, members_of, finished, asked, list, members, nullable, noted, Templates, no_templates, template, asks_of, asks_in, first, left, left_in, keyed, filled, filled_in, templates_of, property, map_template, fields_template, with_flattened, struct_template, AreAnswered, references_of, All-contains, All-contains_itself, with_keywords, tagged, behind, found_in}
 use Rattle.schemars_types.specs.declared.contract.Contract.{Contract}
 use Rattle.schemars_meaning.proofs.Rows.{asks_at}
 use Rattle.schemars_meaning.proofs.MapDocument.{map_document, noted_by, AllNotes}

@@ -1,9 +1,8 @@
 -- What fills the template of a struct is the document of a struct with its own fields and enums and those of the rows flattened into
 -- it, whatever these are.
 use Rattle.std.proofs.Common.{◌≡◌, ℕ, List, [], ◌∷◌, ◌++◌, Bool, true, refl, sym, subst, append_assoc, append-nil}
-use Rattle.schemars_meaning.proofs.Words.{Data, Context, flattened, Field, Flattened, Fields, is_required, VariantMatch, required_names, Ask, part, members_of, Template, asked, asks_of, filled, first, with_flattened, struct_template, fields_template, flattened_fields}
+use Rattle.schemars_meaning.proofs.Words.{Data, Context, flattened, Field, Flattened, Fields, is_required, VariantMatch, required_names, Ask, part, members_of, Template, asked, asks_of, filled, first, with_flattened, struct_template, fields_template, flattened_fields, with_keywords}
 use Rattle.schemars_types.specs.declared.contract.Contract.{Contract}
-use Rattle.schemars_documents.specs.Template.{with_keywords}
 use Rattle.schemars_meaning.proofs.MapKeywords.{keywords}
 use Rattle.schemars_meaning.proofs.Flattened.{map_fills}
 use Rattle.schemars_meaning.proofs.Filling.{Fit, parted}

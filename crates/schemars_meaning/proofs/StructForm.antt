@@ -1,12 +1,7 @@
 -- What the document of a struct says, with the enums that are flattened into it: several of them are under `allOf`, and one
 -- may be under `oneOf`. Where it is closed, `unevaluatedProperties` refuses just the keys that belong to nothing.
 use Rattle.std.proofs.Common.{◌≡◌, List, [], ◌∷◌, ◌++◌, map, Option, Some, None, Bool, true, false, option_map, refl, sym, ap, ◌∙◌, true≢false}
-use Rattle.schemars_meaning.proofs.Words.{and-true, or-false, codes, if◌then◌else◌, is_some, ◌&&◌, ◌||◌, not, Data, boolean, string, array, object, Members, no_members, member, items_of, Text, put_all, Verdict, Yes, No, both, verdict, all_of, one_of, Context, Judge, judge, read_items, judged_by_list, each_says, each_member, where_some, have_all, schema_named, is_covered, required_says, properties_say, additional_properties_say, both-yes, both-verdict, each_agree, exactly_one, VariantMatch, every_part, claimed_by, is_key_of_match, excludes_key, Keyword}
-use Rattle.std.proofs.Math.Bool.{and-false, or-true, and_assoc, or_assoc, not-not}
-use Rattle.schemars_schema.specs.Verdict.{Open, is_yes}
-use Rattle.schemars_schema.specs.Acceptance.{key, read_data, judged_by_some, unevaluated_properties_say}
-use Rattle.schemars_schema.proofs.Objects.{says}
-use Rattle.schemars_builders.proofs.NullKeywords.{texts_in-text_items}
+use Rattle.schemars_meaning.proofs.Words.{and-true, or-false, codes, if◌then◌else◌, is_some, ◌&&◌, ◌||◌, not, Data, boolean, string, array, object, Members, no_members, member, items_of, Text, put_all, Verdict, Yes, No, both, verdict, all_of, one_of, Context, Judge, judge, read_items, judged_by_list, each_says, each_member, where_some, have_all, schema_named, is_covered, required_says, properties_say, additional_properties_say, both-yes, both-verdict, each_agree, exactly_one, VariantMatch, every_part, claimed_by, is_key_of_match, excludes_key, Keyword, and-false, or-true, and_assoc, or_assoc, not-not, Open, is_yes, key, unevaluated_properties_say, judged_by_some, read_data, says, texts_in-text_items}
 use Rattle.schemars_meaning.proofs.MapKeywords.{properties_there, required_there, closed_there}
 use Rattle.schemars_meaning.proofs.Named.{judges_in, all_named-schemas, AreSchemas-put_all, AreEntries, each_yes}
 use Rattle.schemars_meaning.proofs.MapForm.{Keywords, look_up, covered, beside, says-fits, object_type}

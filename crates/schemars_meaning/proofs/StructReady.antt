@@ -1,10 +1,6 @@
 -- Null can be added to the document of a map with fields, and with enums among its members.
 use Rattle.std.proofs.Common.{◌≡◌, ℕ, inl, inr, List, Bool, true, false, refl, sym, ap, ◌∙◌, true≢false, subst}
-use Rattle.schemars_meaning.proofs.Words.{codes, ◌&&◌, option_and_then, Data, object, Members, get_member, as_str, Text, Context, Dialect, IsReady, Field, VariantMatch, Keyword, required_names}
-use Rattle.std.proofs.Math.Bool.{and-false}
-use Rattle.schemars_schema.specs.Edits.{is_text, has_one_member}
-use Rattle.schemars_builders.specs.AllowNull.{is_combined, offers_null}
-use Rattle.schemars_builders.specs.NullLaw.{IsChoice, HasTypeForm, IsPlain}
+use Rattle.schemars_meaning.proofs.Words.{codes, ◌&&◌, option_and_then, Data, object, Members, get_member, as_str, Text, Context, Dialect, IsReady, Field, VariantMatch, Keyword, required_names, and-false, is_text, has_one_member, is_combined, offers_null, IsChoice, HasTypeForm, IsPlain}
 use Rattle.schemars_types.specs.declared.contract.Contract.{Contract}
 use Rattle.schemars_meaning.proofs.Spread.{field_keywords}
 use Rattle.schemars_meaning.proofs.StructForm.{Parts, struct_keywords}

@@ -1,9 +1,7 @@
 -- The keywords of a struct with those of what is flattened into it.
 use Rattle.std.proofs.Common.{◌≡◌, List, [], ◌∷◌, ◌++◌, Option, Some, None, Bool, true, false, refl, sym, ap, ◌∙◌, subst, append-nil}
-use Rattle.schemars_meaning.proofs.Words.{and-true, or-false, and_comm, bytes_eq-Decides, codes, bytes_eq, if◌then◌else◌, is_some, ◌&&◌, ◌||◌, Data, array, boolean, string, item, Members, put, get_member, items_of, get_member-put, get_member-put_other, Text, without, is_annotation, differ, get_member-without, IsSorted, sorted-put, sorted-without, united_all, appended, united_option, united_none, Keyword, VariantMatch, every_part, is_key_of_match}
-use Rattle.std.proofs.Math.Bool.{and_assoc, or_assoc, or_comm}
-use Rattle.schemars_schema.proofs.Objects.{keyword-plain}
-use Rattle.schemars_flatten.specs.Flatten.{with_keywords, moved, moved_beside, contains_key, has_subschema}
+use Rattle.schemars_meaning.proofs.Words.{and-true, or-false, and_comm, bytes_eq-Decides, codes, bytes_eq, if◌then◌else◌, is_some, ◌&&◌, ◌||◌, Data, array, boolean, string, item, Members, put, get_member, items_of, get_member-put, get_member-put_other, Text, without, is_annotation, differ, get_member-without, IsSorted, sorted-put, sorted-without, united_all, appended, united_option, united_none, Keyword, VariantMatch, every_part, is_key_of_match, and_assoc, or_assoc, or_comm, keyword-plain, moved, moved_beside, contains_key, has_subschema}
+use Rattle.schemars_flatten.specs.Flatten.{with_keywords}
 use Rattle.schemars_meaning.proofs.MapKeywords.{sorted-with_keywords, closed_there, properties-united, required-united}
 use Rattle.schemars_meaning.proofs.MapForm.{Keywords, look_up, HasKeywords}
 use Rattle.schemars_meaning.proofs.Offers.{one_object}

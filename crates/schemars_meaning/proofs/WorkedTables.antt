@@ -1,14 +1,9 @@
 -- Tables with enums and Options among what is flattened, computed: what belongs, what the documents are, and what they accept.
 use Rattle.std.proofs.Common.{◌≡◌, ℕ, zero, suc, List, [], ◌∷◌, Some, true, false, refl}
-use Rattle.schemars_meaning.proofs.Words.{codes, Data, null, boolean, number, string, array, object, item, no_items, Members, no_members, Yes, No, Dialect, draft2020_12, Shape, Flattened, Fields, Variant, no_payload, newtype_payload, needed, Row, type_alone, flattened_part, filled, struct_template, external_template, IsPlainUnder, unsigned, draft2019_09, accepts, entry, Required, in_place, always, belongs}
-use Prim.Native.String.{String}
-use Rattle.schemars_schema.specs.Acceptance.{read_data, all_keywords, follow}
+use Rattle.schemars_meaning.proofs.Words.{codes, Data, null, boolean, number, string, array, object, item, no_items, Members, no_members, Yes, No, Dialect, draft2020_12, Shape, Flattened, Fields, Variant, no_payload, newtype_payload, needed, Row, type_alone, flattened_part, filled, struct_template, external_template, IsPlainUnder, unsigned, draft2019_09, accepts, entry, Required, in_place, always, belongs, String, read_data, all_keywords, follow, forms, fields_within, enums_within, belongs_within, choices_within}
 use Rattle.schemars_shapes.specs.Shape as shape
 use Rattle.schemars_types.specs.declared.contract.Contract.{Contract}
 use Rattle.schemars_types.specs.declared.contract.Contract.TheVariants.{Deserialize, Serialize}
-use Rattle.schemars_walk.specs.Rewritten.{forms}
-use Rattle.schemars_types.specs.Effective.{fields_within, enums_within}
-use Rattle.schemars_types.specs.Meaning.{belongs_within, choices_within}
 
 row : String → Shape → Row
 row name s = record { id = codes name; name = codes name; entry = Some (in_place s) }

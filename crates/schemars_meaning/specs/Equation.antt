@@ -1,7 +1,7 @@
 -- The meaning of a row by the meanings of the rows in its shape, where no step is counted.
 use Rattle.std.specs.Prelude.{◌≡◌, ℕ, ◌+◌, ◌*◌, List, length, false, Some, None}
 use Rattle.serde_json.specs.Data.{Data, depth}
-use Rattle.schemars_schema.specs.Acceptance.{Patterns}
+use Rattle.schemars_schema.specs.Judges.{Patterns}
 use Rattle.schemars_shapes.specs.Shape.{Entry}
 use Rattle.schemars_types.specs.Effective.{expanded_shape_in}
 use Rattle.schemars_types.specs.KeyOptions.{key_options}

@@ -1,28 +1,12 @@
 -- A verdict of a document that means a row decides whether a value belongs to the row.
 use Rattle.std.proofs.Common.{◌≡◌, ◌∙◌, ◌⊎◌, inl, inr, ℕ, ◌<◌, ◌≤◌, Bool, true, false, refl, sym, ap, subst, List, length, arith}
-use Rattle.std.specs.Prelude.{nat_lt, codes}
-use Rattle.std.proofs.lemmas.Bool.Decides.{nat_tests}
-use borrow.Author.Tests.{ltb-true}
-use Rattle.serde_json.specs.Data.{Data}
-use Rattle.serde_json.specs.View.{view}
-use Rattle.schemars_schema.specs.Acceptance.{Patterns, accepts, bound, draft2020_12}
-use Rattle.schemars_schema.specs.Json.{Text, IsJson}
-use Rattle.schemars_schema.specs.Verdict.{verdict, is_yes}
-use Rattle.schemars_types.specs.Meaning.{belongs}
-use Rattle.schemars_types.specs.Rows.{Row}
+use Rattle.schemars_membership.proofs.Words.{nat_lt, codes, nat_tests, ltb-true, Data, view, draft2020_12, Patterns, accepts, bound, Text, IsJson, verdict, is_yes, belongs, Row, Headline, IsDraftPath, MeansItsType, RootHeadline, State, path_of, HasOwnDefinitions, IsAccepted, IsRefused, Accepts, IsOf, dialect_of, AreExpressionsOf, Belongs, IsDocumentRefusal, IsMember, IsOfType, IsRowRefusal}
 use Rattle.schemars_types.specs.declared.contract.Contract.{Contract}
-use Rattle.schemars_headline.specs.Headline.{Headline, IsDraftPath, MeansItsType, RootHeadline}
-use Rattle.schemars_headline.specs.State.{State, path_of, HasOwnDefinitions}
-use Rattle.schemars_types.specs.Faults.{IsAccepted}
-use Rattle.schemars_generate.specs.Through.{IsRefused}
 use Rattle.schemars_generate.specs.declared.error.GenerateError.{GenerateError}
 use Rattle.schemars_generate.specs.declared.error.GenerateError.TheVariants.{OutOfMemory, UnknownType, DefinitionsPath}
-use Rattle.schemars_validator.specs.Asked as paths
-use Rattle.schemars_validator.specs.Asked.{Accepts, IsOf, dialect_of}
-use Rattle.schemars_validator.specs.Expressions.{AreExpressionsOf}
-use Rattle.schemars_validator.specs.declared.draft.Draft.TheVariants.{Draft2020_12}
+use Rattle.schemars_readable.specs.Drafts as paths
+use Rattle.schemars_readable.specs.declared.draft.Draft.TheVariants.{Draft2020_12}
 use Rattle.schemars_validator.specs.declared.validator.Validator.{Validator}
-use Rattle.schemars_membership.specs.Membership.{Belongs, IsDocumentRefusal, IsMember, IsOfType, IsRowRefusal}
 
 settled : (b : Bool) → is_yes (verdict b) ≡ b
 settled true = refl

@@ -2,7 +2,8 @@
 use Rattle.std.specs.Prelude.{◌≡◌, ◌≤◌, ◌<◌, ◌⊎◌, ℕ, Bool, List, length, codes}
 use Rattle.serde_json.specs.Data.{Data}
 use Rattle.serde_json.specs.View.{view}
-use Rattle.schemars_schema.specs.Acceptance.{Patterns, draft2020_12}
+use Rattle.schemars_schema.specs.Dialects.{draft2020_12}
+use Rattle.schemars_schema.specs.Judges.{Patterns}
 use Rattle.schemars_types.specs.Rows.{Row}
 use Rattle.schemars_types.specs.Faults.{IsAccepted}
 use Rattle.schemars_types.specs.declared.contract.Contract.{Contract}
@@ -10,12 +11,12 @@ use Rattle.schemars_types.specs.Meaning.{belongs}
 use Rattle.schemars_headline.specs.Headline.{Headline, MeansItsType}
 use Rattle.schemars_generate.specs.Refusals.{IsTableRefusal}
 use Rattle.schemars_generate.specs.declared.error.GenerateError as generating
-use Rattle.schemars_validator.specs.Asked.{dialect_of, path_of}
+use Rattle.schemars_readable.specs.Drafts.{dialect_of, path_of}
 use Rattle.schemars_validator.specs.Texts.{IsReadBy}
-use Rattle.schemars_validator.specs.Expressions.{AreExpressionsOf}
-use Rattle.schemars_validator.specs.Refused.{IsRefusal}
-use Rattle.schemars_validator.specs.declared.draft.Draft.TheVariants.{Draft2020_12}
-use Rattle.schemars_validator.specs.declared.expressions.Expression.{Expression}
+use Rattle.schemars_readable.specs.Expressions.{AreExpressionsOf}
+use Rattle.schemars_readable.specs.Refused.{IsRefusal}
+use Rattle.schemars_readable.specs.declared.draft.Draft.TheVariants.{Draft2020_12}
+use Rattle.schemars_readable.specs.declared.expressions.Expression.{Expression}
 use Rattle.schemars_validator.specs.declared.validator.Validator.{Validator}
 use Rattle.schemars_membership.specs.declared.error.MembershipError as membership
 

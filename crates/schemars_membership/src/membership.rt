@@ -1,13 +1,8 @@
 //! The document of a type, and the values that belong to the type by it.
 ghost use Rattle.std.specs.Prelude.{◌≡◌, ℕ, List, IfOk, IfErr, codes};
-ghost use Rattle.serde_json.specs.View.{view};
-ghost use Rattle.schemars_schema.specs.Acceptance.{accepts, bound, draft2020_12};
-ghost use Rattle.schemars_schema.specs.Verdict.{is_yes};
+ghost use Rattle.schemars_membership.specs.Words.{view, draft2020_12, accepts, bound, is_yes, Row, Headline, IsPlainFor, MeansItsType, Belongs, IsDocumentRefusal, IsMember, IsOfType, IsUndecided};
 ghost use Rattle.schemars_types.specs.Meaning as meaning;
-ghost use Rattle.schemars_types.specs.Rows.{Row};
 ghost use Rattle.schemars_types.specs.declared.contract.Contract.{Contract as Which};
-ghost use Rattle.schemars_headline.specs.Headline.{Headline, IsPlainFor, MeansItsType};
-ghost use Rattle.schemars_membership.specs.Membership.{Belongs, IsDocumentRefusal, IsMember, IsOfType, IsUndecided};
 
 use crate::error::MembershipError;
 use schemars_generate::{GenerateError, SchemaGenerator, SchemaSettings};

@@ -1,9 +1,6 @@
 -- The enums among the members of a row, row by row.
 use Rattle.std.proofs.Common.{◌≡◌, ℕ, suc, List, [], ◌++◌, Option, Some, None, refl, sym, ap, ◌∙◌, append-nil}
-use Rattle.std.specs.Option.{option_map_or}
-use Rattle.schemars_shapes.specs.Shape.{Entry}
-use Rattle.schemars_types.specs.Rows.{Row, entry_at}
-use Rattle.schemars_types.specs.Effective.{without_options, enums_within, shape_enums}
+use Rattle.schemars_plain.proofs.Words.{option_map_or, Entry, Row, entry_at, without_options, enums_within, shape_enums}
 
 within_none : (rows : List Row) (n : ℕ) → enums_within rows 0 n ≡ []
 unfolding enums_within

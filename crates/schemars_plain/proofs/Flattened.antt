@@ -1,9 +1,6 @@
 -- What is flattened.
 use Rattle.std.proofs.Common.{◌≡◌, List, [], ◌∷◌, ◌++◌, Some, Bool, true, false, true≢false, refl, sym, ap, ◌∙◌}
-use Rattle.std.specs.Prelude.{◌↔◌, IsTrue, not}
-use Rattle.std.specs.List.{AllByRecursion}
-use Rattle.schemars_shapes.specs.Shape.{Fields, Entry, struct}
-use Rattle.schemars_documents.specs.PlainTable.{IsOpenStruct}
+use Rattle.schemars_plain.proofs.Words.{◌↔◌, IsTrue, not, AllByRecursion, Fields, Entry, struct, IsOpenStruct}
 
 pub open_struct : (x : Fields) (e : Entry) → e.shape ≡ struct x → IsTrue (not x.closed) ↔ IsOpenStruct (Some e)
 open_struct x e is = go x.closed refl

@@ -3,3 +3,4 @@ pub mod Flattened
 pub mod Literals
 pub mod Named
 pub mod Said
+mod Words

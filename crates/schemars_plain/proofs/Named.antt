@@ -1,12 +1,6 @@
 -- Names of fields, of variants and of enums.
 use Rattle.std.proofs.Common.{◌≡◌, ℕ, List, [], ◌∷◌, refl, sym, ap, map, ◌<◌, ◌+◌, ◌-◌, length, get_or, take, drop}
-use Rattle.std.specs.Prelude.{◌↔◌}
-use Rattle.std.proofs.lemmas.List.{drop_more, take_rest}
-use Rattle.schemars_schema.specs.Json.{Text}
-use Rattle.schemars_shapes.specs.Shape.{Field, Variant}
-use Rattle.schemars_types.specs.Rows.{Row}
-use Rattle.schemars_types.specs.Effective.{flattened_in, part_enums, expanded_variant, enum_at}
-use Rattle.schemars_documents.specs.PlainTable.{IsNoVariant, AreDistinctVariants, AreNoNames, AreApartFrom, AreApart}
+use Rattle.schemars_plain.proofs.Words.{◌↔◌, drop_more, take_rest, Text, Field, Variant, Row, flattened_in, part_enums, expanded_variant, enum_at, IsNoVariant, AreDistinctVariants, AreNoNames, AreApartFrom, AreApart}
 
 -- ---- the flattened fields change no variant's name
 

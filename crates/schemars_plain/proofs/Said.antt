@@ -1,17 +1,7 @@
 -- Fields of structs and of the rows flattened into them.
 use Rattle.std.proofs.Common.{◌≡◌, ℕ, suc, List, [], ◌∷◌, ◌++◌, Option, Some, None, Bool, true, false, refl, sym, ap, ◌∙◌, map, append_assoc, append-nil, ◌<◌, ◌+◌, length, get_or, drop, subst}
-use Rattle.std.specs.Prelude.{is_some, if◌then◌else◌, bytes_eq}
-use Rattle.std.proofs.lemmas.List.{map-append, drop_more}
-use Rattle.std.specs.Option.{option_map_or}
-use Rattle.schemars_shapes.specs.Shape.{Field, Flattened, Fields, Entry, Required, flattened_of}
+use Rattle.schemars_plain.proofs.Words.{is_some, if◌then◌else◌, bytes_eq, map-append, drop_more, option_map_or, Field, Flattened, Fields, Entry, Required, flattened_of, Row, entry_at, option_at, without_options, fields_within, effective, flattened_fields, part_fields, required_only_if, shape_fields, IsNoName, AreDistinct, AreNoted, AreNoNames, AreApart, Text, AreNotes, Said, as_said}
 use Rattle.schemars_shapes.specs.declared.shape.Flattened as src
-use Rattle.schemars_types.specs.Rows.{Row, entry_at}
-use Rattle.schemars_types.specs.Edges.{option_at}
-use Rattle.schemars_types.specs.Effective.{without_options, fields_within, effective, flattened_fields, part_fields, required_only_if, shape_fields}
-use Rattle.schemars_documents.specs.PlainTable.{IsNoName, AreDistinct, AreNoted, AreNoNames, AreApart}
-use Rattle.schemars_schema.specs.Json.{Text}
-use Rattle.schemars_schema.specs.Annotations.{AreNotes}
-use Rattle.schemars_plain.specs.Said.{Said, as_said}
 
 -- ---- what is said of fields
 

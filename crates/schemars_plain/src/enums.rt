@@ -1,8 +1,6 @@
 //! The enums that are flattened into a map, and the names that they put there.
 ghost use Rattle.std.specs.Prelude.{◌≡◌, ◌↔◌, ◌++◌, map, IsTrue, IfOk, OnOk, option_map};
-ghost use Rattle.schemars_shapes.specs.Shape.{fields_of, flattened_of, shape_of, variant_of, internal_payload_of, internal_variant_of, internal_view, enum, by_tag, payload_names};
-ghost use Rattle.schemars_types.specs.Effective.{flattened_in, flattened_enums, part_enums, shape_enums, enums_within, without_options, expanded_fields, expanded_payload, expanded_variant, expanded_shape_in};
-ghost use Rattle.schemars_documents.specs.PlainTable.{all_payload_names, enum_names, enum_names_at, tag_names, HasNamesApart};
+ghost use Rattle.schemars_plain.specs.Words.{fields_of, flattened_of, shape_of, variant_of, internal_payload_of, internal_variant_of, internal_view, enum, by_tag, payload_names, flattened_in, flattened_enums, part_enums, shape_enums, enums_within, without_options, expanded_fields, expanded_payload, expanded_variant, expanded_shape_in, all_payload_names, enum_names, enum_names_at, tag_names, HasNamesApart};
 
 use crate::fields::{all_fields, field_names};
 use crate::names::are_apart;

@@ -1,9 +1,6 @@
 //! The fields of a struct together with those of the rows that are flattened into it.
 ghost use Rattle.std.specs.Prelude.{◌≡◌, ◌↔◌, ◌++◌, map, IsTrue, IfOk, OnOk};
-ghost use Rattle.schemars_shapes.specs.Shape.{field_of, fields_of, shape_of};
-ghost use Rattle.schemars_types.specs.Effective.{fields_within, shape_fields, effective, part_fields, flattened_in};
-ghost use Rattle.schemars_documents.specs.PlainTable.{IsNoName, AreDistinct, AreNoted};
-ghost use Rattle.schemars_plain.specs.Said.{as_said};
+ghost use Rattle.schemars_plain.specs.Words.{field_of, fields_of, shape_of, fields_within, shape_fields, effective, part_fields, flattened_in, IsNoName, AreDistinct, AreNoted, as_said};
 
 use crate::names::is_no_name;
 use crate::notes::are_notes;

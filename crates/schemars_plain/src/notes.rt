@@ -1,8 +1,6 @@
 //! Notes: the annotations of rows, fields and variants.
 ghost use Rattle.std.specs.Prelude.{◌≡◌, ◌↔◌, IsTrue};
-ghost use Rattle.serde_json.specs.View.{members_view};
-ghost use Rattle.schemars_schema.specs.Annotations.{is_annotation, AreNotes};
-ghost use Rattle.schemars_shapes.specs.Units.{is_none};
+ghost use Rattle.schemars_plain.specs.Words.{members_view, is_annotation, AreNotes, is_none};
 
 use schemars_schema::edits::is_listed;
 use serde_json::{Map, Value};

@@ -1,9 +1,6 @@
 //! What is flattened into the maps of a row.
 ghost use Rattle.std.specs.Prelude.{◌≡◌, ◌↔◌, map, IsTrue, Some};
-ghost use Rattle.schemars_shapes.specs.Shape.{shape_of, flattened_of, entry_of};
-ghost use Rattle.schemars_shapes.specs.AnyPayload.{any_payload_of};
-ghost use Rattle.schemars_types.specs.Rows.{entry_at};
-ghost use Rattle.schemars_documents.specs.PlainTable.{payload_parts, variant_parts, parts_in, IsOpenStruct, ArePlainParts};
+ghost use Rattle.schemars_plain.specs.Words.{shape_of, flattened_of, entry_of, any_payload_of, entry_at, payload_parts, variant_parts, parts_in, IsOpenStruct, ArePlainParts};
 
 use schemars_shapes::{AnyPayload, AnyVariant};
 use schemars_types::{Flattened, Shape, TypeEntry, TypeNo, Types};

@@ -1,9 +1,6 @@
 //! Rows and tables.
 ghost use Rattle.std.specs.Prelude.{◌↔◌, IsTrue, IfOk, map};
-ghost use Rattle.schemars_shapes.specs.Shape.{shape_of, enum, by_name, by_tag, by_tag_and_content, internal_view, adjacent_view};
-ghost use Rattle.schemars_types.specs.Rows.{entry_at};
-ghost use Rattle.schemars_types.specs.Effective.{expanded_shape_in};
-ghost use Rattle.schemars_documents.specs.PlainTable.{IsPlainShape, IsPlainEntry, IsPlainTable};
+ghost use Rattle.schemars_plain.specs.Words.{shape_of, enum, by_name, by_tag, by_tag_and_content, internal_view, adjacent_view, entry_at, expanded_shape_in, IsPlainShape, IsPlainEntry, IsPlainTable};
 
 use crate::fields::are_plain;
 use crate::literal::is_plain_literal;

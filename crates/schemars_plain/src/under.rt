@@ -1,10 +1,6 @@
 //! Tables that are plain under a contract: Options and enums may be flattened too.
 ghost use Rattle.std.specs.Prelude.{◌≡◌, ◌↔◌, map, IsTrue, IfOk, option_map, false};
-ghost use Rattle.schemars_shapes.specs.Shape.{shape_of, flattened_of, internal_variant_of};
-ghost use Rattle.schemars_shapes.specs.AnyPayload.{any_payload_of};
-ghost use Rattle.schemars_types.specs.Rows.{entry_at};
-ghost use Rattle.schemars_types.specs.Effective.{flattened_in, part_enums, expanded_payload, expanded_variant, expanded_shape_in};
-ghost use Rattle.schemars_documents.specs.PlainTable.{parts_in, variant_parts, may_miss, tag_names, enum_names_at, PayloadHasNamesApart, VariantsHaveNamesApart, ShapeHasNamesApart, IsBare, HasBareUnits, HasVariant, HasNoEnums, VariantsHaveNoEnums, IsPartShape, IsPartUnder, ArePartsUnder, IsEntryUnder, IsPlainUnder};
+ghost use Rattle.schemars_plain.specs.Words.{shape_of, flattened_of, internal_variant_of, any_payload_of, entry_at, flattened_in, part_enums, expanded_payload, expanded_variant, expanded_shape_in, parts_in, variant_parts, may_miss, tag_names, enum_names_at, PayloadHasNamesApart, VariantsHaveNamesApart, ShapeHasNamesApart, IsBare, HasBareUnits, HasVariant, HasNoEnums, VariantsHaveNoEnums, IsPartShape, IsPartUnder, ArePartsUnder, IsEntryUnder, IsPlainUnder};
 
 use crate::enums::{fields_apart, flattened_enums};
 use crate::notes::{are_notes, has_no_notes};

@@ -1,9 +1,6 @@
 //! The variants of enums.
 ghost use Rattle.std.specs.Prelude.{◌↔◌, map, IsTrue, IfOk};
-ghost use Rattle.schemars_shapes.specs.AnyPayload.{any_payload_of};
-ghost use Rattle.schemars_types.specs.Effective.{flattened_in, part_enums, expanded_variant, expanded_payload};
-ghost use Rattle.schemars_documents.specs.PlainTable.{IsNoVariant, AreDistinctVariants, IsPlainPayload, ArePlainVariants, IsTagged, AreTagged};
-ghost use Rattle.schemars_schema.specs.Annotations.{AreNotes};
+ghost use Rattle.schemars_plain.specs.Words.{any_payload_of, flattened_in, part_enums, expanded_variant, expanded_payload, IsNoVariant, AreDistinctVariants, IsPlainPayload, ArePlainVariants, IsTagged, AreTagged, AreNotes};
 
 use crate::fields::{are_plain, lacks};
 use crate::notes::are_notes;

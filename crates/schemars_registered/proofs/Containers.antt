@@ -1,13 +1,6 @@
 -- What an empty table holds once a type of each kind was registered in it, whose parts have no parts.
 use Rattle.std.proofs.Common.{◌≡◌, ℕ, List, [], ◌∷◌, Bool, true, false, Option, None, Some, refl, ap, sym, ◌∙◌, subst, option_map, option_and_then, ◌==◌}
-use Rattle.std.specs.Str.{bytes_eq}
-use Rattle.schemars_schema.specs.Json.{Text}
-use Rattle.schemars_shapes.specs.Shape.{Shape, Entry, without_notes, in_place, array, tuple}
-use Rattle.schemars_types.specs.Names.{array_id, array_name, tuple_id, tuple_name}
-use Rattle.schemars_types.specs.Rows.{Row, place_of}
-use Rattle.schemars_impls.specs.Dictionary.{TypeRow, alone, of_one, of_two}
-use Rattle.schemars_impls.specs.Containers.{array_row, tuple_row, and_parts, no_parts, HasItems}
-use Rattle.schemars_registered.specs.Holds.{IsRegistered, HoldsOne, HoldsTwo, HoldsThree, HoldsChain, row}
+use Rattle.schemars_registered.proofs.Words.{bytes_eq, Text, Shape, Entry, without_notes, in_place, array, tuple, array_id, array_name, tuple_id, tuple_name, Row, place_of, TypeRow, alone, of_one, of_two, array_row, tuple_row, and_parts, no_parts, HasItems, IsRegistered, HoldsOne, HoldsTwo, HoldsThree, HoldsChain, row}
 use Rattle.schemars_registered.proofs.Holding.{holds_one, holds_two, holds_three, holds_chain, passed}
 
 -- ---- how entries are made

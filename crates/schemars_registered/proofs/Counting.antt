@@ -1,12 +1,6 @@
 -- How many rows a table has, of which each is one of those that are known.
 use Rattle.std.proofs.Common.{◌≡◌, ◌⊎◌, ◌<◌, ◌≤◌, ◌+◌, ℕ, zero, suc, List, [], ◌∷◌, length, map, Bool, true, false, Some, refl, ap, ◌∙◌, subst, arith}
-use Rattle.std.specs.Prelude.{slice_get, nat_lt}
-use Rattle.std.specs.List.{AllByRecursion, IsDistinct, position_from}
-use Rattle.std.specs.Str.{bytes_eq}
-use Rattle.std.proofs.lemmas.Bool.Decides.{nat_tests}
-use Rattle.std.proofs.lemmas.Slice.Eq.{bytes_eq-Decides}
-use Rattle.schemars_schema.specs.Json.{Text}
-use Rattle.schemars_types.specs.Rows.{Row, HasDistinctIds, place_of}
+use Rattle.schemars_registered.proofs.Words.{slice_get, nat_lt, AllByRecursion, IsDistinct, position_from, bytes_eq, nat_tests, bytes_eq-Decides, Text, Row, HasDistinctIds, place_of}
 
 -- ---- numbers below a bound
 

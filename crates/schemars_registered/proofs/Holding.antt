@@ -1,15 +1,6 @@
 -- What an empty table holds once a type was registered in it.
 use Rattle.std.proofs.Common.{◌≡◌, ℕ, List, [], ◌∷◌, length, Bool, true, false, Some, refl, sym, ◌∙◌, subst, if◌then◌else◌}
-use Rattle.std.specs.Prelude.{slice_get}
-use Rattle.std.specs.Str.{bytes_eq}
-use Rattle.std.proofs.lemmas.Slice.Eq.{bytes_eq-Decides}
-use Rattle.schemars_schema.specs.Json.{Text}
-use Rattle.schemars_shapes.specs.Shape.{Entry}
-use Rattle.schemars_types.specs.Rows.{Row, place_of}
-use Rattle.schemars_types.proofs.Registered.{place_of-below}
-use Rattle.schemars_impls.specs.Describes.{Unsaid, IsMade}
-use Rattle.schemars_impls.specs.Dictionary.{Told, Dictionary, Defined, Pending, TypeRow, told_of, IsFree, IsIn, staged}
-use Rattle.schemars_registered.specs.Holds.{IsRegistered, HoldsOne, HoldsTwo, HoldsThree, HoldsChain}
+use Rattle.schemars_registered.proofs.Words.{slice_get, bytes_eq, bytes_eq-Decides, Text, Entry, Row, place_of, place_of-below, Unsaid, IsMade, Told, Dictionary, Defined, Pending, TypeRow, told_of, IsFree, IsIn, staged, IsRegistered, HoldsOne, HoldsTwo, HoldsThree, HoldsChain}
 use Rattle.schemars_registered.proofs.Counting.{count_one, count_two, count_three}
 use Rattle.schemars_registered.proofs.Telling.{told_or, listing, listing_followed, FollowsEach, row_of, row_told, apart_places, only_one, only_two, only_three}
 

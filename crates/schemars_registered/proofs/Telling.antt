@@ -1,15 +1,6 @@
 -- Tables that follow each dictionary which tells some rows, whatever it tells of every other id: they have those rows alone.
 use Rattle.std.proofs.Common.{◌≡◌, ◌⊎◌, inl, inr, ◌<◌, ℕ, List, [], ◌∷◌, length, Bool, true, false, Option, Some, None, cond, is_some, option_and_then, refl, ap, sym, ◌∙◌, subst, if◌then◌else◌}
-use Rattle.std.specs.Prelude.{slice_get}
-use Rattle.std.specs.Option.{option_map_or}
-use Rattle.std.specs.Str.{bytes_eq}
-use Rattle.std.proofs.lemmas.Slice.Eq.{bytes_eq-Decides}
-use Rattle.schemars_schema.specs.Json.{Text}
-use Rattle.schemars_shapes.specs.Shape.{Entry}
-use Rattle.schemars_types.specs.Rows.{Row, HasDistinctIds, place_of, id_at, name_at, entry_at}
-use Rattle.schemars_impls.specs.Describes.{Unsaid, IsMade}
-use Rattle.schemars_impls.specs.Dictionary.{Told, Dictionary, Defined, TypeRow, told_of, Follows, IsEntryOf}
-use Rattle.schemars_impls.proofs.Following.{id-there}
+use Rattle.schemars_registered.proofs.Words.{slice_get, option_map_or, bytes_eq, bytes_eq-Decides, Text, Entry, Row, HasDistinctIds, place_of, id_at, name_at, entry_at, Unsaid, IsMade, Told, Dictionary, Defined, TypeRow, told_of, Follows, IsEntryOf, id-there}
 use Rattle.schemars_registered.proofs.Counting.{place_of_row, row_below}
 
 -- what these tell of an id, or else this

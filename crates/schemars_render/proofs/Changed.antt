@@ -1,16 +1,6 @@
 -- A member that is taken out, changed and put in again is changed in its place.
 use Rattle.std.proofs.Common.{◌≡◌, true, false, Some, None, is_eq, Ordering, Less, Equal, Greater, nat_cmp, refl, sym, ap, subst, ◌∙◌}
-use Rattle.std.proofs.lemmas.Map.Lookups.{exact_bytes}
-use Rattle.std.proofs.lemmas.Map.Text.{is_eq-slice_cmp}
-use Rattle.std.specs.Prelude.{Option, bytes_eq}
-use Rattle.std.specs.Cmp.Lexicographic.{slice_cmp}
-use Rattle.serde_json.specs.Data.{Data, Members, no_members, member, put}
-use Rattle.serde_json.specs.Find.{get_member}
-use Rattle.schemars_text.proofs.Members.{get_member-later}
-use Rattle.schemars_schema.specs.Edits.{without, replaced, changed_at}
-use Rattle.schemars_schema.specs.Json.{Text, IsAbove}
-use Rattle.schemars_schema.proofs.SortedMembers.{IsSorted, above-trans, get_member-above}
-use Rattle.schemars_render.specs.Assembled.{there_or}
+use Rattle.schemars_render.proofs.Words.{exact_bytes, is_eq-slice_cmp, Option, bytes_eq, slice_cmp, Data, Members, no_members, member, put, get_member, get_member-later, without, replaced, changed_at, Text, IsAbove, IsSorted, above-trans, get_member-above, there_or}
 
 -- a key that is before all others goes first
 pub put-above : (k : Text) (d : Data) (ms : Members) → IsAbove k ms → put k d ms ≡ member k d ms

@@ -1,9 +1,6 @@
 -- Keywords that are filled one after another.
 use Rattle.std.proofs.Common.{◌≡◌, ◌++◌, List, map}
-use Rattle.serde_json.specs.Data.{Data}
-use Rattle.schemars_documents.specs.Documents.{Keyword}
-use Rattle.schemars_documents.specs.Template.{filled_in, left, keyed}
-use Rattle.schemars_documents.specs.OfShape.{KeywordTemplate, object_with, templates_of}
+use Rattle.schemars_render.proofs.Words.{Data, Keyword, filled_in, left, keyed, KeywordTemplate, object_with, templates_of}
 
 -- each of the keywords with what its template is filled with
 abbrev pub filled_keywords : List KeywordTemplate → List Data → List Keyword

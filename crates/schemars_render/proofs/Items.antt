@@ -1,12 +1,7 @@
 -- Items of parts, with more behind them, and of texts.
 use Rattle.std.proofs.Common.{◌≡◌, ◌++◌, List, [], ◌∷◌, map, refl, ap}
-use Rattle.serde_json.specs.Data.{Items, item, string}
-use Rattle.serde_json.specs.View.{items_of}
+use Rattle.schemars_render.proofs.Words.{Items, item, string, items_of, with_item, text_items, appended, assembled_view, items_assembled}
 use Rattle.schemars_text.specs.Text.{Text}
-use Rattle.schemars_schema.specs.Edits.{with_item}
-use Rattle.schemars_builders.specs.NullLaw.{text_items}
-use Rattle.schemars_flatten.specs.Flatten.{appended}
-use Rattle.schemars_render.specs.Assembled.{assembled_view, items_assembled}
 use Rattle.schemars_render.specs.declared.assembled.Assembled.{Assembled}
 
 pub pushed : (ps : List Assembled) (p : Assembled) → items_assembled (ps ++ p ∷ []) ≡ with_item (items_assembled ps) (assembled_view p)

@@ -4,8 +4,12 @@ pub mod Entries
 pub mod FilledMembers
 pub mod Items
 pub mod Lists
-pub mod Parts
+pub mod NullNames
+pub mod PartViews
 pub mod PutInOrder
+pub mod Rules
 pub mod Searched
+pub mod Taken
 pub mod Wholes
 pub mod Written
+mod Words

@@ -1,15 +1,7 @@
 -- Lists of members: what they stand for, in the order of their names.
 use Rattle.std.proofs.Common.{◌≡◌, ℕ, ◌+◌, ◌<◌, List, [], ◌∷◌, ◌++◌, map, length, get_or, drop, zero, suc, ◌≤◌, false, Ordering, Less, Equal, Greater, is_ge, nat_cmp, IsPermutation, string_bytes, arith, append-nil, refl, sym, ap, subst, ◌∙◌}
-use Rattle.std.proofs.lemmas.List.{drop_more}
-use Rattle.std.proofs.lemmas.List.Sorted.{IsPermutation-map}
-use Rattle.std.specs.Cmp.Lexicographic.{slice_cmp}
-use Rattle.serde_json.specs.Data.{Data, no_members, member}
-use Rattle.serde_json.specs.View.{view, members_view}
+use Rattle.schemars_render.proofs.Words.{drop_more, IsPermutation-map, slice_cmp, Data, Members, no_members, member, members_len, view, members_view, Text, put_all, IsSorted, above-trans, assembled_view, members_assembled, named_view}
 use Rattle.serde_json.proofs.Views.{Entry as NamedValue}
-use Rattle.schemars_schema.specs.Json.{Text}
-use Rattle.schemars_schema.specs.SchemaData.{put_all}
-use Rattle.schemars_schema.proofs.SortedMembers.{IsSorted, above-trans}
-use Rattle.schemars_render.specs.Assembled.{assembled_view, members_assembled, named_view}
 use Rattle.schemars_render.proofs.Entries.{Entry}
 use Rattle.schemars_render.proofs.PutInOrder.{listed, put_in_order}
 
@@ -17,6 +9,10 @@ below_from_not_ge : (o : Ordering) → is_ge o ≡ false → o ≡ Less
 below_from_not_ge Less h = refl
 below_from_not_ge Equal h = cc
 below_from_not_ge Greater h = cc
+
+pub counted : (es : List Entry) → members_len (members_assembled es) ≡ length es
+counted [] = refl
+counted (e ∷ es) = ap suc (counted es)
 
 -- the next member, and then those that are left
 pub next_member : (es : List Entry) (i : ℕ) (e : Entry) → i < length es → e ≡ get_or es i e → drop i es ≡ e ∷ drop (i + 1) es
@@ -67,3 +63,17 @@ pub sorted_members : (es xs : List Entry) → IsPermutation es xs → IsSorted (
 sorted_members es xs moved sorted =
     as_listed xs ∙ put_in_order (map named_view es) (map named_view xs) (IsPermutation-map named_view es xs moved)
     (subst IsSorted (as_listed xs) sorted)
+
+-- these members before others
+abbrev pub members_before : List Entry → Members → Members
+members_before [] ms = ms
+members_before (e ∷ es) ms = member e.0.now (assembled_view e.1) (members_before es ms)
+
+pub before_none : (es : List Entry) → members_before es no_members ≡ members_assembled es
+before_none [] = refl
+before_none (e ∷ es) = ap (member e.0.now (assembled_view e.1)) (before_none es)
+
+pub before_more : (es : List Entry) (e : Entry) (ms : Members)
+    → members_before (es ++ e ∷ []) ms ≡ members_before es (member e.0.now (assembled_view e.1) ms)
+before_more [] e ms = refl
+before_more (f ∷ es) e ms = ap (member f.0.now (assembled_view f.1)) (before_more es e ms)

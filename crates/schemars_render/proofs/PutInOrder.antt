@@ -1,18 +1,6 @@
 -- Members that are put in one after another are the list of them in the order of their keys.
 use Rattle.std.proofs.Common.{◌≡◌, Option, List, [], ◌∷◌, Some, None, is_some, is_eq, Bool, true, false, IsPermutation, refl, sym, ap, ◌∙◌}
-use Rattle.std.proofs.lemmas.List.Elements.{All-from_recursion, recursion_from_All}
-use Rattle.std.proofs.lemmas.List.Sorted.{All-permutation, IsPermutation-sym}
-use Rattle.std.proofs.lemmas.Map.Text.{is_eq-slice_cmp}
-use Rattle.std.proofs.lemmas.Slice.Eq.{bytes_eq-Decides}
-use Rattle.std.specs.List.{AllByRecursion}
-use Rattle.std.specs.Prelude.{bytes_eq}
-use Rattle.serde_json.specs.Data.{Data, Members, no_members, member, put}
-use Rattle.serde_json.specs.Find.{get_member}
-use Rattle.serde_json.proofs.Views.{get_member-put, get_member-put_other}
-use Rattle.schemars_text.proofs.Members.{differ, flipped, get_member-here, get_member-later}
-use Rattle.schemars_schema.specs.Json.{Text, IsAbove}
-use Rattle.schemars_schema.specs.SchemaData.{put_all}
-use Rattle.schemars_schema.proofs.SortedMembers.{IsSorted, sorted-put_all, same_members}
+use Rattle.schemars_render.proofs.Words.{All-from_recursion, recursion_from_All, All-permutation, IsPermutation-sym, is_eq-slice_cmp, bytes_eq-Decides, AllByRecursion, bytes_eq, Data, Members, no_members, member, put, get_member, get_member-put, get_member-put_other, differ, flipped, get_member-here, get_member-later, Text, IsAbove, put_all, IsSorted, sorted-put_all, same_members}
 
 -- the members of a list, as they stand
 abbrev pub listed : List (Text × Data) → Members

@@ -1,17 +1,6 @@
 -- What is found, put in or taken out at the place of a name.
 use Rattle.std.proofs.Common.{◌≡◌, ℕ, ◌+◌, ◌<◌, ◌≤◌, zero, suc, List, [], ◌∷◌, length, get_or, set, drop, Some, None, is_eq, nat_cmp, Less, Equal, Greater, arith, refl, sym, ap, subst, ◌∙◌, Bor}
-use Rattle.std.proofs.lemmas.List.{drop_all}
-use Rattle.std.proofs.lemmas.Map.Lookups.{exact_bytes}
-use Rattle.std.proofs.lemmas.Map.Text.{is_eq-slice_cmp}
-use Rattle.std.specs.Cmp.Lexicographic.{slice_cmp}
-use Rattle.std.specs.List.{insert, remove}
-use Rattle.serde_json.specs.Data.{Members, no_members, member, put}
-use Rattle.serde_json.specs.Find.{get_member}
-use Rattle.schemars_schema.specs.Edits.{without}
-use Rattle.schemars_schema.specs.Json.{Text}
-use Rattle.schemars_schema.proofs.SortedMembers.{IsSorted, above-trans, get_member-above}
-use Rattle.schemars_render.specs.Assembled.{assembled_view, members_assembled}
-use Rattle.schemars_render.specs.Searched.{IsFoundAt, BelongsAt}
+use Rattle.schemars_render.proofs.Words.{drop_all, exact_bytes, is_eq-slice_cmp, slice_cmp, insert, remove, Members, no_members, member, put, get_member, without, Text, IsSorted, above-trans, get_member-above, assembled_view, members_assembled, IsFoundAt, BelongsAt}
 use Rattle.schemars_render.specs.declared.assembled.Assembled.{Assembled}
 use Rattle.schemars_render.proofs.Entries.{Entry}
 use Rattle.schemars_render.proofs.Lists.{next_member}

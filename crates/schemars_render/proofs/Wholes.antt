@@ -1,11 +1,6 @@
 -- Parts that are JSON of 64-bit whole numbers.
 use Rattle.std.proofs.Common.{List, [], ◌∷◌, zero, suc, arith}
-use Rattle.std.proofs.lemmas.Str.{IsUtf8-from_ascii}
-use Rattle.std.specs.Prelude.{IsUtf8, ⊤, codes}
-use Rattle.std.specs.Str.{IsAscii}
-use Rattle.schemars_schema.specs.Json.{Text, IsWholeJson, AreWholeJsonMembers}
-use Rattle.schemars_schema.proofs.SortedMembers.{IsSorted}
-use Rattle.schemars_render.specs.Assembled.{assembled_view, reference_to, members_assembled}
+use Rattle.schemars_render.proofs.Words.{IsUtf8-from_ascii, IsUtf8, ⊤, codes, IsAscii, Text, IsWholeJson, AreWholeJsonMembers, IsSorted, assembled_view, reference_to, members_assembled}
 use Rattle.schemars_render.proofs.Entries.{Entry}
 
 key_is_ascii : IsAscii (codes "$ref")

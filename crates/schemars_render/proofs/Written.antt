@@ -1,18 +1,8 @@
 -- How a reference is written, and what was found under the last keywords.
 use Rattle.std.proofs.Common.{◌≡◌, List, ◌∷◌, ◌++◌, [], true, false, take, drop, map, refl, sym, ap, ◌∙◌, append_assoc}
-use Rattle.std.proofs.lemmas.List.{take-map, drop-map}
-use Rattle.std.specs.Prelude.{codes}
-use Rattle.json.specs.Print.{quoted}
+use Rattle.schemars_render.proofs.Words.{take-map, drop-map, codes, quoted, begin_object, end_object, key, string, Members, no_members, member, get_member, Output, with_token, with_value, with_values, Layout, PlainJson, SchemaLayout, NamedSchemas, texts, arranged, with_commas, braces, text_in, member_texts, first_keywords, last_keywords, Slot, held, object_written, assembled_view, reference_to}
 use Rattle.json.specs.Token as token
-use Rattle.json.specs.Token.{begin_object, end_object, key}
-use Rattle.serde_json.specs.Data.{string, Members, no_members, member}
-use Rattle.serde_json.specs.Find.{get_member}
 use Rattle.schemars_text.specs.Text.{Text}
-use Rattle.schemars_text.specs.Output.{Output, with_token, with_value, with_values}
-use Rattle.schemars_text.specs.OrderedText.{Layout, PlainJson, SchemaLayout, NamedSchemas, texts, arranged, with_commas, braces, text_in, member_texts, first_keywords, last_keywords}
-use Rattle.schemars_text.proofs.FixedMembers.{Slot, held}
-use Rattle.schemars_text.proofs.OrderedTexts.{object_written}
-use Rattle.schemars_render.specs.Assembled.{assembled_view, reference_to}
 use Rattle.schemars_render.specs.declared.assembled.Assembled.{Assembled}
 
 -- ---- a reference, which is written in the same way in every layout

@@ -1,9 +1,9 @@
 -- The schema that an answer stands for.
 use Rattle.std.specs.Prelude.{[], map, string_bytes}
 use Rattle.serde_json.specs.Data.{Data}
-use Rattle.schemars_documents.specs.Documents.{reference}
-use Rattle.schemars_documents.specs.Template.{filled}
-use Rattle.schemars_documents.specs.View.{template_view}
+use Rattle.schemars_templates.specs.Finished.{reference}
+use Rattle.schemars_templates.specs.Template.{filled}
+use Rattle.schemars_templates.specs.View.{template_view}
 use Rattle.schemars_render.specs.declared.answer.Form.{Form}
 use Rattle.schemars_render.specs.declared.answer.Form.TheVariants as form
 use Rattle.schemars_render.specs.declared.answer.Leaf.{Leaf}

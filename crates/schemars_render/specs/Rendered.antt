@@ -8,4 +8,5 @@ use Rattle.schemars_render.specs.declared.rendering.Rendered.{Rendered}
 -- its ordered text, and what it needs, if that was asked; its numbers are 64-bit whole numbers
 pub record IsRendered (d : Data) (r : Rendered) : Type 0 where
   pub text : IsWholeTextOf (string_bytes r.text) d
+  pub schema : r.schema ≡ d
   pub needs : IfSome r.needs (λ known. known ≡ needs_of d)

@@ -1,16 +1,12 @@
 //! What a row answers to a template.
 ghost use Rattle.std.specs.Prelude.{◌≡◌, map, string_bytes, IfOk};
-ghost use Rattle.schemars_documents.specs.Documents.{reference};
-ghost use Rattle.schemars_documents.specs.Template.{filled};
-ghost use Rattle.schemars_documents.specs.View.{template_view};
-ghost use Rattle.schemars_render.specs.Answer.{leaf_view};
-ghost use Rattle.schemars_render.specs.Assembled.{assembled_view};
+ghost use Rattle.schemars_render.specs.Words.{reference, filled, template_view, leaf_view, assembled_view};
 
 use crate::assembled::Assembled;
 use crate::assembling::assemble_schema;
 use crate::error::Stop;
-use schemars_documents::template::SchemaTemplate;
 use schemars_schema::Schema;
+use schemars_templates::template::SchemaTemplate;
 use std::alloc::{AllocError, Global};
 use std::collections::VecDeque;
 use std::marker::Model;
@@ -106,7 +102,7 @@ impl<'t> Answer<'t> {
             Form::Leaf(leaf) => leaf.into_schema(alloc),
             Form::Filled(template, leaves) => {
                 let schemas = into_schemas(alloc, leaves)?;
-                schemars_documents::template::fill(alloc, template, schemas)
+                schemars_templates::template::fill(alloc, template, schemas)
             }
         }
     }
@@ -119,7 +115,7 @@ impl<'t> Answer<'t> {
             Form::Leaf(leaf) => Ok(leaf),
             Form::Filled(template, leaves) => {
                 let schemas = into_schemas(alloc, leaves)?;
-                let schema = schemars_documents::template::fill(alloc, template, schemas)?;
+                let schema = schemars_templates::template::fill(alloc, template, schemas)?;
                 Ok(Leaf::Schema(schema))
             }
         }
@@ -147,7 +143,7 @@ impl<'t> Leaf<'t> {
             Leaf::Reference(target) => Schema::new_ref(alloc, target),
             Leaf::Schema(schema) => Ok(schema),
             Leaf::Template(template) => {
-                schemars_documents::template::fill(alloc, template, VecDeque::new(alloc))
+                schemars_templates::template::fill(alloc, template, VecDeque::new(alloc))
             }
         }
     }

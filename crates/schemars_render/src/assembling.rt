@@ -1,13 +1,6 @@
 //! A template that is filled with answers, in parts.
 ghost use Rattle.std.specs.Prelude.{◌≡◌, map, IfOk, OnOk};
-ghost use Rattle.serde_json.specs.Data.{array};
-ghost use Rattle.schemars_schema.specs.SchemaData.{object_of};
-ghost use Rattle.schemars_builders.specs.NullLaw.{text_items};
-ghost use Rattle.schemars_documents.specs.Documents.{type_alone};
-ghost use Rattle.schemars_documents.specs.Template.{list, filled, left, first, behind};
-ghost use Rattle.schemars_documents.specs.OfShape.{object_with, templates_of};
-ghost use Rattle.schemars_documents.specs.View.{template_view, node_view, value_view, keyword_view, property_view, scalar_view, scalar_keyword};
-ghost use Rattle.schemars_render.specs.Assembled.{assembled_view};
+ghost use Rattle.schemars_render.specs.Words.{array, object_of, text_items, type_alone, list, filled, left, first, behind, object_with, templates_of, template_view, node_view, value_view, keyword_view, property_view, scalar_view, scalar_keyword, assembled_view};
 
 use crate::assembled::Assembled;
 use crate::error::Stop;
@@ -15,7 +8,7 @@ use crate::keywords::{annotate, titled};
 use crate::members::object_of;
 use crate::nulls::with_null;
 use crate::tagging::with_tag;
-use schemars_documents::template::{Scalar, SchemaNode, SchemaTemplate, ValueTemplate};
+use schemars_templates::template::{Scalar, SchemaNode, SchemaTemplate, ValueTemplate};
 use std::alloc::Global;
 use std::collections::VecDeque;
 
@@ -40,7 +33,7 @@ pub(crate) fn assemble_schema<'a>(
 }
 
 #[cycle(assemble)]
-#[tactic(auto, using(schemars_documents::proofs::Templates::seen_object))]
+#[tactic(auto, using(schemars_templates::proofs::Templates::seen_object))]
 fn assemble_node<'a>(
     alloc: Global,
     node: &'a SchemaNode<'_>,
@@ -94,7 +87,7 @@ fn assemble_object<'a>(
 }
 
 #[cycle(assemble)]
-#[tactic(auto, using(schemars_documents::proofs::Templates::seen_named))]
+#[tactic(auto, using(schemars_templates::proofs::Templates::seen_named))]
 fn assemble_value<'a>(
     alloc: Global,
     template: &'a ValueTemplate<'_>,

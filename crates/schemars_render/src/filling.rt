@@ -1,11 +1,11 @@
 //! A template that is filled with answers, as a schema.
 ghost use Rattle.std.specs.Prelude.{◌≡◌, IfOk};
-ghost use Rattle.schemars_documents.specs.Template.{filled};
-ghost use Rattle.schemars_documents.specs.View.{template_view};
+ghost use Rattle.schemars_templates.specs.Template.{filled};
+ghost use Rattle.schemars_templates.specs.View.{template_view};
 
 use crate::answer::Answer;
-use schemars_documents::template::SchemaTemplate;
 use schemars_schema::Schema;
+use schemars_templates::template::SchemaTemplate;
 use std::alloc::{AllocError, Global};
 use std::collections::VecDeque;
 
@@ -19,7 +19,7 @@ pub fn fill(
     ensures { IfOk result (λ s. s ≡ filled (template_view template.entry) answers.entry.items) }
 {
     let schemas = into_schemas(alloc, answers)?;
-    schemars_documents::template::fill(alloc, template, schemas)
+    schemars_templates::template::fill(alloc, template, schemas)
 }
 
 fn into_schemas(alloc: Global, answers: Vec<Answer<'_>>) -> Result<VecDeque<Schema>, AllocError>

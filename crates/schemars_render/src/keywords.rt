@@ -1,9 +1,6 @@
 //! Notes on schemas in parts.
 ghost use Rattle.std.specs.Prelude.{◌≡◌, IfOk};
-ghost use Rattle.serde_json.specs.View.{members_view};
-ghost use Rattle.schemars_documents.specs.Documents.{annotated};
-ghost use Rattle.schemars_documents.specs.OfShape.{title_alone};
-ghost use Rattle.schemars_render.specs.Assembled.{assembled_view};
+ghost use Rattle.schemars_render.specs.Words.{members_view, annotated, title_alone, assembled_view};
 
 use crate::assembled::Assembled;
 use crate::error::Stop;

@@ -4,12 +4,15 @@
 mod answer;
 mod assembled;
 mod assembling;
+mod changing;
 mod error;
 mod filling;
+mod finishing;
 mod keywords;
 mod members;
 mod needs;
 mod nulls;
+mod parts;
 mod places;
 mod rendering;
 mod tagging;
@@ -18,4 +21,5 @@ mod writing;
 
 pub use answer::Answer;
 pub use filling::fill;
+pub use parts::Parts;
 pub use rendering::{Rendered, render};

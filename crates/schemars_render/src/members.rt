@@ -1,14 +1,7 @@
 //! Members and items of parts. Members in the order of their names are edited in their list.
 ghost use Rattle.std.specs.Prelude.{◌≡◌, ◌<◌, is_some, length, map, option_map, slice_set, IfOk, IsTrue, MatchResult, OnOk};
-ghost use Rattle.std.specs.List.Sorted.{IsPermutation};
-ghost use Rattle.serde_json.specs.Data.{array, no_items, object, member, no_members, put};
-ghost use Rattle.serde_json.specs.Find.{get_member};
-ghost use Rattle.serde_json.specs.View.{view, items_view, members_view};
-ghost use Rattle.schemars_schema.specs.Edits.{without};
-ghost use Rattle.schemars_schema.specs.SchemaData.{members_in, object_of, put_members};
+ghost use Rattle.schemars_render.specs.Words.{IsPermutation, array, no_items, object, member, no_members, put, get_member, view, items_view, members_view, members_len, without, members_in, object_of, put_members, assembled_view, items_assembled, members_assembled, named_view, there_or, IsFoundAt, BelongsAt};
 ghost use Rattle.schemars_schema.proofs.SortedMembers.{IsSorted};
-ghost use Rattle.schemars_render.specs.Assembled.{assembled_view, items_assembled, members_assembled, named_view, there_or};
-ghost use Rattle.schemars_render.specs.Searched.{IsFoundAt, BelongsAt};
 
 use crate::assembled::Assembled;
 use crate::error::Stop;
@@ -79,6 +72,13 @@ impl<'t> MemberList<'t> {
     {
         let list = vec![in alloc; (name, part)]?;
         Ok(MemberList { list })
+    }
+
+    // How many members there are.
+    pub(crate) fn len(&self) -> usize
+        ensures { result ≡ members_len self.now }
+    {
+        self.list.len()
     }
 
     // The object of the members.

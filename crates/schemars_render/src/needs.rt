@@ -1,11 +1,6 @@
 //! What a schema in parts has that the built-in transforms change, found by one walk.
-ghost use Rattle.std.specs.Prelude.{◌≡◌, is_some};
-ghost use Rattle.serde_json.specs.Data.{member, no_members};
-ghost use Rattle.serde_json.specs.Find.{as_bool};
-ghost use Rattle.schemars_walk.specs.Walk.{place_meant};
-ghost use Rattle.schemars_transform.specs.Needs.{place_asked, is_changed, needed, needed_at, needs_of, needed_by_items, needed_by_names, needed_by_keywords};
-ghost use Rattle.schemars_transform.specs.Nullable.{has_null};
-ghost use Rattle.schemars_render.specs.Assembled.{assembled_view, items_assembled, members_assembled};
+ghost use Rattle.std.specs.Prelude.{◌≡◌, true, is_some};
+ghost use Rattle.schemars_render.specs.Words.{IsScalar, member, no_members, as_bool, place_meant, place_asked, is_changed, needed, needed_at, needs_of, needed_by_items, needed_by_names, needed_by_keywords, has_null, assembled_view, items_assembled, members_assembled};
 
 use crate::assembled::Assembled;
 use crate::nulls::holds_text;
@@ -60,7 +55,19 @@ fn add_keyword(alone: bool, key: &str, part: &Assembled<'_>, needs: &mut Needs)
 {
     let keyword = Keyword::named(key);
     needs.note(keyword, is_changed(keyword, alone, part));
-    add_at(place_asked(key, part), part, needs);
+    if !is_scalar(part) {
+        add_at(place_asked(key, part), part, needs);
+    }
+}
+
+// Whether a part is null, a number or a text.
+pub(crate) fn is_scalar(part: &Assembled<'_>) -> bool
+    ensures { result ≡ true → IsScalar (assembled_view part.now) }
+{
+    matches!(
+        part,
+        Assembled::Null | Assembled::Integer(_) | Assembled::Text(_)
+    )
 }
 
 // Whether a transform changes this value of the keyword, which is alone in its object or not.
@@ -87,7 +94,7 @@ fn is_truth_value(part: &Assembled<'_>) -> bool
 }
 
 // Whether a `type` holds null.
-fn has_null(types: &Assembled<'_>) -> bool
+pub(crate) fn has_null(types: &Assembled<'_>) -> bool
     ensures { result ≡ has_null (assembled_view types.now) }
 {
     match types {
@@ -100,7 +107,7 @@ fn has_null(types: &Assembled<'_>) -> bool
 
 // Where the schemas are that may need something. A truth value under `additionalProperties` is
 // noted with its keyword.
-fn place_asked(key: &str, part: &Assembled<'_>) -> Place
+pub(crate) fn place_asked(key: &str, part: &Assembled<'_>) -> Place
     ensures { place_meant result ≡ place_asked key.now (assembled_view part.now) }
 {
     if key == "additionalProperties" && is_truth_value(part) {

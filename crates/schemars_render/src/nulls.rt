@@ -1,12 +1,6 @@
 //! Schemas in parts that accept null too.
 ghost use Rattle.std.specs.Prelude.{◌≡◌, false, codes, Some, IfOk, OnOk};
-ghost use Rattle.serde_json.specs.Data.{null, string, array, object, no_items, item, put};
-ghost use Rattle.serde_json.specs.Find.{get_member};
-ghost use Rattle.serde_json.specs.View.{view};
-ghost use Rattle.schemars_schema.specs.Acceptance.{is_null};
-ghost use Rattle.schemars_schema.specs.Edits.{holds_text};
-ghost use Rattle.schemars_builders.specs.AllowNull.{allow_null, or_null, is_combined, accepts_everything, holds_null, null_in_type, type_with_null, null_in_values, null_in_enum, enum_with_null};
-ghost use Rattle.schemars_render.specs.Assembled.{assembled_view, items_assembled};
+ghost use Rattle.schemars_render.specs.Words.{null, string, array, object, no_items, item, put, get_member, view, is_null, holds_text, allow_null, or_null, is_combined, accepts_everything, holds_null, null_in_type, type_with_null, null_in_values, null_in_enum, enum_with_null, assembled_view, items_assembled};
 
 use crate::assembled::Assembled;
 use crate::error::Stop;

@@ -1,8 +1,6 @@
 //! The members of a schema that have a fixed place in its text.
 ghost use Rattle.std.specs.Prelude.{◌≡◌, ◌++◌, map, option_map};
-ghost use Rattle.serde_json.specs.Find.{get_member};
-ghost use Rattle.schemars_text.specs.OrderedText.{first_keywords, last_keywords};
-ghost use Rattle.schemars_render.specs.Assembled.{assembled_view, members_assembled};
+ghost use Rattle.schemars_render.specs.Words.{get_member, first_keywords, last_keywords, assembled_view, members_assembled};
 
 use crate::assembled::Assembled;
 use schemars_text::places::place_of;

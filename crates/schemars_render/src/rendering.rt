@@ -1,31 +1,29 @@
 //! The text of a template that is filled with answers.
 ghost use Rattle.std.specs.Prelude.{◌≡◌, map, IfOk, IfSome};
-ghost use Rattle.schemars_schema.specs.Json.{IsWholeJson};
-ghost use Rattle.schemars_documents.specs.Template.{filled};
-ghost use Rattle.schemars_documents.specs.View.{template_view};
-ghost use Rattle.schemars_transform.specs.Needs.{needs_of};
-ghost use Rattle.schemars_render.specs.Assembled.{assembled_view};
-ghost use Rattle.schemars_render.specs.Rendered.{IsRendered};
+ghost use Rattle.schemars_render.specs.Words.{IsWholeJson, filled, template_view, needs_of, assembled_view, IsRendered};
 
 use crate::answer::Answer;
 use crate::assembled::Assembled;
 use crate::assembling::assemble_schema;
 use crate::error::Stop;
 use crate::needs::needs_of;
+use crate::parts::Parts;
 use crate::whole::is_whole;
 use crate::writing::text_of;
-use schemars_documents::template::SchemaTemplate;
+use schemars_templates::template::SchemaTemplate;
 use schemars_transform::Needs;
 use std::alloc::{AllocError, Global};
 use std::collections::VecDeque;
 
 /// A schema as text.
 #[derive(Drop)]
-pub struct Rendered {
+pub struct Rendered<'t> {
     /// Its ordered text.
     pub text: String,
     /// What it has that built-in transforms change, if that was asked.
     pub needs: Option<Needs>,
+    /// The schema itself.
+    pub schema: Parts<'t>,
 }
 
 /// Returns the ordered text of the schema that the template is with these answers in the places of
@@ -44,13 +42,13 @@ pub fn render<'a>(
     template: &'a SchemaTemplate<'_>,
     answers: &'a [Answer<'_>],
     asks_needs: bool,
-) -> Result<Option<Rendered>, AllocError>
+) -> Result<Option<Rendered<'a>>, AllocError>
     ensures { IfOk result (λ o. IfSome o
         (IsRendered (filled (template_view template.now) answers.now))) }
 {
     match assemble(alloc, template, answers) {
         Ok(schema) if is_whole(&schema) => {
-            let rendered = written(alloc, &schema, asks_needs)?;
+            let rendered = written(alloc, schema, asks_needs)?;
             Ok(Some(rendered))
         }
         Ok(_) | Err(Stop::NotCovered) => Ok(None),
@@ -59,13 +57,21 @@ pub fn render<'a>(
 }
 
 // The text of a schema, and what it needs, if that is asked.
-fn written(alloc: Global, schema: &Assembled<'_>, asks_needs: bool) -> Result<Rendered, AllocError>
-    requires { IsWholeJson (assembled_view schema.now) }
-    ensures { IfOk result (IsRendered (assembled_view schema.now)) }
+fn written<'t>(
+    alloc: Global,
+    schema: Assembled<'t>,
+    asks_needs: bool,
+) -> Result<Rendered<'t>, AllocError>
+    requires { IsWholeJson (assembled_view schema) }
+    ensures { IfOk result (IsRendered (assembled_view schema.entry)) }
 {
-    let needs = needs_if_asked(schema, asks_needs);
-    let text = text_of(alloc, schema)?;
-    Ok(Rendered { text, needs })
+    let needs = needs_if_asked(&schema, asks_needs);
+    let text = text_of(alloc, &schema)?;
+    Ok(Rendered {
+        text,
+        needs,
+        schema: Parts { schema },
+    })
 }
 
 fn needs_if_asked(schema: &Assembled<'_>, asks_needs: bool) -> Option<Needs>

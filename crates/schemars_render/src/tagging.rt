@@ -1,17 +1,12 @@
 //! The tag of an internally tagged enum in a schema in parts.
 ghost use Rattle.std.specs.Prelude.{◌≡◌, codes, IfOk, OnOk};
-ghost use Rattle.serde_json.specs.Data.{object};
-ghost use Rattle.serde_json.specs.Find.{as_str};
-ghost use Rattle.schemars_schema.specs.Edits.{is_text};
-ghost use Rattle.schemars_builders.specs.Properties.{has_null_type, with_property, required_first, tagged, closed_where, internally_tagged_variant};
-ghost use Rattle.schemars_builders.specs.Variants.{unit_variant};
-ghost use Rattle.schemars_render.specs.Assembled.{assembled_view};
+ghost use Rattle.schemars_render.specs.Words.{object, as_str, is_text, has_null_type, with_property, required_first, tagged, closed_where, internally_tagged_variant, unit_variant, assembled_view};
 
 use crate::assembled::Assembled;
 use crate::error::Stop;
 use crate::members::{MemberList, members_in, object_of};
-use schemars_documents::template::Tag;
 use schemars_schema::edits::is_text;
+use schemars_templates::template::Tag;
 use std::alloc::Global;
 
 // The schema of a variant, made that of objects with the variant's name under the tag.

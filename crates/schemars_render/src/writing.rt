@@ -1,13 +1,7 @@
 //! The walk over a schema in parts that writes its text, with keywords in a fixed order.
 ghost use Rattle.std.specs.Prelude.{◌≡◌, false, map, length, option_map, string_bytes, IfOk, OnOk};
-ghost use Rattle.serde_json.specs.Data.{Members};
-ghost use Rattle.serde_json.specs.Find.{get_member};
-ghost use Rattle.serde_json.specs.Written.{has_float, items_have_float};
+ghost use Rattle.schemars_render.specs.Words.{Members, get_member, has_float, items_have_float, SchemaLayout, each_written_at, others, arranged, item_texts, layout_under, member_texts, ordered_text, text_in, with_values, layout_meant, assembled_view, items_assembled, members_assembled, reference_to, IsWritten, IsMember, AreWritten};
 ghost use Rattle.schemars_text.specs.OrderedText as ordered;
-ghost use Rattle.schemars_text.specs.OrderedText.{SchemaLayout, each_written_at, others, arranged, item_texts, layout_under, member_texts, ordered_text, text_in};
-ghost use Rattle.schemars_text.specs.Output.{with_values, layout_meant};
-ghost use Rattle.schemars_render.specs.Assembled.{assembled_view, items_assembled, members_assembled, reference_to};
-ghost use Rattle.schemars_render.specs.Writing.{IsWritten, IsMember, AreWritten};
 
 use crate::assembled::Assembled;
 use crate::places::find_fixed;

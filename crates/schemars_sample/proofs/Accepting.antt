@@ -1,29 +1,6 @@
 -- The schema of an example accepts the example.
 use Rattle.std.proofs.Common.{◌≡◌, ℕ, zero, suc, inl, inr, List, [], ◌∷◌, length, map, Option, Some, None, Bool, true, false, refl, sym, ap, ◌∙◌, subst, arith, option_map, pos, negsuc, true≢false}
-use Rattle.std.proofs.Math.Bool.{or-true}
-use Rattle.std.proofs.lemmas.Bool.{le-leb, leb-true, and_parts}
-use Rattle.std.proofs.lemmas.Option.{option_and_then_some, same_Some, cond_some, none-some}
-use Rattle.std.proofs.lemmas.Slice.Eq.{bytes_eq-Decides}
-use Rattle.std.specs.Prelude.{codes, bytes_eq, nat_le, nat_lt, ◌||◌, ⊤, ℤ, encode_utf8}
-use Rattle.serde_json.specs.Data.{Num, Data, null, boolean, number, unsigned, string, array, object, no_items, item, Members, no_members, put}
-use Rattle.serde_json.specs.Events.{items_len}
-use Rattle.serde_json.specs.Find.{get_member, of_integer, of_float}
-use Rattle.serde_json.specs.View.{items_of}
-use Rattle.serde_json.proofs.Views.{get_member-put, get_member-put_other}
-use Rattle.schemars_schema.specs.Json.{Text}
-use Rattle.schemars_schema.specs.Verdict.{Yes, verdict}
-use Rattle.schemars_schema.specs.SchemaData.{IsSchema, members_in}
-use Rattle.schemars_schema.specs.Acceptance.{Patterns, Judge, judge, read_data, all_keywords, by_position, each_past, draft2020_12, each_member, is_null}
-use Rattle.schemars_schema.proofs.Objects.{IsSilent, judge-put}
-use Rattle.schemars_schema.proofs.SortedMembers.{IsSorted, sorted-put}
-use Rattle.schemars_builders.specs.AllowNull.{allow_null}
-use Rattle.schemars_builders.specs.NullLaw.{context2020_12}
-use Rattle.schemars_builders.proofs.Nulls.{IsReady, ready-law, ready-allow_null, ready-schema}
-use Rattle.schemars_documents.specs.Documents.{type_alone, byte_document, with_meta_schema}
-use Rattle.schemars_sample.specs.Accepted.{AcceptsExample}
-use Rattle.schemars_sample.specs.Example.{Example, truth, whole, decimal, character, text, bytes, no_value, some_value, unit_struct, unit_variant, newtype_struct, newtype_variant, seq, tuple, tuple_variant, struct, collected_map, struct_variant, Examples, no_examples, example, Entries, no_entries, entry}
-use Rattle.schemars_sample.specs.SampleJson.{sample_json, items_json, entries_json, json_array, are_bytes}
-use Rattle.schemars_sample.specs.SampleSchema.{sample_schema, item_schemas, entry_schemas, value_schemas, one_beside, shared_by, tuple_schema, titled_schema, with_name, with_example, sample_root}
+use Rattle.schemars_sample.proofs.Words.{or-true, le-leb, leb-true, and_parts, option_and_then_some, same_Some, cond_some, none-some, bytes_eq-Decides, codes, bytes_eq, nat_le, nat_lt, ◌||◌, ⊤, ℤ, encode_utf8, Num, Data, null, boolean, number, unsigned, string, array, object, no_items, item, Members, no_members, put, items_len, get_member, of_integer, of_float, items_of, get_member-put, get_member-put_other, Text, Yes, verdict, IsSchema, members_in, draft2020_12, Patterns, Judge, each_member, is_null, by_position, each_past, judge, read_data, all_keywords, IsSilent, judge-put, IsSorted, sorted-put, allow_null, context2020_12, IsReady, ready-law, ready-allow_null, ready-schema, type_alone, byte_document, with_meta_schema, AcceptsExample, Example, truth, whole, decimal, character, text, bytes, no_value, some_value, unit_struct, unit_variant, newtype_struct, newtype_variant, seq, tuple, tuple_variant, struct, collected_map, struct_variant, Examples, no_examples, example, Entries, no_entries, entry, sample_json, items_json, entries_json, json_array, are_bytes, sample_schema, item_schemas, entry_schemas, value_schemas, one_beside, shared_by, tuple_schema, titled_schema, with_name, with_example, sample_root}
 use Rattle.schemars_sample.proofs.Characters.{one-character}
 use Rattle.schemars_sample.proofs.Members.{each-put, each-found}
 use Rattle.schemars_sample.proofs.Forms.{fits, IsSound, AreSound, AreSoundMembers, AreSoundMembers-put, sound-truth, sound-type, sound-char, sound-byte, sound-list, sound-tuple, sound-struct, sound-map, char-says, byte-says, list-says, tuple-says, struct-says, map-says, property_says, property-says}

@@ -9,3 +9,4 @@ pub mod Accepting
 mod Seen
 mod Parts
 pub mod Results
+mod Words

@@ -1,17 +1,6 @@
 -- Members in the order of their keys, and what holds of each of them.
 use Rattle.std.proofs.Common.{◌≡◌, Some, None, Bool, true, false, Ordering, Less, Equal, Greater, nat_cmp, refl, sym, ap, ◌∙◌}
-use Rattle.std.proofs.lemmas.Map.Lookups.{exact_bytes}
-use Rattle.std.proofs.lemmas.Slice.Eq.{bytes_eq-Decides}
-use Rattle.std.specs.Prelude.{bytes_eq}
-use Rattle.std.specs.Ordering.{match_ordering}
-use Rattle.std.specs.Cmp.Lexicographic.{slice_cmp}
-use Rattle.serde_json.specs.Data.{Data, Members, no_members, member, put}
-use Rattle.serde_json.specs.Find.{get_member}
-use Rattle.schemars_schema.specs.Json.{Text}
-use Rattle.schemars_schema.specs.Verdict.{Verdict, Yes, No, Open, both}
-use Rattle.schemars_schema.specs.Acceptance.{each_member}
-use Rattle.schemars_text.proofs.Members.{get_member-later, get_member-here}
-use Rattle.schemars_schema.proofs.SortedMembers.{IsSorted, get_member-above}
+use Rattle.schemars_sample.proofs.Words.{exact_bytes, bytes_eq-Decides, bytes_eq, match_ordering, slice_cmp, Data, Members, no_members, member, put, get_member, Text, Verdict, Yes, No, Open, both, each_member, get_member-later, get_member-here, IsSorted, get_member-above}
 
 -- ---- in order
 

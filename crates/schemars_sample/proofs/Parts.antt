@@ -1,9 +1,7 @@
 -- What lists and maps are seen as, and one part more of a list.
 use Rattle.std.proofs.Common.{◌≡◌, List, [], ◌∷◌, ◌++◌, Option, Some, None, option_map, map, refl, ap, append_assoc, rules, Vec, Global}
-use Rattle.serde_json.specs.Data.{Data}
-use Rattle.serde_json.specs.View.{view}
+use Rattle.schemars_sample.proofs.Words.{Data, view, json_array}
 use Rattle.serde_json.specs.declared.value.Value.{Value, Array, the_lemmas}
-use Rattle.schemars_sample.specs.SampleJson.{json_array}
 
 pub seen_array : (v : Vec Value Global) → view (Array v) ≡ json_array (map view v.items)
 seen_array v = search (rules, the_lemmas)

@@ -1,19 +1,6 @@
 -- The root document of an example leaves the keys of definitions free.
 use Rattle.std.proofs.Common.{◌≡◌, [], ◌∷◌, Option, Some, None, Bool, true, false, refl, ◌∙◌}
-use Rattle.std.specs.Prelude.{codes, bytes_eq, if◌then◌else◌}
-use Rattle.serde_json.specs.Data.{Data, boolean, string, object, Members, put}
-use Rattle.serde_json.specs.Find.{get_member}
-use Rattle.serde_json.proofs.Views.{get_member-put_other}
-use Rattle.schemars_schema.specs.Json.{Text}
-use Rattle.schemars_schema.specs.SchemaData.{members_in}
-use Rattle.schemars_schema.specs.Edits.{without}
-use Rattle.schemars_schema.specs.Acceptance.{is_null}
-use Rattle.schemars_schema.proofs.Members.{get_member-without}
-use Rattle.schemars_builders.specs.AllowNull.{allow_null, is_null_choice, is_combined, or_null, null_in_values, null_in_const, null_in_enum, null_in_type, const_or_null, enum_with_null, type_with_null}
-use Rattle.schemars_documents.specs.Documents.{with_meta_schema}
-use Rattle.schemars_sample.specs.Example.{Example, truth, whole, decimal, character, text, bytes, no_value, some_value, unit_struct, unit_variant, newtype_struct, newtype_variant, seq, tuple, tuple_variant, struct, collected_map, struct_variant}
-use Rattle.schemars_sample.specs.SampleJson.{sample_json}
-use Rattle.schemars_sample.specs.SampleSchema.{sample_schema, titled_schema, with_name, with_example, sample_root}
+use Rattle.schemars_sample.proofs.Words.{codes, bytes_eq, if◌then◌else◌, Data, boolean, string, object, Members, put, get_member, get_member-put_other, Text, members_in, without, is_null, get_member-without, allow_null, is_null_choice, is_combined, or_null, null_in_values, null_in_const, null_in_enum, null_in_type, const_or_null, enum_with_null, type_with_null, with_meta_schema, Example, truth, whole, decimal, character, text, bytes, no_value, some_value, unit_struct, unit_variant, newtype_struct, newtype_variant, seq, tuple, tuple_variant, struct, collected_map, struct_variant, sample_json, sample_schema, titled_schema, with_name, with_example, sample_root}
 
 -- no definitions stand among the members
 abbrev pub IsFree : Members → Type 0

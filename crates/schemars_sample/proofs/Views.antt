@@ -1,7 +1,6 @@
 -- What the examples with members are seen as.
 use Rattle.std.proofs.Common.{◌≡◌, [], rules, String, Global, Vec}
-use Rattle.std.specs.Prelude.{string_bytes}
-use Rattle.schemars_sample.specs.Example.{example_of, entries_view, struct, collected_map, struct_variant}
+use Rattle.schemars_sample.proofs.Words.{string_bytes, example_of, entries_view, struct, collected_map, struct_variant}
 use Rattle.schemars_sample.specs.declared.sample.Sample.{Sample, Map, CollectMap, Struct, StructVariant, the_lemmas}
 
 pub example_of-Map : (v : Vec (String Global × Sample) Global) → example_of (Map v) ≡ struct [] (entries_view v.items)

@@ -3,7 +3,8 @@ use Rattle.std.specs.Prelude.{◌≡◌, Some}
 use Rattle.serde_json.specs.Data.{Data}
 use Rattle.schemars_schema.specs.Json.{Text}
 use Rattle.schemars_schema.specs.Verdict.{Yes}
-use Rattle.schemars_schema.specs.Acceptance.{Patterns, Judge, judge}
+use Rattle.schemars_schema.specs.Judges.{Patterns, Judge}
+use Rattle.schemars_schema.specs.Acceptance.{judge}
 use Rattle.schemars_builders.specs.NullLaw.{context2020_12}
 use Rattle.schemars_sample.specs.Example.{Example}
 use Rattle.schemars_sample.specs.SampleJson.{sample_json}

@@ -3,3 +3,4 @@ pub mod Accepted
 pub mod Example
 pub mod SampleJson
 pub mod SampleSchema
+pub mod Words

@@ -1,9 +1,6 @@
 //! The JSON of example values.
 ghost use Rattle.std.specs.Prelude.{◌≡◌, option_map, IfOk, OnOk, map, true, encode_utf8, string_bytes};
-ghost use Rattle.serde_json.specs.Data.{number, unsigned, object, no_members};
-ghost use Rattle.serde_json.specs.View.{view};
-ghost use Rattle.schemars_sample.specs.Example.{example_of, examples_view, entries_view};
-ghost use Rattle.schemars_sample.specs.SampleJson.{sample_json, items_json, entries_json, json_array, are_bytes, whole_json, json_named};
+ghost use Rattle.schemars_sample.specs.Words.{number, unsigned, object, no_members, view, example_of, examples_view, entries_view, sample_json, items_json, entries_json, json_array, are_bytes, whole_json, json_named};
 
 use crate::sample::Sample;
 use serde_json::{Map, Number, Value};

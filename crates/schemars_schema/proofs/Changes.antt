@@ -1,14 +1,8 @@
 -- A member that is changed in its place, and one that is added.
 use Rattle.std.proofs.Common.{◌≡◌, ℕ, List, Option, Some, None, option_map, is_some, nat_cmp, string_bytes, refl, ap, ◌∙◌}
-use Rattle.std.specs.Cmp.Lexicographic.{slice_cmp}
-use Rattle.std.specs.Map.{lookup, set_value}
-use Rattle.std.specs.BTreeMap.{is_at}
-use Rattle.serde_json.specs.Data.{Data, Members, put}
-use Rattle.serde_json.specs.Find.{get_member}
-use Rattle.serde_json.specs.View.{view, members_view}
+use Rattle.schemars_schema.proofs.Words.{slice_cmp, set_value, is_at, Data, Members, put, get_member, view, members_view, Entry, view-lookup, replaced, changed_at}
+use Rattle.std.specs.Map.{lookup}
 use Rattle.serde_json.specs.declared.value.Value.{Value}
-use Rattle.serde_json.proofs.Views.{Entry, view-lookup}
-use Rattle.schemars_schema.specs.Edits.{replaced, changed_at}
 use Rattle.schemars_schema.proofs.MapEdits.{members_view-set_value}
 
 pub changed_there : (k : List ℕ) (es : List Entry) (old new : Value) (change : Data → Data) (d : Data)

@@ -1,23 +1,11 @@
 -- A whole number against a float, exactly: the float's whole part tells, since a float of 2^53 or more has no fraction.
 use Rattle.std.proofs.Common.{◌≡◌, ℕ, zero, suc, ◌+◌, ◌*◌, ◌/◌, ◌%◌, ◌^◌, ◌<◌, ◌≤◌, ℤ, pos, negsuc, Bool, true, false, T, refl, sym, ap, ◌∙◌, arith, true≢false, div-add-mod', mod-lt, nat_eq, div-le_self, subst, mul-pos, div-lt_iff_lt-mul, mul-div_cancel, min, ltb, w64, le_trans, unsigned_abs}
-use Rattle.std.proofs.lemmas.Bool.Decides.{nat_tests}
-use Rattle.std.specs.Float.{Float, nan, inf, fin, binary64, two_to, minus_one}
+use Rattle.schemars_schema.proofs.Words.{nat_tests, Float, nan, inf, fin, binary64, two_to, minus_one, eq, T_from_true, HasValue, round_whole, down_pos, Some, None, is_some, int_eq, Num, unsigned, negative, float, as_integer, as_u64, as_i64, is_float, to_float, num_of, is_valid, of_whole, value_of, number_eq}
 use Rattle.std.specs.Float.Ieee
-use Rattle.std.specs.Float.Ieee.{eq}
-use Rattle.std.proofs.lemmas.Float.{T_from_true}
 use lib.Ieee.{up, down}
-use lib.Ieee.Exact.{HasValue}
-use lib.Ieee.Back.{round_whole}
-use lib.Ieee.Fits.{down_pos}
-use Rattle.std.specs.Prelude.{Some, None, is_some}
-use Rattle.std.specs.Ordering.{int_eq}
-use Rattle.serde_json.specs.Data.{Num, unsigned, negative, float}
-use Rattle.serde_json.specs.Find.{as_integer, as_u64, as_i64, is_float, to_float}
-use Rattle.serde_json.specs.Number.{num_of, is_valid}
 use Rattle.serde_json.specs.declared.number.N.{N}
 use Rattle.serde_json.specs.declared.number.N.TheVariants.{PosInt, NegInt}
 use Rattle.serde_json.specs.declared.number.N.TheVariants as the
-use Rattle.schemars_schema.specs.Numbers.{of_whole, value_of, number_eq}
 use Rattle.schemars_schema.proofs.ByValue.{eq-left, eq_sym, eq_whole, some_same, none_some}
 
 pub middle_is : Ieee.of_bits binary64 4845873199050653696 ≡ two_to 53

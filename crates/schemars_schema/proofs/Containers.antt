@@ -1,8 +1,6 @@
 -- Values that are lists or objects, and values that are not.
 use Rattle.std.proofs.Common.{◌≡◌, Bool, Some, None}
-use Rattle.serde_json.specs.Data.{Num, Data, null, boolean, number, string, array, object, Items, Members}
-use Rattle.serde_json.specs.Find.{as_array, as_object}
-use Rattle.schemars_schema.specs.Json.{Text}
+use Rattle.schemars_schema.proofs.Words.{Num, Data, null, boolean, number, string, array, object, Items, Members, as_array, as_object, Text}
 
 pub array-as_array : (d : Data) (ds : Items) → Some ds ≡ as_array d → d ≡ array ds
 array-as_array (array es) ds e = cc

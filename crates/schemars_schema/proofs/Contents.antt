@@ -1,15 +1,6 @@
 -- The references and the floats of an object as members are put into it.
 use Rattle.std.proofs.Common.{◌≡◌, List, [], ◌∷◌, ◌++◌, true, false, Ordering, Less, Equal, Greater, refl, sym, ap, ◌∙◌, nat_cmp}
-use Rattle.std.specs.Prelude.{codes, bytes_eq, if◌then◌else◌}
-use Rattle.std.specs.Ordering.{match_ordering}
-use Rattle.std.specs.Cmp.Lexicographic.{slice_cmp}
-use Rattle.std.proofs.lemmas.Map.Lookups.{exact_bytes}
-use Rattle.std.proofs.lemmas.Bool.{or_parts}
-use Rattle.serde_json.specs.Data.{Data, Members, no_members, member, put}
-use Rattle.serde_json.specs.Written.{has_float, members_have_float}
-use Rattle.schemars_schema.specs.Json.{Text}
-use Rattle.schemars_schema.specs.Annotations.{is_annotation}
-use Rattle.schemars_schema.specs.References.{with_schema, with_list, keywords_with_names, place_under, at_place, found_in, found_in_keywords}
+use Rattle.schemars_schema.proofs.Words.{codes, bytes_eq, if◌then◌else◌, match_ordering, slice_cmp, exact_bytes, or_parts, Data, Members, no_members, member, put, has_float, members_have_float, Text, is_annotation, with_schema, with_list, keywords_with_names, place_under, at_place, found_in, found_in_keywords}
 use Rattle.schemars_schema.proofs.Objects.{annotation-not_listed}
 
 -- the references under a keyword

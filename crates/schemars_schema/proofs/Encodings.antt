@@ -1,22 +1,6 @@
 -- A name is found again under its encoding.
 use Rattle.std.proofs.Common.{◌≡◌, ◌≢◌, ℕ, zero, suc, ◌+◌, ◌-◌, ◌*◌, ◌/◌, ◌%◌, ◌<◌, ◌≤◌, List, [], ◌∷◌, ◌++◌, length, Option, Some, None, Bool, true, false, refl, sym, ap, ◌∙◌, arith, true≢false, append_assoc, eqb-true, eq-eqb, take, drop, length-append, option_and_then, cond, get_or, subst, ⊎_elim}
-use Rattle.std.specs.Prelude.{nat_lt, ◌==◌, ◌&&◌, ◌||◌, if◌then◌else◌, option_map, IsUtf8, All}
-use Rattle.std.specs.List.{list_all}
-use Rattle.std.specs.Str.{is_utf8, IsAscii}
-use Rattle.std.specs.Str.Lossy.{valid_len_up_to, utf8_valid_len}
-use Rattle.std.proofs.lemmas.Bool.{and_parts, cases_lt}
-use Rattle.std.proofs.lemmas.Str.Ascii.{IsAscii-nil, IsAscii-cons}
-use Rattle.std.proofs.lemmas.Grind.{get_or_default_zero}
-use borrow.Author.Tests.{ltb-true}
-use Rattle.std.proofs.lemmas.Bool.Decides.{nat_tests}
-use Rattle.std.proofs.lemmas.List.{take_all}
-use Rattle.std.proofs.lemmas.Str.{IsUtf8-append, IsUtf8-encode, IsUtf8-nil, IsUtf8-from_is_utf8, IsUtf8-from_ascii, encode_ascii, utf8_valid_len-IsUtf8}
-use lib.Utf8.{encode, encodes, scalar, scalars, scalar_cases, next}
-use Rattle.serde_json.specs.Data.{Data, object, Members}
-use Rattle.serde_json.specs.Find.{unescape, get_member, step, walk, pointer}
-use Rattle.serde_json.proofs.Paths.{Lacks, walk_last}
-use Rattle.schemars_schema.specs.Json.{Text}
-use Rattle.schemars_schema.specs.Encoding.{is_hex_digit, hex_value, percent_decoded_bytes, text_of_bytes, percent_decoded, begins_escape, has_escape, stays, hex_digit, encoded_byte, encoded, lookup}
+use Rattle.schemars_schema.proofs.Words.{nat_lt, ◌==◌, ◌&&◌, ◌||◌, if◌then◌else◌, option_map, IsUtf8, All, list_all, is_utf8, IsAscii, valid_len_up_to, utf8_valid_len, and_parts, cases_lt, IsAscii-nil, IsAscii-cons, get_or_default_zero, ltb-true, nat_tests, take_all, IsUtf8-append, IsUtf8-encode, IsUtf8-nil, IsUtf8-from_is_utf8, IsUtf8-from_ascii, encode_ascii, utf8_valid_len-IsUtf8, encode, encodes, scalar, scalars, scalar_cases, next, Data, object, Members, unescape, get_member, step, walk, pointer, Lacks, walk_last, Text, is_hex_digit, hex_value, percent_decoded_bytes, text_of_bytes, percent_decoded, begins_escape, has_escape, stays, hex_digit, encoded_byte, encoded, lookup}
 
 -- ---- decoding
 

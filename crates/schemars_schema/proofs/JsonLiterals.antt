@@ -1,9 +1,6 @@
 -- JSON in short, for examples. The keys of an object are given in order.
 use Rattle.std.proofs.Common.{ℕ, List, [], ◌∷◌}
-use Rattle.std.specs.Prelude.{codes, negsuc}
-use Prim.Native.String.{String}
-use Rattle.serde_json.specs.Data.{Data, number, unsigned, negative, string, array, object, Items, no_items, item, Members, no_members, member}
-use Rattle.schemars_schema.specs.Json.{Text}
+use Rattle.schemars_schema.proofs.Words.{codes, negsuc, String, Data, number, unsigned, negative, string, array, object, Items, no_items, item, Members, no_members, member, Text}
 
 abbrev pub text : String → Data
 text s = string (codes s)

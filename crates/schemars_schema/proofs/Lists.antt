@@ -1,9 +1,7 @@
 -- A list with one more value.
 use Rattle.std.proofs.Common.{◌≡◌, ◌++◌, List, [], ◌∷◌, refl, ap}
-use Rattle.serde_json.specs.Data.{item}
-use Rattle.serde_json.specs.View.{view, items_view}
+use Rattle.schemars_schema.proofs.Words.{item, view, items_view, with_item}
 use Rattle.serde_json.specs.declared.value.Value.{Value}
-use Rattle.schemars_schema.specs.Edits.{with_item}
 
 pub items_view-push : (xs : List Value) (x : Value) → items_view (xs ++ x ∷ []) ≡ with_item (items_view xs) (view x)
 items_view-push [] x = refl

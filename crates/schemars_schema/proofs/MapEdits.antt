@@ -1,14 +1,7 @@
 -- What a map's `remove` and `get_mut` do to the members that it stands for.
 use Rattle.std.proofs.Common.{◌≡◌, ℕ, List, [], ◌∷◌, Bool, true, false, cond, nat_cmp, string_bytes, refl, ◌∙◌}
-use Rattle.std.proofs.lemmas.Map.Text.{is_eq-slice_cmp}
-use Rattle.std.specs.Prelude.{bytes_eq, if◌then◌else◌, Option, Some, None, OnSome}
-use Rattle.std.specs.Cmp.Lexicographic.{slice_cmp}
-use Rattle.std.specs.Map.{remove_entry, set_value}
-use Rattle.std.specs.BTreeMap.{is_at}
-use Rattle.serde_json.specs.View.{view, members_view}
+use Rattle.schemars_schema.proofs.Words.{is_eq-slice_cmp, bytes_eq, if◌then◌else◌, Option, Some, None, OnSome, slice_cmp, remove_entry, set_value, is_at, view, members_view, Entry, without, replaced}
 use Rattle.serde_json.specs.declared.value.Value.{Value}
-use Rattle.serde_json.proofs.Views.{Entry}
-use Rattle.schemars_schema.specs.Edits.{without, replaced}
 
 either_members : (b c : Bool) (xs ys : List Entry) → b ≡ c → members_view (cond b xs ys) ≡ (if c then members_view xs else members_view ys)
 either_members true c xs ys same = rw (← same) refl

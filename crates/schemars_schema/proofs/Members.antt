@@ -1,16 +1,6 @@
 -- What is found in members of which one is replaced or taken out.
 use Rattle.std.proofs.Common.{◌≡◌, Option, Some, Bool, true, false, Ordering, Less, Equal, Greater, refl, sym, ap, ◌∙◌, nat_cmp}
-use Rattle.std.proofs.lemmas.Map.Lookups.{exact_bytes}
-use Rattle.std.proofs.lemmas.Slice.Eq.{bytes_eq-Decides}
-use Rattle.std.specs.Prelude.{bytes_eq, if◌then◌else◌}
-use Rattle.std.specs.Ordering.{match_ordering}
-use Rattle.std.specs.Cmp.Lexicographic.{slice_cmp}
-use Rattle.serde_json.specs.Data.{Data, Members, no_members, member, put}
-use Rattle.serde_json.specs.Find.{get_member}
-use Rattle.serde_json.proofs.Views.{get_member-put_other}
-use Rattle.schemars_text.proofs.Members.{differ, get_member-here, get_member-later}
-use Rattle.schemars_schema.specs.Json.{Text}
-use Rattle.schemars_schema.specs.Edits.{without, replaced}
+use Rattle.schemars_schema.proofs.Words.{exact_bytes, bytes_eq-Decides, bytes_eq, if◌then◌else◌, match_ordering, slice_cmp, Data, Members, no_members, member, put, get_member, get_member-put_other, differ, get_member-here, get_member-later, Text, without, replaced}
 
 -- ---- a member that is replaced
 

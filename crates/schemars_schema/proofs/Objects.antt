@@ -1,20 +1,6 @@
 -- What an object says depends only on the values of its keywords.
 use Rattle.std.proofs.Common.{◌≡◌, List, [], ◌∷◌, Option, Some, None, Bool, true, false, Ordering, Less, Equal, Greater, refl, sym, ap, ◌∙◌, option_map, is_eq, true≢false, nat_cmp}
-use Rattle.std.proofs.Math.Path.{fun_ext}
-use Rattle.std.specs.Prelude.{bytes_eq, if◌then◌else◌, ◌||◌, ◌&&◌, not}
-use Rattle.std.specs.Ordering.{match_ordering}
-use Rattle.std.specs.Cmp.Lexicographic.{slice_cmp}
-use Rattle.std.proofs.lemmas.Map.Text.{is_eq-slice_cmp}
-use Rattle.std.proofs.lemmas.Slice.Eq.{bytes_eq-Decides}
-use Rattle.std.proofs.lemmas.Bool.{and_parts, not-true}
-use Rattle.serde_json.specs.Data.{Data, boolean, object, Members, no_members, member, put}
-use Rattle.serde_json.specs.Find.{get_member}
-use Rattle.serde_json.proofs.Views.{get_member-put_other}
-use Rattle.schemars_schema.specs.Json.{Text}
-use Rattle.schemars_schema.specs.SchemaData.{IsSchema}
-use Rattle.schemars_text.specs.OrderedText.{is_listed}
-use Rattle.schemars_schema.specs.Acceptance.{Context, Judge, Reading, Raw, judge, read_data, read_members, reading_at, keywords, all_keywords}
-use Rattle.schemars_schema.specs.Annotations.{is_annotation, keyword_names}
+use Rattle.schemars_schema.proofs.Words.{fun_ext, bytes_eq, if◌then◌else◌, ◌||◌, ◌&&◌, not, match_ordering, slice_cmp, is_eq-slice_cmp, bytes_eq-Decides, and_parts, not-true, Data, boolean, object, Members, no_members, member, put, get_member, get_member-put_other, Text, IsSchema, is_listed, Context, Judge, Reading, Raw, judge, read_data, read_members, reading_at, keywords, all_keywords, is_annotation, keyword_names}
 
 found : (o : Ordering) (b : Bool) (e : Reading) (rest : Option Reading) → is_eq o ≡ b
     → (if b then Some e else rest) ≡ match_ordering o rest (Some e) rest

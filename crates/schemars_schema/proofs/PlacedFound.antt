@@ -1,18 +1,7 @@
 -- What a pointer leads to once members were put at it.
 use Rattle.std.proofs.Common.{◌≡◌, ℕ, ◌<◌, List, [], ◌∷◌, ◌++◌, length, map, Option, Some, None, option_map, option_and_then, Bool, true, false, cond, refl, sym, ap, ◌∙◌, arith, append-nil, append_assoc, true≢false}
-use Rattle.std.specs.Prelude.{◌==◌, if◌then◌else◌, Result, Ok, Err, IfOk, IsTrue}
-use Rattle.std.specs.List.{slice_split, onto_first}
-use Rattle.std.proofs.lemmas.List.Splits.{length-slice_split}
-use borrow.Author.Tests.{eqb-true}
+use Rattle.schemars_schema.proofs.Words.{◌==◌, if◌then◌else◌, Result, Ok, Err, IfOk, IsTrue, slice_split, onto_first, length-slice_split, eqb-true, Data, null, boolean, number, string, array, object, Members, no_members, put, unescape, get_member, as_object, step, walk, pointer, get_member-put, Text, put_members, replaced, pointed_in, tokens_in, placed, placed_at}
 use Rattle.std.specs.declared.alloc.AllocError.{AllocError}
-use Rattle.serde_json.specs.Data.{Data, null, boolean, number, string, array, object, Members, no_members, put}
-use Rattle.serde_json.specs.Find.{unescape, get_member, as_object, step, walk, pointer}
-use Rattle.serde_json.proofs.Views.{get_member-put}
-use Rattle.schemars_schema.specs.Json.{Text}
-use Rattle.schemars_schema.specs.SchemaData.{put_members}
-use Rattle.schemars_schema.specs.Edits.{replaced}
-use Rattle.schemars_schema.specs.Lookup.{pointed_in}
-use Rattle.schemars_schema.specs.Placing.{tokens_in, placed, placed_at}
 use Rattle.schemars_schema.proofs.Placings.{onward, placed_other}
 use Rattle.schemars_schema.proofs.Members.{get_member-replaced}
 

@@ -1,21 +1,8 @@
 -- Members put into an object at a pointer, a token at a time.
 use Rattle.std.proofs.Common.{◌≡◌, ◌≢◌, ◌<◌, List, [], ◌∷◌, ◌++◌, length, map, Option, Some, None, option_map, Bool, true, false, refl, ap, ◌∙◌, arith, append-nil, length-append, ne_eqb, inl, inr, ◌⊎◌}
-use Rattle.std.specs.Prelude.{◌==◌, All, if◌then◌else◌, codes, IsUtf8, Result, Ok, Err, IfOk}
-use Rattle.std.specs.List.{slice_split}
-use Rattle.std.proofs.lemmas.List.Splits.{slice_split_none, slice_split_at}
+use Rattle.schemars_schema.proofs.Words.{◌==◌, All, if◌then◌else◌, codes, IsUtf8, Result, Ok, Err, IfOk, slice_split, slice_split_none, slice_split_at, Data, null, boolean, number, string, array, object, Members, no_members, member, put, members_len, unescape, get_member, as_object, pointer, serde_json_on_literals, Text, replaced, IsSchema, count_of_definitions, has_escape, encoded, lookup, IsFirstToken, schema_only, resolved, tokens_in, tokens_of, tokens_below, placed, placed_at}
 use Rattle.std.specs.declared.alloc.AllocError.{AllocError}
-use Rattle.serde_json.specs.Data.{Data, null, boolean, number, string, array, object, Members, no_members, member, put}
-use Rattle.serde_json.specs.Events.{members_len}
-use Rattle.serde_json.specs.Find.{unescape, get_member, as_object, pointer}
-use Rattle.serde_json.proofs.OnLiterals.{serde_json_on_literals}
-use Rattle.schemars_schema.specs.Json.{Text}
-use Rattle.schemars_schema.specs.Edits.{replaced}
-use Rattle.schemars_schema.specs.SchemaData.{IsSchema}
-use Rattle.schemars_schema.specs.Acceptance.{count_of_definitions}
-use Rattle.schemars_schema.specs.Encoding.{has_escape, encoded, lookup}
-use Rattle.schemars_schema.specs.Lookup.{IsFirstToken, schema_only, resolved}
 use Rattle.schemars_schema.proofs.Encodings.{are_ascii, lookup-ascii, lookup-encoded}
-use Rattle.schemars_schema.specs.Placing.{tokens_in, tokens_of, tokens_below, placed, placed_at}
 
 -- ---- the tokens
 

@@ -1,17 +1,7 @@
 -- Pointers, a token at a time.
 use Rattle.std.proofs.Common.{◌≡◌, ◌≢◌, ℕ, suc, ◌+◌, ◌*◌, ◌<◌, List, [], ◌∷◌, ◌++◌, length, get_or, take, drop, Option, Some, None, Bool, true, false, refl, sym, ap, ◌∙◌, arith, true≢false, option_and_then, append-nil, append_assoc, length-append, ne_eqb, inl, inr, ◌⊎◌}
-use Rattle.std.specs.Prelude.{◌==◌, ◌&&◌, if◌then◌else◌, All, IsUtf8}
-use Rattle.std.proofs.lemmas.List.{drop_more, take-append-drop, get_or-take, length-take}
-use Rattle.std.proofs.lemmas.Grind.{get_or_default_zero}
-use Rattle.std.proofs.lemmas.Str.{IsUtf8-nil, IsUtf8-drop, IsCharBoundary-after_ascii}
-use Rattle.std.proofs.Math.Seq.{drop-append_seam}
-use Rattle.serde_json.specs.Data.{Data, object, Members}
-use Rattle.serde_json.specs.Find.{unescape, get, get_member, walk, pointer}
-use Rattle.serde_json.proofs.Paths.{Lacks, walk_last, walk_part}
-use Rattle.schemars_schema.specs.Json.{Text}
-use Rattle.schemars_schema.specs.Encoding.{percent_decoded_bytes, text_of_bytes, percent_decoded, is_hex_digit, hex_value}
+use Rattle.schemars_schema.proofs.Words.{◌==◌, ◌&&◌, if◌then◌else◌, All, IsUtf8, drop_more, take-append-drop, get_or-take, length-take, get_or_default_zero, IsUtf8-nil, IsUtf8-drop, IsCharBoundary-after_ascii, drop-append_seam, Data, object, Members, unescape, get, get_member, walk, pointer, Lacks, walk_last, walk_part, Text, percent_decoded_bytes, text_of_bytes, percent_decoded, is_hex_digit, hex_value, pointed, pointed_in, is_whole, pointed_inside, pointer_text, IsFirstToken}
 use Rattle.schemars_schema.proofs.Encodings.{text_is_utf8, text_of_utf8}
-use Rattle.schemars_schema.specs.Lookup.{pointed, pointed_in, is_whole, pointed_inside, pointer_text, IsFirstToken}
 
 pub plain_text : (p : Text) → ((rest : Text) → p ≢ 35 ∷ rest) → Some p ≡ pointer_text p
 plain_text [] h = refl

@@ -1,9 +1,6 @@
 -- Keywords that aren't there say nothing.
 use Rattle.std.proofs.Common.{◌≡◌, Option, Some, None, Bool, true, false, refl}
-use Rattle.serde_json.specs.Data.{Data}
-use Rattle.schemars_schema.specs.Json.{Text}
-use Rattle.schemars_schema.specs.Verdict.{Yes}
-use Rattle.schemars_schema.specs.Acceptance.{where_some, items_say, const_says, unevaluated_properties_say}
+use Rattle.schemars_schema.proofs.Words.{Data, Text, Yes, where_some, const_says, items_say, unevaluated_properties_say}
 
 pub silent : {A : Type 0} (o : Option A) → where_some o (λ x. Yes) ≡ Yes
 silent None = refl

@@ -1,17 +1,6 @@
 -- Members in the order of their keys, each once.
 use Rattle.std.proofs.Common.{◌≡◌, List, [], ◌∷◌, Some, None, Bool, true, false, Ordering, Less, Equal, Greater, nat_cmp, refl, sym, ap, ◌∙◌}
-use Rattle.std.proofs.lemmas.Cmp.{nat_list_cmp_total}
-use Rattle.std.proofs.lemmas.Map.Lookups.{exact_bytes}
-use Rattle.std.proofs.lemmas.Slice.Eq.{bytes_eq-Decides}
-use Rattle.std.specs.Prelude.{bytes_eq, if◌then◌else◌, ⊤}
-use Rattle.std.specs.Ordering.{match_ordering, ordering_reverse}
-use Rattle.std.specs.Cmp.Lexicographic.{slice_cmp}
-use Rattle.serde_json.specs.Data.{Data, Members, no_members, member, put}
-use Rattle.serde_json.specs.Find.{get_member}
-use Rattle.schemars_schema.specs.Json.{Text, IsAbove}
-use Rattle.schemars_schema.specs.SchemaData.{put_all, put_members}
-use Rattle.schemars_schema.specs.Edits.{replaced, without}
-use Rattle.schemars_text.proofs.Members.{get_member-here, get_member-later}
+use Rattle.schemars_schema.proofs.Words.{nat_list_cmp_total, exact_bytes, bytes_eq-Decides, bytes_eq, if◌then◌else◌, ⊤, match_ordering, ordering_reverse, slice_cmp, Data, Members, no_members, member, put, get_member, Text, IsAbove, put_all, put_members, replaced, without, get_member-here, get_member-later}
 
 -- members in the order of their keys, each once
 abbrev pub IsSorted : Members → Type 0

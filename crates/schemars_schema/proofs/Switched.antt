@@ -1,8 +1,6 @@
 -- A truth value made an object accepts what it did.
 use Rattle.std.proofs.Common.{◌≡◌, ℕ, Bool, true, false, refl}
-use Rattle.serde_json.specs.Data.{Data, null, boolean, object}
-use Rattle.schemars_schema.specs.SchemaData.{IsSchema, members_in}
-use Rattle.schemars_schema.specs.Acceptance.{Dialect, Patterns, accepts, read_data, all_keywords}
+use Rattle.schemars_schema.proofs.Words.{Data, null, boolean, object, IsSchema, members_in, Dialect, Patterns, accepts, read_data, all_keywords}
 use Rattle.schemars_schema.proofs.Silent.{items_none, const_none, unevaluated_none}
 
 pub accepts-members_in : (dialect : Dialect) (document : Data) (patterns : Patterns) (n : ℕ) (s v : Data) → IsSchema s

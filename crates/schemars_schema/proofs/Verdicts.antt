@@ -1,10 +1,6 @@
 -- Laws of verdicts.
 use Rattle.std.proofs.Common.{◌≡◌, Bool, true, false, refl, sym, ap, ◌∙◌}
-use Rattle.std.specs.Prelude.{◌&&◌, ◌||◌, not}
-use Rattle.serde_json.specs.Data.{Data, Members, no_members, member}
-use Rattle.schemars_schema.specs.Json.{Text}
-use Rattle.schemars_schema.specs.Verdict.{Verdict, Yes, No, Open, both, verdict, opposite}
-use Rattle.schemars_schema.specs.Acceptance.{each_member}
+use Rattle.schemars_schema.proofs.Words.{◌&&◌, ◌||◌, not, Data, Members, no_members, member, Text, Verdict, Yes, No, Open, both, verdict, opposite, each_member}
 
 pub both-yes : (x : Verdict) → both x Yes ≡ x
 both-yes Yes = refl

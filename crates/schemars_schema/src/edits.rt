@@ -1,10 +1,6 @@
 //! Plain JSON: what texts, lists and schemas hold, and small changes of lists and of members.
 ghost use Rattle.std.specs.Prelude.{◌≡◌, OnOk, map};
-ghost use Rattle.serde_json.specs.Data.{array, no_items};
-ghost use Rattle.serde_json.specs.Find.{as_str};
-ghost use Rattle.serde_json.specs.View.{view, items_view, members_view};
-ghost use Rattle.schemars_schema.specs.Edits.{is_text, holds_text, has_one_member, with_last, changed_at, put_missing};
-ghost use Rattle.schemars_text.specs.OrderedText.{is_listed};
+ghost use Rattle.schemars_schema.specs.Words.{array, no_items, as_str, view, items_view, members_view, is_text, holds_text, has_one_member, with_last, changed_at, put_missing, is_listed};
 
 use crate::schema::Schema;
 use serde_json::{Map, Value};

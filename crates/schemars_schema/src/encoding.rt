@@ -1,11 +1,6 @@
 //! Names in references: JSON Pointers in the fragment of a URI.
 ghost use Rattle.std.specs.Prelude.{◌≡◌, ◌≢◌, ◌∷◌, ◌++◌, ◌<◌, Some, option_map, string_bytes, All, IfOk, OnOk, IsOkAnd, IsSomeAnd, IfSome, IsTrue, is_some, length};
-ghost use Rattle.std.specs.List.{list_all};
-ghost use Rattle.std.specs.Cow.{cow_str_bytes, IsBorrowedStr};
-ghost use Rattle.serde_json.specs.Data.{Data, object, Members};
-ghost use Rattle.serde_json.specs.Find.{unescape, get_member};
-ghost use Rattle.schemars_schema.specs.Json.{Text};
-ghost use Rattle.schemars_schema.specs.Encoding.{percent_decoded_bytes, percent_decoded, begins_escape, has_escape, is_hex_digit, hex_value, stays, hex_digit, encoded_byte, encoded, lookup};
+ghost use Rattle.schemars_schema.specs.Words.{list_all, cow_str_bytes, IsBorrowedStr, Data, object, Members, unescape, get_member, Text, percent_decoded_bytes, percent_decoded, begins_escape, has_escape, is_hex_digit, hex_value, stays, hex_digit, encoded_byte, encoded, lookup};
 
 use std::alloc::{AllocError, Global};
 use std::borrow::CowStr;

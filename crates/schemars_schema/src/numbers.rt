@@ -1,9 +1,6 @@
 //! Numbers by their mathematical value.
 ghost use Rattle.std.specs.Prelude.{◌≡◌, pos, false};
-ghost use Rattle.std.specs.Float.Ieee.{eq};
-ghost use Rattle.serde_json.specs.Find.{is_float};
-ghost use Rattle.serde_json.specs.View.{number_view};
-ghost use Rattle.schemars_schema.specs.Numbers.{number_eq, of_whole, value_of};
+ghost use Rattle.schemars_schema.specs.Words.{eq, is_float, number_view, number_eq, of_whole, value_of};
 
 use serde_json::Number;
 use std::num::{nearest_u64_to_f64, truncating_f64_to_u64};

@@ -1,14 +1,7 @@
 //! The type of schemas.
 ghost use Rattle.std.specs.Prelude.{◌≡◌, ℕ, None, codes, string_bytes, option_map, IfOk, OnOk, OnErr, OnSome};
-ghost use Rattle.serde_json.specs.Data.{Data, boolean, object, string, member, no_members, put};
-ghost use Rattle.serde_json.specs.Find.{as_bool, as_object, get, get_member};
-ghost use Rattle.serde_json.specs.View.{view, members_view};
-ghost use Rattle.schemars_schema.specs.SchemaData.{IsSchema, is_schema, members_in, inserted};
-ghost use Rattle.std.specs.Borrow.{LendsIf, LendsIfOk, LendsSo, sem};
-ghost use Rattle.serde_json.specs.Rows.{map_row};
+ghost use Rattle.schemars_schema.specs.Words.{Data, boolean, object, string, member, no_members, put, as_bool, as_object, get, get_member, view, members_view, IsSchema, is_schema, members_in, inserted, LendsIf, LendsIfOk, LendsSo, sem, map_row, Dialect, Patterns, accepts, removed, replaced, without};
 ghost use Rattle.serde_json.specs.contracts.value.Value.{the_row as value_row};
-ghost use Rattle.schemars_schema.specs.Acceptance.{Dialect, Patterns, accepts};
-ghost use Rattle.schemars_schema.specs.Edits.{removed, replaced, without};
 
 mod ordered;
 mod placing;

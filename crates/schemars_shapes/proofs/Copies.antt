@@ -1,14 +1,10 @@
 -- Lists whose elements are copied one by one say the same.
 use Rattle.std.proofs.Common.{◌≡◌, List, [], ◌∷◌, map, string_bytes, refl}
-use Rattle.std.specs.List.{AllZip}
-use Rattle.serde_json.specs.Data.{member}
-use Rattle.serde_json.specs.View.{view, members_view}
-use Rattle.serde_json.proofs.Views.{Entry}
+use Rattle.schemars_shapes.proofs.Words.{AllZip, member, view, members_view, Entry, field_of, flattened_of, variant_of, internal_variant_of}
 use Rattle.schemars_shapes.specs.declared.shape.Field as src-field
 use Rattle.schemars_shapes.specs.declared.shape.Flattened as src-flattened
 use Rattle.schemars_shapes.specs.declared.variant.Variant as src-variant
 use Rattle.schemars_shapes.specs.declared.variant.InternalVariant as src-internal_variant
-use Rattle.schemars_shapes.specs.Shape.{field_of, flattened_of, variant_of, internal_variant_of}
 
 pub members_view-copied : (es fs : List Entry) → AllZip (λ p q. (string_bytes q.0 ≡ string_bytes p.0) × (view q.1 ≡ view p.1)) es fs
     → members_view fs ≡ members_view es

@@ -1,9 +1,6 @@
 -- Texts that are equal, and lists that hold a text.
 use Rattle.std.proofs.Common.{◌≡◌, ◌||◌, List, [], ◌∷◌, suc, Bool, true, false, Contains, refl, sym, arith, true≢false}
-use Rattle.std.specs.List.{list_any}
-use Rattle.std.specs.Str.{bytes_eq}
-use Rattle.std.proofs.lemmas.Slice.Eq.{bytes_eq-Decides}
-use Rattle.schemars_schema.specs.Json.{Text}
+use Rattle.schemars_shapes.proofs.Words.{list_any, bytes_eq, bytes_eq-Decides, Text}
 
 pub Contains-from_any : (q : Text) (xs : List Text) → list_any (bytes_eq q) xs ≡ true → Contains xs q
 Contains-from_any q [] h = absurd (true≢false (sym h))

@@ -1,19 +1,6 @@
 -- The names that were met before, and the first that is met a second time.
 use Rattle.std.proofs.Common.{◌≡◌, ◌<◌, ◌+◌, ◌||◌, ◌∙◌, ℕ, List, [], ◌∷◌, ◌++◌, Bool, true, false, not, cond, Some, Bor, length, map, take, get_or, option_map, Contains, refl, ap, sym, subst}
-use Rattle.std.specs.Cmp.Lexicographic.{slice_cmp}
-use Rattle.std.specs.Ordering.{nat_cmp, is_eq}
-use Rattle.std.specs.List.{IsDistinct, list_any}
-use Rattle.std.specs.Str.{bytes_eq}
-use Rattle.std.specs.BTreeSet.{BTreeSet, contains, Updates}
-use Rattle.std.proofs.lemmas.Cmp.{nat_list_eq_equiv}
-use Rattle.std.proofs.lemmas.List.{take-map, map_more}
-use Rattle.std.proofs.lemmas.Map.Keys.{IsDistinct-push}
-use Rattle.std.proofs.lemmas.Map.Text.{is_eq-slice_cmp}
-use Rattle.std.proofs.lemmas.Option.{slice_get-map, slice_get-get_or}
-use Rattle.std.proofs.Math.Bool.{or-false}
-use Rattle.schemars_schema.specs.Json.{Text}
-use Rattle.schemars_text.proofs.Members.{bytes_eq_comm}
-use Rattle.schemars_shapes.specs.Repeated.{IsRepeated}
+use Rattle.schemars_shapes.proofs.Words.{slice_cmp, nat_cmp, is_eq, IsDistinct, list_any, bytes_eq, BTreeSet, contains, Updates, nat_list_eq_equiv, take-map, map_more, IsDistinct-push, is_eq-slice_cmp, slice_get-map, slice_get-get_or, or-false, Text, bytes_eq_comm, IsRepeated}
 use Rattle.schemars_shapes.proofs.FieldLemmas.{Contains-from_any}
 
 -- among no names

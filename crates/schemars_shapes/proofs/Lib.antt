@@ -5,3 +5,4 @@ pub mod Copies
 pub mod Units
 pub mod FieldRows
 pub mod VariantNumbers
+mod Words

@@ -1,8 +1,6 @@
 -- A map as the program holds it, and whether it has members.
 use Rattle.std.proofs.Common.{◌≡◌, List, [], ◌∷◌, length, Bool, true, false, refl, arith, IsTrue}
-use Rattle.serde_json.specs.View.{members_view}
-use Rattle.serde_json.proofs.Views.{Entry}
-use Rattle.schemars_shapes.specs.Units.{is_none}
+use Rattle.schemars_shapes.proofs.Words.{members_view, Entry, is_none}
 
 pub none_view : (b : Bool) (es : List Entry) → (IsTrue b → length es ≡ 0) × (length es ≡ 0 → IsTrue b) → b ≡ is_none (members_view es)
 none_view b [] h = h.1 refl

@@ -1,9 +1,6 @@
 -- The first number of several variants that passes a test.
 use Rattle.std.proofs.Common.{◌≡◌, ◌<◌, ◌+◌, ◌∙◌, ℕ, List, Bool, Option, Some, None, map, drop, get_or, find, length, sym, ap}
-use Rattle.std.specs.Option.{option_or}
-use Rattle.std.proofs.lemmas.List.Folds.{find-append}
-use Rattle.std.proofs.lemmas.List.{at_drop_more}
-use Rattle.schemars_shapes.specs.Shape.{Variant, payload_numbers, variant_numbers}
+use Rattle.schemars_shapes.proofs.Words.{option_or, find-append, at_drop_more, Variant, payload_numbers, variant_numbers}
 
 first_in : {A : Type 0} (says : A → Variant) (p : ℕ → Bool) → List A → Option ℕ
 first_in says p xs = find p (variant_numbers (map says xs))

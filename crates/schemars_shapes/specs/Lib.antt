@@ -7,3 +7,4 @@ pub mod Repeated
 pub mod Decimals
 pub mod Units
 pub mod Rows
+pub mod Words

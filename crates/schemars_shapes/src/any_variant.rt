@@ -1,9 +1,6 @@
 //! One interface for the variants of all enums, however they are tagged.
 ghost use Rattle.std.specs.Prelude.{◌≡◌};
-ghost use Rattle.std.specs.Option.{option_map};
-ghost use Rattle.serde_json.specs.View.{members_view};
-ghost use Rattle.schemars_shapes.specs.Shape.{Variant, fields_of, variant_of, internal_variant_of};
-ghost use Rattle.schemars_shapes.specs.AnyPayload.{any_payload_of, payload_fields};
+ghost use Rattle.schemars_shapes.specs.Words.{option_map, members_view, Variant, fields_of, variant_of, internal_variant_of, any_payload_of, payload_fields};
 
 use crate::shape::{Fields, TypeNo};
 use crate::variant::{InternalPayload, InternalVariant, Payload, Variant};

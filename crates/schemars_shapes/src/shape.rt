@@ -1,9 +1,5 @@
 ghost use Rattle.std.specs.Prelude.{◌≡◌, map};
-ghost use Rattle.schemars_shapes.specs.IntKind.{format_of, non_zero_name};
-ghost use Rattle.schemars_shapes.specs.IntegerKeys.{pattern_of, integers_of};
-ghost use Rattle.schemars_shapes.specs.Shape.{shape_of, field_of, flattened_of, fields_of, entry_of, option_of, without_notes};
-ghost use Rattle.std.specs.Cmp.Lexicographic.{pointwise};
-ghost use Rattle.schemars_shapes.specs.Equality.{shape_eq, list_eq, field_eq, flattened_eq, fields_eq, entry_eq};
+ghost use Rattle.schemars_shapes.specs.Words.{format_of, non_zero_name, pattern_of, integers_of, shape_of, field_of, flattened_of, fields_of, entry_of, option_of, without_notes, pointwise, shape_eq, list_eq, field_eq, flattened_eq, fields_eq, entry_eq};
 
 use crate::variant::{Adjacent, Internal, Variant, variants_equal};
 use schemars_schema::{Schema, json_same, json_same_members};

@@ -1,8 +1,6 @@
 //! The variants of enums.
 ghost use Rattle.std.specs.Prelude.{◌≡◌, ◌&&◌, map, bytes_eq};
-ghost use Rattle.schemars_shapes.specs.Shape.{payload_of, variant_of, internal_payload_of, internal_variant_of, internal_view, adjacent_view};
-ghost use Rattle.schemars_shapes.specs.Equality.{bool_eq, payload_eq, variant_eq, variants_eq};
-ghost use Rattle.schemars_shapes.specs.Units.{is_bare_unit};
+ghost use Rattle.schemars_shapes.specs.Words.{payload_of, variant_of, internal_payload_of, internal_variant_of, internal_view, adjacent_view, bool_eq, payload_eq, variant_eq, variants_eq, is_bare_unit};
 
 use crate::shape::{Fields, TypeNo};
 use schemars_schema::json_same_members;

@@ -1,19 +1,6 @@
 -- Steps of writing, one after another.
 use Rattle.std.proofs.Common.{◌≡◌, ◌<◌, ◌+◌, ℕ, List, [], ◌∷◌, ◌++◌, Bool, true, false, Option, Some, None, length, get_or, drop, map, refl, sym, ap, ◌∙◌, subst, append_assoc, append-nil, arith, add-one, drop-cons}
-use Rattle.std.proofs.lemmas.Bool.{or_parts}
-use Rattle.std.proofs.KnownBytes.{Appends-nil, Appends-trans}
-use Rattle.std.specs.Io.KnownBytes.{Appends}
-use Rattle.std.specs.Prelude.{IsTrue}
-use Rattle.serde_json.specs.Data.{Data}
-use Rattle.serde_json.specs.View.{items_of}
-use Rattle.serde_json.specs.Written.{has_float, items_have_float}
-use Rattle.schemars_text.specs.Text.{Text}
-use Rattle.schemars_text.specs.Output.{Output, with_value, with_values}
-use Rattle.schemars_text.specs.OrderedText.{Layout, text_in, item_texts}
-use Rattle.schemars_text.specs.Sink.{AppendsBeginning}
-use Rattle.schemars_text.specs.Target.{Holds, IsGathered}
-use Rattle.schemars_text.specs.Gathered.{AddsText}
-use Rattle.schemars_text.specs.Sent.{IsSent, IsSentInPart}
+use Rattle.schemars_text.proofs.Words.{or_parts, Appends-nil, Appends-trans, Appends, IsTrue, Data, items_of, has_float, items_have_float, Text, Output, with_value, with_values, Layout, text_in, item_texts, AppendsBeginning, Holds, IsGathered, AddsText, IsSent, IsSentInPart}
 
 -- each output that was held leads to one that is held now, and that P joins to it
 abbrev pub Reaches : Holds → Holds → (Output → Output → Type 0) → Type 0

@@ -1,9 +1,6 @@
 -- A text to which more is written after it, as the newline of a line.
 use Rattle.std.proofs.Common.{◌++◌, Option, ap, sym, ◌∙◌, append_assoc}
-use Rattle.std.proofs.KnownBytes.{Appends-trans}
-use Rattle.std.specs.Io.KnownBytes.{Appends}
-use Rattle.schemars_text.specs.Text.{Text}
-use Rattle.schemars_text.specs.Sink.{AppendsBeginning}
+use Rattle.schemars_text.proofs.Words.{Appends-trans, Appends, Text, AppendsBeginning}
 
 -- a beginning of the text is one of the longer text
 pub begun_longer : (old new : Option Text) (text last : Text) → AppendsBeginning old new text → AppendsBeginning old new (text ++ last)

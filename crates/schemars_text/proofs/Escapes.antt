@@ -1,8 +1,6 @@
 -- Text in a string, and what stands for it.
 use Rattle.std.proofs.Common.{◌≡◌, ℕ, List, ◌∷◌, ◌++◌, ◌-◌, length, take, drop, sym, ap, ◌∙◌, append_assoc, take-append-drop}
-use Rattle.std.proofs.lemmas.List.{take_rest}
-use Rattle.std.proofs.lemmas.List.Concat.{flat_map-append}
-use Rattle.json.specs.Print.{escape, escape_byte}
+use Rattle.schemars_text.proofs.Words.{take_rest, flat_map-append, escape, escape_byte}
 
 pub cut_at : (text : List ℕ) (n : ℕ) → text ≡ take n text ++ take (length text - n) (drop n text)
 cut_at text n = sym (take-append-drop n text) ∙ ap (λ l. take n text ++ l) (sym (take_rest text n))

@@ -1,16 +1,6 @@
 -- Members that are found under some keys in one pass.
 use Rattle.std.proofs.Common.{◌≡◌, ◌<◌, ◌≤◌, ℕ, max, zero, suc, List, [], ◌∷◌, ◌++◌, length, get_or, set, take, map, Bor, Bool, true, false, not, ◌||◌, ◌&&◌, Option, Some, None, option_map, is_some, refl, sym, ap, ap₂, ◌∙◌, arith}
-use Rattle.std.proofs.lemmas.Bool.{or_parts}
-use Rattle.std.proofs.lemmas.List.{take-map}
-use Rattle.std.proofs.Math.ListN.{get_or-map}
-use Rattle.std.proofs.lemmas.Slice.Eq.{bytes_eq-Decides}
-use Rattle.std.specs.Prelude.{bytes_eq, if◌then◌else◌, ⊤}
-use Rattle.std.specs.Option.{option_or}
-use Rattle.serde_json.specs.Data.{Data, Members, no_members, member, depth, members_depth}
-use Rattle.serde_json.specs.Find.{get_member}
-use Rattle.schemars_text.specs.Text.{Text}
-use Rattle.schemars_text.specs.OrderedText.{first_keywords, last_keywords, is_listed}
-use Rattle.schemars_text.specs.Places.{place_in}
+use Rattle.schemars_text.proofs.Words.{or_parts, take-map, get_or-map, bytes_eq-Decides, bytes_eq, if◌then◌else◌, ⊤, option_or, Data, Members, no_members, member, depth, members_depth, get_member, Text, first_keywords, last_keywords, is_listed, place_in}
 use Rattle.schemars_text.proofs.Members.{get_member-member, get_member-here, get_member-later, flipped}
 
 -- ---- places

@@ -7,3 +7,4 @@ pub mod FixedMembers
 pub mod Becomings
 pub mod Begun
 pub mod Escapes
+mod Words

@@ -1,7 +1,6 @@
 -- The turns of a loop over a list.
 use Rattle.std.proofs.Common.{◌≡◌, ◌+◌, ◌<◌, ◌≤◌, ℕ, zero, suc, max, List, [], ◌∷◌, length, get_or, drop, map, refl, sym, ap, ◌∙◌, add-one, arith}
-use Rattle.serde_json.specs.Data.{Data, Items, no_items, item, depth, items_depth}
-use Rattle.serde_json.specs.View.{view, items_view, items_of}
+use Rattle.schemars_text.proofs.Words.{Data, Items, no_items, item, depth, items_depth, view, items_view, items_of}
 use Rattle.serde_json.specs.declared.value.Value.{Value}
 
 -- the items that a list stands for, where `data_of` reads one

@@ -1,14 +1,6 @@
 -- When two keys are the same, and what is found under a key.
 use Rattle.std.proofs.Common.{◌≡◌, ◌≢◌, Option, Some, Bool, true, false, Ordering, Less, Equal, Greater, refl, sym, ◌∙◌, ap, is_eq, true≢false, nat_cmp}
-use Rattle.std.proofs.lemmas.Cmp.{nat_list_cmp_total, nat_list_eq_equiv, tied_itself}
-use Rattle.std.proofs.lemmas.Map.Text.{is_eq-slice_cmp}
-use Rattle.std.proofs.lemmas.Slice.Eq.{bytes_eq-Decides}
-use Rattle.std.specs.Prelude.{bytes_eq, if◌then◌else◌}
-use Rattle.std.specs.Ordering.{match_ordering}
-use Rattle.std.specs.Cmp.Lexicographic.{slice_cmp}
-use Rattle.serde_json.specs.Data.{Data, Members, member}
-use Rattle.serde_json.specs.Find.{get_member}
-use Rattle.schemars_text.specs.Text.{Text}
+use Rattle.schemars_text.proofs.Words.{nat_list_cmp_total, nat_list_eq_equiv, tied_itself, is_eq-slice_cmp, bytes_eq-Decides, bytes_eq, if◌then◌else◌, match_ordering, slice_cmp, Data, Members, member, get_member, Text}
 
 -- ---- keys
 

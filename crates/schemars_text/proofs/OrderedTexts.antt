@@ -1,19 +1,6 @@
 -- Text that is written value by value, and members that are looked up by their keys.
 use Rattle.std.proofs.Common.{◌≡◌, ◌<◌, ◌+◌, ℕ, List, [], ◌∷◌, ◌++◌, length, get_or, drop, map, Bor, add-one, drop-cons, Bool, true, false, ◌||◌, Some, None, Ordering, Less, Equal, Greater, is_eq, nat_cmp, refl, sym, ap, ◌∙◌, append_assoc, append-nil}
-use Rattle.std.proofs.lemmas.Bool.{or_parts}
-use Rattle.std.proofs.lemmas.Map.Text.{is_eq-slice_cmp}
-use Rattle.std.proofs.lemmas.Slice.Eq.{bytes_eq-Decides}
-use Rattle.std.specs.Prelude.{bytes_eq}
-use Rattle.std.specs.Cmp.Lexicographic.{slice_cmp}
-use Rattle.std.specs.Ordering.{match_ordering}
-use Rattle.json.specs.Token.{Token, begin_object, end_object, begin_array, end_array}
-use Rattle.json.specs.Print.{begins, ends, separator, token_text, quoted}
-use Rattle.serde_json.specs.Data.{Data, array, object, Items, Members, no_members, member}
-use Rattle.serde_json.specs.Find.{get_member}
-use Rattle.serde_json.specs.Written.{comma_if, has_float, items_have_float, members_have_float}
-use Rattle.schemars_text.specs.Text.{Text}
-use Rattle.schemars_text.specs.Output.{Output, with_token, with_value, with_values}
-use Rattle.schemars_text.specs.OrderedText.{Layout, SchemaLayout, Written, written_at, each_written_at, arranged, texts, layout_under, layout_inside, with_commas, text_in, item_texts, member_texts}
+use Rattle.schemars_text.proofs.Words.{or_parts, is_eq-slice_cmp, bytes_eq-Decides, bytes_eq, slice_cmp, match_ordering, Token, begin_object, end_object, begin_array, end_array, begins, ends, separator, token_text, quoted, Data, array, object, Items, Members, no_members, member, get_member, comma_if, has_float, items_have_float, members_have_float, Text, Output, with_token, with_value, with_values, Layout, SchemaLayout, Written, written_at, each_written_at, arranged, texts, layout_under, layout_inside, with_commas, text_in, item_texts, member_texts}
 
 -- ---- text
 

@@ -1,14 +1,6 @@
 -- JSON text that is written token by token.
 use Rattle.std.proofs.Common.{◌≡◌, ℕ, ◌^◌, pos, ℤ, List, [], ◌∷◌, ◌++◌, Bool, true, false, cond, nat_lt, Some, None, decimal, refl, ap, ◌∙◌}
-use Rattle.std.specs.Prelude.{fold}
-use Rattle.std.specs.Fmt.{signed_decimal}
-use Rattle.json.specs.Token.{Token}
-use Rattle.json.specs.Print.{print, ends, ends_value}
-use Rattle.json.proofs.Printed.Tokens.{print_from_push}
-use Rattle.serde_json.specs.Data.{Num, unsigned, negative, float}
-use Rattle.serde_json.specs.Find.{as_u64, as_i64, is_float}
-use Rattle.serde_json.specs.Written.{number_text}
-use Rattle.schemars_text.specs.Output.{Output, with_token}
+use Rattle.schemars_text.proofs.Words.{fold, signed_decimal, Token, print, ends, ends_value, print_from_push, Num, unsigned, negative, float, as_u64, as_i64, is_float, number_text, Output, with_token}
 
 -- what a writer of these tokens shows
 abbrev pub output_of : List Token → Output

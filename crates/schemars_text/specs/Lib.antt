@@ -9,3 +9,4 @@ pub mod Sent
 pub mod Refusals
 pub mod Output
 pub mod Places
+pub mod Words

@@ -1,11 +1,6 @@
 //! Text that is handed to a sink in blocks.
 ghost use Rattle.std.specs.Prelude.{◌≡◌, ◌<◌, ◌≤◌, ℕ, List, [], ◌∷◌, Option, length, take, false, not, cond, ◌&&◌};
-ghost use Rattle.std.specs.Bool.{OnTrue};
-ghost use Rattle.json.specs.Print.{escape, escape_letter, escape_byte, quoted, begins, ends, token_text};
-ghost use Rattle.json.specs.Reads.{token_of};
-ghost use Rattle.std.specs.Char.{digit_char};
-ghost use Rattle.schemars_text.specs.Target.{IsGathered};
-ghost use Rattle.schemars_text.specs.Gathered.{AddsText};
+ghost use Rattle.schemars_text.specs.Words.{OnTrue, escape, escape_letter, escape_byte, quoted, begins, ends, token_text, token_of, digit_char, IsGathered, AddsText};
 
 use crate::sink::{Failed, Sink, write_all};
 use crate::target::Target;

@@ -1,14 +1,6 @@
 //! The walk over a schema that writes its text, with keywords in a fixed order.
 ghost use Rattle.std.specs.Prelude.{◌≡◌, ◌∷◌, ◌++◌, false, map, length, option_map};
-ghost use Rattle.json.specs.Print.{quoted};
-ghost use Rattle.json.specs.Token.{boolean, number, string};
-ghost use Rattle.serde_json.specs.Data.{Members};
-ghost use Rattle.serde_json.specs.Find.{get_member, is_float};
-ghost use Rattle.serde_json.specs.View.{view, number_view, items_view, members_view};
-ghost use Rattle.serde_json.specs.Written.{has_float, items_have_float, members_have_float, number_text};
-ghost use Rattle.schemars_text.specs.OrderedText.{first_keywords, last_keywords, holds_plain_json, holds_named_schemas, SchemaLayout, layout_under, layout_inside, each_written_at, others, arranged, texts, text_in, item_texts, member_texts, object_text};
-ghost use Rattle.schemars_text.specs.Output.{with_token, with_value, with_values, layout_meant};
-ghost use Rattle.schemars_text.specs.Target.{Becomes};
+ghost use Rattle.schemars_text.specs.Words.{quoted, boolean, number, string, Members, get_member, is_float, view, number_view, items_view, members_view, has_float, items_have_float, members_have_float, number_text, first_keywords, last_keywords, holds_plain_json, holds_named_schemas, SchemaLayout, layout_under, layout_inside, each_written_at, others, arranged, texts, text_in, item_texts, member_texts, object_text, with_token, with_value, with_values, layout_meant, Becomes};
 
 use crate::places::{FIRST_KEYWORDS, LAST_KEYWORDS, find_fixed, has_fixed_place};
 use crate::target::Target;

@@ -1,14 +1,6 @@
 //! JSON text that is being written, with its commas in place.
 ghost use Rattle.std.specs.Prelude.{◌≡◌, [], false, string_bytes, IfOk, OnOk};
-ghost use Rattle.json.specs.Lex.{tokens};
-ghost use Rattle.json.specs.Print.{IsPrintable, print};
-ghost use Rattle.json.specs.Reads.{token_of};
-ghost use Rattle.json.specs.Token.{number};
-ghost use Rattle.serde_json.specs.Find.{is_float};
-ghost use Rattle.serde_json.specs.View.{view, number_view};
-ghost use Rattle.serde_json.specs.Written.{has_float, number_text};
-ghost use Rattle.schemars_text.specs.OrderedText.{text_in};
-ghost use Rattle.schemars_text.specs.Output.{with_token, with_value, layout_meant};
+ghost use Rattle.schemars_text.specs.Words.{tokens, IsPrintable, print, token_of, number, is_float, view, number_view, has_float, number_text, text_in, with_token, with_value, layout_meant};
 
 use crate::ordered::{Layout, write_value};
 use crate::target::Target;

@@ -1,9 +1,6 @@
 //! The members of a schema that have a fixed place in its text.
 ghost use Rattle.std.specs.Prelude.{◌≡◌, ◌++◌, ◌||◌, map, option_map, Some, None, if◌then◌else◌};
-ghost use Rattle.serde_json.specs.Find.{get_member};
-ghost use Rattle.serde_json.specs.View.{view, members_view};
-ghost use Rattle.schemars_text.specs.OrderedText.{first_keywords, last_keywords, is_listed};
-ghost use Rattle.schemars_text.specs.Places.{place_in};
+ghost use Rattle.schemars_text.specs.Words.{get_member, view, members_view, first_keywords, last_keywords, is_listed, place_in};
 
 use serde_json::{Map, Value};
 

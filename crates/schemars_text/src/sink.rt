@@ -1,8 +1,6 @@
 //! Where the bytes of a text go.
 ghost use Rattle.std.specs.Prelude.{◌≡◌, ◌<◌, ◌≤◌, ℕ, List, Bool, false, Option, length, IsTrue, IfOk, OnOk, OnErr};
-ghost use Rattle.std.specs.Result.{is_err};
-ghost use Rattle.std.specs.Io.KnownBytes.{WriteAppends, Appends};
-ghost use Rattle.schemars_text.specs.Sink.{AppendsBeginning};
+ghost use Rattle.schemars_text.specs.Words.{is_err, WriteAppends, Appends, AppendsBeginning};
 
 use std::io::{self, ErrorKind, Write};
 

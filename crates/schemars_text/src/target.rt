@@ -1,13 +1,6 @@
 //! Where the text of a schema is written to.
 ghost use Rattle.std.specs.Prelude.{◌≡◌, ℕ, List, false, Option};
-ghost use Rattle.json.specs.Print.{IsPrintable};
-ghost use Rattle.json.specs.Reads.{token_of};
-ghost use Rattle.json.specs.Token.{number};
-ghost use Rattle.serde_json.specs.Find.{is_float};
-ghost use Rattle.serde_json.specs.View.{number_view};
-ghost use Rattle.serde_json.specs.Written.{number_text};
-ghost use Rattle.schemars_text.specs.Output.{Output, with_token};
-ghost use Rattle.schemars_text.specs.Target.{Becomes};
+ghost use Rattle.schemars_text.specs.Words.{IsPrintable, token_of, number, is_float, number_view, number_text, Output, with_token, Becomes};
 
 use json::Token;
 use serde_json::Number;

@@ -1,14 +1,6 @@
 //! The text of a schema or of definitions, in memory or written to a sink.
 ghost use Rattle.std.specs.Prelude.{◌≡◌, ◌≢◌, ℕ, List, [], Err, false, not, string_bytes, IfOk, OnOk, IsTrue};
-ghost use Rattle.json.specs.Lex.{tokens};
-ghost use Rattle.json.specs.Print.{print};
-ghost use Rattle.serde_json.specs.View.{view, members_view};
-ghost use Rattle.serde_json.specs.Written.{has_float, members_have_float};
-ghost use Rattle.schemars_text.specs.Output.{with_value};
-ghost use Rattle.schemars_text.specs.OrderedText.{ordered_text, definitions_text};
-ghost use Rattle.schemars_text.specs.Document.{has_floats, text_of};
-ghost use Rattle.schemars_text.specs.Sent.{IsSent, IsSentInPart};
-ghost use Rattle.schemars_text.specs.Target.{Becomes, IsGathered};
+ghost use Rattle.schemars_text.specs.Words.{tokens, print, view, members_view, has_float, members_have_float, with_value, ordered_text, definitions_text, has_floats, text_of, IsSent, IsSentInPart, Becomes, IsGathered};
 
 use crate::error::OrderedError;
 use crate::gathered::Gathered;

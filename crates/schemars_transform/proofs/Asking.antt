@@ -1,13 +1,8 @@
 -- What values need, call by call.
 use Rattle.std.proofs.Common.{◌≡◌, ℕ, ◌+◌, ◌<◌, ◌≤◌, Bool, List, length, get_or, drop, refl, sym, ap, ◌∙◌}
-use Rattle.std.specs.Prelude.{◌==◌}
-use Rattle.serde_json.specs.Data.{Data, object, Items, no_items, item, Members, no_members, member}
-use Rattle.serde_json.specs.View.{view, items_view, members_view}
+use Rattle.schemars_transform.proofs.Words.{◌==◌, Data, object, Items, no_items, item, Members, no_members, member, view, items_view, members_view, Entry, members_len-members_view, Text, from_here, needed, needed_by_items, needed_by_names, needed_by_keywords}
 use Rattle.serde_json.specs.declared.value.Value.{Value}
-use Rattle.serde_json.proofs.Views.{Entry, members_len-members_view}
-use Rattle.schemars_schema.specs.Json.{Text}
-use Rattle.schemars_text.proofs.Lists.{from_here, nothing_left as none_left}
-use Rattle.schemars_transform.specs.Needs.{needed, needed_by_items, needed_by_names, needed_by_keywords}
+use Rattle.schemars_text.proofs.Lists.{nothing_left as none_left}
 use Rattle.schemars_transform.specs.declared.needs.Needs.{Needs}
 
 -- one turn: what the first member needs has been noted

@@ -1,11 +1,7 @@
 -- What the transforms make of schemas, computed.
 use Rattle.std.proofs.Common.{◌≡◌, List, [], ◌∷◌, true, false, refl}
-use Rattle.serde_json.specs.Data.{Data, null, boolean, number, unsigned, object, no_members}
-use Rattle.schemars_schema.proofs.JsonLiterals.{text, list, entry, one, empty}
-use Rattle.schemars_walk.specs.Rewritten.{forms, in_items, in_names, in_keywords}
-use Rattle.schemars_transform.specs.Nullable.{add_nullable}
+use Rattle.schemars_transform.proofs.Words.{Data, null, boolean, number, unsigned, object, no_members, text, list, entry, one, empty, forms, in_items, in_names, in_keywords, add_nullable, replace_bool_schemas, remove_ref_siblings, set_single_example, replace_const_value, replace_prefix_items}
 use Rattle.schemars_transform.specs.declared.built_in.nullable.AddNullable.{AddNullable}
-use Rattle.schemars_transform.specs.Built.{replace_bool_schemas, remove_ref_siblings, set_single_example, replace_const_value, replace_prefix_items}
 
 -- ---- truth values
 

@@ -1,17 +1,8 @@
 -- The names that a schema and those inside it add, call by call.
 use Rattle.std.proofs.Common.{◌≡◌, ℕ, ◌+◌, ◌<◌, ◌≤◌, Some, None, List, [], ◌∷◌, ◌++◌, length, get_or, drop, Bool, true, false, IsTrue, codes, refl, sym, ap, ◌∙◌, subst}
-use Rattle.std.proofs.lemmas.Bool.{false≢true}
-use Rattle.serde_json.specs.Data.{Data, null, boolean, number, string, array, object, Items, no_items, item, Members, no_members, member}
-use Rattle.serde_json.specs.Find.{as_array, as_object}
-use Rattle.serde_json.specs.View.{view, items_view, members_view}
+use Rattle.schemars_transform.proofs.Words.{false≢true, Data, null, boolean, number, string, array, object, Items, no_items, item, Members, no_members, member, as_array, as_object, view, items_view, members_view, Entry, Text, inserted, put_missing, array-as_array, not_array, object-as_object, not_object, from_here, names_in, names_in_items, names_in_keywords, names_under, with_names, properties_made}
 use Rattle.serde_json.specs.declared.value.Value.{Value}
-use Rattle.serde_json.proofs.Views.{Entry}
-use Rattle.schemars_schema.specs.Json.{Text}
-use Rattle.schemars_schema.specs.SchemaData.{inserted}
-use Rattle.schemars_schema.specs.Edits.{put_missing}
-use Rattle.schemars_schema.proofs.Containers.{array-as_array, not_array, object-as_object, not_object}
-use Rattle.schemars_text.proofs.Lists.{from_here, nothing_left as none_left}
-use Rattle.schemars_transform.specs.Unevaluated.{names_in, names_in_items, names_in_keywords, names_under, with_names, properties_made}
+use Rattle.schemars_text.proofs.Lists.{nothing_left as none_left}
 
 pub with_names-append : (a b : List Text) (ms : Members) → with_names (a ++ b) ms ≡ with_names b (with_names a ms)
 with_names-append [] b ms = refl

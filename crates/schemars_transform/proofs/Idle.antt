@@ -1,12 +1,6 @@
 -- A transform is idle at a value: it leaves every schema inside as it is. That holds where nothing is needed that it looks for.
 use Rattle.std.proofs.Common.{◌≡◌, ◌⊎◌, inl, inr, Bool, true, refl, ap, ◌∙◌}
-use Rattle.std.specs.Prelude.{◌==◌, ⊤}
-use Rattle.serde_json.specs.Data.{Data, boolean, array, object, Items, no_items, item, Members, no_members, member}
-use Rattle.serde_json.specs.Events.{members_len}
-use Rattle.schemars_schema.specs.Json.{Text}
-use Rattle.schemars_schema.specs.References.{Place, NoSchemas, OneSchema, SchemaList, SchemaOrList, SchemasByName}
-use Rattle.schemars_walk.specs.Rewritten.{Rules, rewritten, form_at, forms, in_items, in_names, in_keywords}
-use Rattle.schemars_transform.specs.Needs.{keyword_named, is_changed, with_keyword, place_asked, needed_at, needs_of, needed, needed_by_items, needed_by_names, needed_by_keywords}
+use Rattle.schemars_transform.proofs.Words.{◌==◌, ⊤, Data, boolean, array, object, Items, no_items, item, Members, no_members, member, members_len, Text, Place, NoSchemas, OneSchema, SchemaList, SchemaOrList, SchemasByName, Rules, rewritten, form_at, forms, in_items, in_names, in_keywords, keyword_named, is_changed, with_keyword, place_asked, needed_at, needs_of, needed, needed_by_items, needed_by_names, needed_by_keywords}
 use Rattle.schemars_transform.specs.declared.needs.Needs.{Needs}
 
 -- of each keyword of an object

@@ -1,24 +1,6 @@
 -- Each built-in transform is idle where nothing is needed that it looks for.
 use Rattle.std.proofs.Common.{◌≡◌, ◌⊎◌, inl, inr, List, [], ◌∷◌, Bool, true, false, Some, None, Ok, codes, refl, sym, ap, ◌∙◌, subst}
-use Rattle.std.proofs.lemmas.Bool.{or_parts, and_parts}
-use Rattle.std.proofs.lemmas.Slice.Eq.{bytes_eq-Decides}
-use Rattle.std.specs.Prelude.{⊤, ◌==◌, ◌&&◌, ◌||◌, not, is_some, if◌then◌else◌, bytes_eq}
-use Rattle.serde_json.specs.Data.{Data, boolean, string, array, object, Members, no_members, member}
-use Rattle.serde_json.specs.Events.{members_len}
-use Rattle.serde_json.specs.Find.{get_member, as_bool}
-use Rattle.schemars_schema.specs.Json.{Text}
-use Rattle.schemars_schema.specs.Edits.{without}
-use Rattle.schemars_schema.specs.References.{Place, NoSchemas, OneSchema, SchemaList, SchemaOrList, SchemasByName, place_under}
-use Rattle.schemars_text.proofs.Members.{get_member-later, get_member-member}
-use Rattle.schemars_walk.specs.Walk.{TransformStep}
-use Rattle.schemars_walk.specs.Order.{InOrder}
-use Rattle.schemars_walk.specs.Rewritten.{everywhere, all_changed, form_at, forms}
-use Rattle.schemars_transform.specs.Built.{bool_rules, replace_bool_schemas, reference_moved, without_siblings, first_as_example, with_single_example, value_as_enum, const_as_enum, prefix_moved, prefix_as_items}
-use Rattle.schemars_transform.specs.Nullable.{has_null, nulls_in, nullable_by, with_nullable}
-use Rattle.schemars_transform.specs.Unevaluated.{closed_by, unevaluated_as_additional}
-use Rattle.schemars_transform.specs.Member.{OfMember}
-use Rattle.schemars_transform.specs.BuiltIn.{function_of, made_by}
-use Rattle.schemars_transform.specs.Needs.{keyword_named, is_changed, with_keyword, place_asked, needs_of, is_idle, are_idle}
+use Rattle.schemars_transform.proofs.Words.{or_parts, and_parts, bytes_eq-Decides, ⊤, ◌==◌, ◌&&◌, ◌||◌, not, is_some, if◌then◌else◌, bytes_eq, Data, boolean, string, array, object, Members, no_members, member, members_len, get_member, as_bool, Text, without, Place, NoSchemas, OneSchema, SchemaList, SchemaOrList, SchemasByName, place_under, get_member-later, get_member-member, TransformStep, InOrder, everywhere, all_changed, form_at, forms, bool_rules, replace_bool_schemas, reference_moved, without_siblings, first_as_example, with_single_example, value_as_enum, const_as_enum, prefix_moved, prefix_as_items, has_null, nulls_in, nullable_by, with_nullable, closed_by, unevaluated_as_additional, OfMember, function_of, made_by, keyword_named, is_changed, with_keyword, place_asked, needs_of, is_idle, are_idle}
 use Rattle.schemars_transform.specs.declared.built_in.bool_schemas.ReplaceBoolSchemas as bools
 use Rattle.schemars_transform.specs.declared.built_in.nullable.AddNullable as nullable
 use Rattle.schemars_transform.specs.declared.built_in.nullable.Nulls.TheVariants.{Missing}

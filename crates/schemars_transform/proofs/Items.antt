@@ -1,11 +1,6 @@
 -- The value of `items`, call by call.
 use Rattle.std.proofs.Common.{◌≡◌, Some, codes}
-use Rattle.serde_json.specs.Data.{Data, object}
-use Rattle.serde_json.specs.Find.{get}
-use Rattle.schemars_schema.specs.SchemaData.{members_in}
-use Rattle.schemars_schema.specs.Edits.{replaced}
-use Rattle.schemars_walk.specs.Walk.{Answer, TransformStep, AtSchema}
-use Rattle.schemars_transform.specs.Inner.{AtItems}
+use Rattle.schemars_transform.proofs.Words.{Data, object, get, members_in, replaced, Answer, TransformStep, AtSchema, AtItems}
 
 module _ {S : Type 0} (Q : TransformStep S) (s u : S) where
   pub items_changed : (d i j e : Data) (r : Answer) → Some i ≡ get (codes "items") d → AtSchema Q s i r u j

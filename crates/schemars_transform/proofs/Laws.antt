@@ -1,13 +1,7 @@
 -- What lists of transforms do.
 use Rattle.std.proofs.Common.{◌≡◌, inl, inr, List, [], ◌∷◌, Vec, Global, false, Ok, Err, refl, sym, ap, ◌∙◌, subst}
-use Rattle.std.proofs.lemmas.Bool.{or_parts}
-use Rattle.std.specs.Prelude.{MatchResult}
-use Rattle.serde_json.specs.Data.{Data, null, boolean, number, string, array, object, Members, no_members, member}
-use Rattle.schemars_walk.specs.Walk.{Answer, TransformStep, Next, EachMember, AtSchema}
+use Rattle.schemars_transform.proofs.Words.{or_parts, MatchResult, Data, null, boolean, number, string, array, object, Members, no_members, member, Answer, TransformStep, Next, EachMember, AtSchema, InOrder, OfMember, is_own, some_own, function_of, made_by, value_made_by, each_made_by}
 use Rattle.schemars_walk.specs.declared.transform.TransformError.TheVariants.{Memory}
-use Rattle.schemars_walk.specs.Order.{InOrder}
-use Rattle.schemars_transform.specs.Member.{OfMember, is_own, some_own}
-use Rattle.schemars_transform.specs.BuiltIn.{function_of, made_by, value_made_by, each_made_by}
 use Rattle.schemars_transform.specs.declared.gen_transform.GenTransform.{GenTransform}
 use Rattle.schemars_transform.specs.declared.gen_transform.GenTransform.TheVariants.{ReplaceBoolSchemas, RemoveRefSiblings, SetSingleExample, ReplaceConstValue, ReplacePrefixItems, AddNullable, ReplaceUnevaluatedProperties, RestrictFormats, Own}
 

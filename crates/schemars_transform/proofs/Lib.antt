@@ -17,3 +17,4 @@ pub mod Replaced
 pub mod Turns
 pub mod Parted
 pub mod Taken
+mod Words

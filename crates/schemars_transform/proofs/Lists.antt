@@ -1,9 +1,6 @@
 -- Lists of transforms, one transform further.
 use Rattle.std.proofs.Common.{◌≡◌, ℕ, zero, suc, ◌+◌, ◌<◌, ◌||◌, ◌↔◌, Bool, true, false, IsTrue, List, [], ◌∷◌, ◌++◌, length, get_or, take, Result, Err, refl, sym, ap, subst, ◌∙◌, add-one, arith}
-use Rattle.std.proofs.lemmas.List.Folds.{list_any-append}
-use Rattle.std.proofs.lemmas.Slice.Zip.{all_zipped_more}
-use Rattle.std.proofs.Math.Seq.{take-suc}
-use Rattle.schemars_transform.specs.Member.{is_own, some_own, IsCopy, AreCopies}
+use Rattle.schemars_transform.proofs.Words.{list_any-append, all_zipped_more, take-suc, is_own, some_own, IsCopy, AreCopies}
 use Rattle.schemars_transform.specs.declared.gen_transform.GenTransform.{GenTransform}
 use Rattle.schemars_transform.specs.declared.error.CloneError.{CloneError}
 use Rattle.schemars_transform.specs.declared.error.CloneError.TheVariants.{OwnTransform}

@@ -1,10 +1,6 @@
 -- `prefixItems` and `items` moved, call by call.
 use Rattle.std.proofs.Common.{◌≡◌, Some, codes, ap, ◌∙◌}
-use Rattle.serde_json.specs.Data.{Data, object}
-use Rattle.serde_json.specs.Find.{get, get_member}
-use Rattle.schemars_schema.specs.SchemaData.{members_in, inserted}
-use Rattle.schemars_schema.specs.Edits.{removed}
-use Rattle.schemars_transform.specs.Built.{prefix_as_items}
+use Rattle.schemars_transform.proofs.Words.{Data, object, get, get_member, members_in, inserted, removed, prefix_as_items}
 
 pub both_moved : (s p i without once twice : Data) → Some p ≡ get (codes "prefixItems") s → without ≡ removed (codes "prefixItems") s
     → once ≡ inserted (codes "items") p without → Some i ≡ get_member (codes "items") (members_in without)

@@ -1,13 +1,7 @@
 -- A list of names without null.
 use Rattle.std.proofs.Common.{◌≡◌, Some, Bool, true, false, List, [], ◌∷◌, length, not, codes, refl, ap, ◌∙◌}
-use Rattle.std.specs.Prelude.{filter, if◌then◌else◌}
-use Rattle.serde_json.specs.Data.{Data, object, array, Items, item}
-use Rattle.serde_json.specs.Find.{get}
-use Rattle.schemars_schema.specs.SchemaData.{members_in}
-use Rattle.schemars_schema.specs.Edits.{replaced}
-use Rattle.serde_json.specs.View.{view, items_view}
+use Rattle.schemars_transform.proofs.Words.{filter, if◌then◌else◌, Data, object, array, Items, item, get, members_in, replaced, view, items_view, is_null_name, without_null, one_or_list, type_without_null, null_taken_out}
 use Rattle.serde_json.specs.declared.value.Value.{Value}
-use Rattle.schemars_transform.specs.Nullable.{is_null_name, without_null, one_or_list, type_without_null, null_taken_out}
 
 stays : (b : Bool) (v : Value) (vs : List Value) (ds : Items) → items_view vs ≡ ds
     → items_view (if not b then v ∷ vs else vs) ≡ (if b then ds else item (view v) ds)

@@ -1,22 +1,9 @@
 -- What built-in transforms make of a document is what they make of its definitions, each by itself, and of what is left.
 use Rattle.std.proofs.Common.{◌≡◌, Bool, true, false, List, [], ◌∷◌, Some, Option, None, option_map, codes, refl, sym, ap, ◌∙◌, subst}
-use Rattle.std.proofs.lemmas.Bool.{and_parts}
-use Rattle.std.specs.Prelude.{◌&&◌, is_some, if◌then◌else◌}
-use Rattle.serde_json.specs.Data.{Data, null, boolean, number, string, array, object, Members, no_members, member}
-use Rattle.serde_json.specs.Find.{get_member, as_bool}
-use Rattle.schemars_schema.specs.Json.{Text}
-use Rattle.schemars_schema.specs.SchemaData.{IsSchema, members_in}
-use Rattle.schemars_schema.specs.Edits.{replaced}
-use Rattle.schemars_schema.specs.References.{NoSchemas, SchemasByName, place_under}
-use Rattle.schemars_walk.specs.Rewritten.{Rules, rewritten, everywhere, all_changed, form_at, forms, in_names, in_keywords}
-use Rattle.schemars_transform.specs.Built.{bool_rules, replace_bool_schemas, without_siblings, with_single_example, const_as_enum, prefix_as_items}
-use Rattle.schemars_transform.specs.Nullable.{with_nullable}
-use Rattle.schemars_transform.specs.Unevaluated.{unevaluated_as_additional}
-use Rattle.schemars_transform.specs.BuiltIn.{function_of, made_by, value_made_by, each_made_by}
+use Rattle.schemars_transform.proofs.Words.{and_parts, ◌&&◌, is_some, if◌then◌else◌, Data, null, boolean, number, string, array, object, Members, no_members, member, get_member, as_bool, Text, IsSchema, members_in, replaced, NoSchemas, SchemasByName, place_under, Rules, rewritten, everywhere, all_changed, form_at, forms, in_names, in_keywords, bool_rules, replace_bool_schemas, without_siblings, with_single_example, const_as_enum, prefix_as_items, with_nullable, unevaluated_as_additional, function_of, made_by, value_made_by, each_made_by, is_local, are_local}
 use Rattle.schemars_transform.specs.declared.built_in.bool_schemas.ReplaceBoolSchemas as bools
 use Rattle.schemars_transform.specs.declared.gen_transform.GenTransform.{GenTransform}
 use Rattle.schemars_transform.specs.declared.gen_transform.GenTransform.TheVariants.{ReplaceBoolSchemas, RemoveRefSiblings, SetSingleExample, ReplaceConstValue, ReplacePrefixItems, AddNullable, ReplaceUnevaluatedProperties, RestrictFormats, Own}
-use Rattle.schemars_transform.specs.Apart.{is_local, are_local}
 use Rattle.schemars_transform.proofs.Replaced.{turned, keywords-replaced, keyword_form, keywords-get, replaced-twice, replaced-found}
 use Rattle.schemars_transform.proofs.Turns.{IsApart, Turns, const_turns, example_turns, prefix_turns, reference_turns, null_turns, unevaluated_turns}
 

@@ -1,19 +1,6 @@
 -- Members of which one is replaced, edited at other keys.
 use Rattle.std.proofs.Common.{◌≡◌, suc, Some, None, option_map, Bool, true, false, Ordering, Less, Equal, Greater, nat_cmp, refl, sym, ap, ◌∙◌, subst}
-use Rattle.std.proofs.lemmas.Map.Lookups.{exact_bytes}
-use Rattle.std.proofs.lemmas.Slice.Eq.{bytes_eq-Decides}
-use Rattle.std.specs.Prelude.{[], ◌++◌, bytes_eq, if◌then◌else◌}
-use Rattle.std.specs.Ordering.{match_ordering}
-use Rattle.std.specs.Cmp.Lexicographic.{slice_cmp}
-use Rattle.serde_json.specs.Data.{Data, object, Members, no_members, member, put}
-use Rattle.serde_json.specs.Events.{members_len}
-use Rattle.serde_json.specs.Find.{get_member}
-use Rattle.schemars_schema.specs.Json.{Text}
-use Rattle.schemars_schema.specs.Edits.{without, replaced}
-use Rattle.schemars_text.proofs.Members.{differ, unequal, get_member-member}
-use Rattle.schemars_walk.specs.Rewritten.{Rules, form_at, forms, in_keywords}
-use Rattle.schemars_walk.proofs.Rewrites.{keywords_more, keywords_none}
-use Rattle.schemars_transform.specs.Unevaluated.{Names, names_in, names_under, names_in_keywords, property_names}
+use Rattle.schemars_transform.proofs.Words.{exact_bytes, bytes_eq-Decides, [], ◌++◌, bytes_eq, if◌then◌else◌, match_ordering, slice_cmp, Data, object, Members, no_members, member, put, members_len, get_member, Text, without, replaced, differ, unequal, get_member-member, Rules, form_at, forms, in_keywords, keywords_more, keywords_none, Names, names_in, names_under, names_in_keywords, property_names}
 
 -- two keys that differ are not both this one
 not_both : (k q l : Text) → bytes_eq k q ≡ false → bytes_eq q l ≡ true → bytes_eq k l ≡ true → ⊥

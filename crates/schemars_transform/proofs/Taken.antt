@@ -1,20 +1,7 @@
 -- Definitions that are taken out of a document, transformed, and put back.
 use Rattle.std.proofs.Common.{◌≡◌, ◌<◌, Bool, true, false, List, [], ◌∷◌, length, Some, None, Ok, Err, arith, codes, refl, sym, ap, ◌∙◌, subst}
-use Rattle.std.proofs.lemmas.Bool.{and_parts}
-use Rattle.std.proofs.lemmas.Slice.Eq.{bytes_eq-Decides}
-use Rattle.std.specs.Prelude.{◌||◌, bytes_eq}
-use Rattle.serde_json.specs.Data.{Data, object, Members, no_members}
-use Rattle.serde_json.specs.Find.{get}
-use Rattle.schemars_text.specs.OrderedText.{is_listed}
-use Rattle.schemars_schema.specs.Json.{Text}
-use Rattle.schemars_schema.specs.SchemaData.{members_in}
-use Rattle.schemars_schema.specs.Edits.{replaced}
-use Rattle.schemars_walk.specs.Walk.{TransformStep}
-use Rattle.schemars_walk.specs.Order.{InOrder}
+use Rattle.schemars_transform.proofs.Words.{and_parts, bytes_eq-Decides, ◌||◌, bytes_eq, Data, object, Members, no_members, get, is_listed, Text, members_in, replaced, TransformStep, InOrder, function_of, made_by, each_made_by, OfMember, is_own, some_own, is_local, are_local, definition_keys, IsTaken}
 use Rattle.schemars_walk.specs.declared.transform.TransformError.TheVariants.{Memory}
-use Rattle.schemars_transform.specs.BuiltIn.{function_of, made_by, each_made_by}
-use Rattle.schemars_transform.specs.Member.{OfMember, is_own, some_own}
-use Rattle.schemars_transform.specs.Apart.{is_local, are_local, definition_keys, IsTaken}
 use Rattle.schemars_transform.specs.declared.gen_transform.GenTransform.{GenTransform}
 use Rattle.schemars_transform.specs.declared.gen_transform.GenTransform.TheVariants.{ReplaceBoolSchemas, RemoveRefSiblings, SetSingleExample, ReplaceConstValue, ReplacePrefixItems, AddNullable, ReplaceUnevaluatedProperties, RestrictFormats, Own}
 use Rattle.schemars_transform.proofs.Replaced.{replaced-found, replaced-missing}

@@ -1,21 +1,6 @@
 -- A change of one schema looks past a keyword: it leaves what is there, and does the same whatever that is.
 use Rattle.std.proofs.Common.{◌≡◌, Bool, true, false, List, [], ◌∷◌, Option, Some, None, codes, refl, sym, ap, ◌∙◌}
-use Rattle.std.proofs.lemmas.Slice.Eq.{bytes_eq-Decides}
-use Rattle.std.specs.Prelude.{◌==◌, if◌then◌else◌, bytes_eq}
-use Rattle.serde_json.specs.Data.{Data, null, boolean, array, object, no_items, item, Members, no_members, member, put}
-use Rattle.serde_json.specs.Events.{members_len}
-use Rattle.serde_json.specs.Find.{get, get_member}
-use Rattle.schemars_text.specs.OrderedText.{is_listed}
-use Rattle.schemars_schema.specs.Json.{Text}
-use Rattle.schemars_schema.specs.SchemaData.{members_in, inserted}
-use Rattle.schemars_schema.specs.Edits.{without, removed, replaced, with_last}
-use Rattle.schemars_schema.specs.References.{SchemasByName, place_under}
-use Rattle.serde_json.proofs.Views.{get_member-put_other}
-use Rattle.schemars_text.proofs.Members.{differ}
-use Rattle.schemars_schema.proofs.Members.{get_member-replaced_other, get_member-without}
-use Rattle.schemars_transform.specs.Built.{referring, reference_moved, without_siblings, first_as_example, with_single_example, value_as_enum, const_as_enum, old_items_moved, prefix_moved, prefix_as_items}
-use Rattle.schemars_transform.specs.Nullable.{nulls_in, type_without_null, null_taken_out, null_alone, null_among, nullable_by, with_nullable}
-use Rattle.schemars_transform.specs.Unevaluated.{Names, names_under, property_names, with_names, object_with_names, properties_made, properties_named, with_properties, closed_by, unevaluated_as_additional}
+use Rattle.schemars_transform.proofs.Words.{bytes_eq-Decides, ◌==◌, if◌then◌else◌, bytes_eq, Data, null, boolean, array, object, no_items, item, Members, no_members, member, put, members_len, get, get_member, is_listed, Text, members_in, inserted, without, removed, replaced, with_last, SchemasByName, place_under, get_member-put_other, differ, get_member-replaced_other, get_member-without, referring, reference_moved, without_siblings, first_as_example, with_single_example, value_as_enum, const_as_enum, old_items_moved, prefix_moved, prefix_as_items, nulls_in, type_without_null, null_taken_out, null_alone, null_among, nullable_by, with_nullable, Names, names_under, property_names, with_names, object_with_names, properties_made, properties_named, with_properties, closed_by, unevaluated_as_additional}
 use Rattle.schemars_transform.specs.declared.built_in.nullable.AddNullable.{AddNullable}
 use Rattle.schemars_transform.specs.declared.built_in.nullable.Nulls.{Nulls}
 use Rattle.schemars_transform.specs.declared.built_in.nullable.Nulls.TheVariants.{Missing, Alone, Among}

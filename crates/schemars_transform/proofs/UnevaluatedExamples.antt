@@ -1,16 +1,9 @@
 -- What the transforms make of schemas, computed.
 use Rattle.std.proofs.Common.{◌≡◌, [], ◌∷◌, true, false, refl}
-use Rattle.std.specs.Global.{Global}
+use Rattle.schemars_transform.proofs.Words.{Global, String, Data, boolean, object, no_members, forms, in_items, in_names, in_keywords, rewritten, format_rules, BTreeSet, text, list, entry, one, empty, replace_unevaluated_properties, names_in, names_in_items, names_in_keywords}
 use Rattle.std.specs.Prelude.{String as StringOf}
-use Prim.Native.String.{String}
-use Rattle.serde_json.specs.Data.{Data, boolean, object, no_members}
-use Rattle.schemars_walk.specs.Rewritten.{forms, in_items, in_names, in_keywords, rewritten}
-use Rattle.schemars_transform.specs.Formats.{format_rules}
 use Rattle.schemars_transform.specs.declared.built_in.formats.Draft.{Draft}
 use Rattle.schemars_transform.specs.declared.built_in.formats.Draft.TheVariants.{NotAsked, Missing}
-use Rattle.std.specs.BTreeSet.{BTreeSet}
-use Rattle.schemars_schema.proofs.JsonLiterals.{text, list, entry, one, empty}
-use Rattle.schemars_transform.specs.Unevaluated.{replace_unevaluated_properties, names_in, names_in_items, names_in_keywords}
 
 -- ---- `unevaluatedProperties`
 

@@ -8,3 +8,4 @@ pub mod Member
 pub mod BuiltIn
 pub mod Needs
 pub mod Apart
+pub mod Words

@@ -1,15 +1,6 @@
 //! Lists of transforms, of which only those are called that have something to do.
 ghost use Rattle.std.specs.Prelude.{◌≡◌, ◌<◌, None, Some, IfSome, OnOk, length, true};
-ghost use Rattle.serde_json.specs.Data.{Data, object, Members, no_members};
-ghost use Rattle.serde_json.specs.View.{view, members_view};
-ghost use Rattle.schemars_text.specs.OrderedText.{is_listed};
-ghost use Rattle.schemars_schema.specs.Edits.{replaced};
-ghost use Rattle.schemars_walk.specs.Order.{InOrder};
-ghost use Rattle.schemars_walk.specs.Walk.{EachMember, AtSchema};
-ghost use Rattle.schemars_transform.specs.Member.{OfMember, ApplyInOrder};
-ghost use Rattle.schemars_transform.specs.BuiltIn.{made_by};
-ghost use Rattle.schemars_transform.specs.Apart.{is_local, are_local, definition_keys, IsTaken};
-ghost use Rattle.schemars_transform.specs.Needs.{needs_of, is_idle, are_idle};
+ghost use Rattle.schemars_transform.specs.Words.{Data, object, Members, no_members, view, members_view, is_listed, replaced, InOrder, EachMember, AtSchema, OfMember, ApplyInOrder, made_by, is_local, are_local, definition_keys, IsTaken, needs_of, is_idle, are_idle};
 
 use crate::gen_transform::GenTransform;
 use crate::needs::{Needs, needs_of};

@@ -1,9 +1,6 @@
 //! What a schema has that the built-in transforms change, found by one walk that changes nothing.
 ghost use Rattle.std.specs.Prelude.{◌≡◌};
-ghost use Rattle.serde_json.specs.Data.{member, no_members};
-ghost use Rattle.serde_json.specs.View.{view, items_view, members_view};
-ghost use Rattle.schemars_walk.specs.Walk.{place_meant};
-ghost use Rattle.schemars_transform.specs.Needs.{no_needs, keyword_named, place_asked, is_changed, with_keyword, needed, needed_at, needs_of, needed_by_items, needed_by_names, needed_by_keywords};
+ghost use Rattle.schemars_transform.specs.Words.{member, no_members, view, items_view, members_view, place_meant, no_needs, keyword_named, place_asked, is_changed, with_keyword, needed, needed_at, needs_of, needed_by_items, needed_by_names, needed_by_keywords};
 
 use crate::built_in::nullable::has_null;
 use schemars_schema::Schema;

@@ -1,19 +1,10 @@
 -- What a table without faults offers, and what each answer of the search says of the faults.
 use Rattle.std.proofs.Common.{◌≡◌, ◌<◌, inl, inr, ℕ, List, Option, Some, None, IsSome, length, Contains, MatchOption, refl}
-use Rattle.std.proofs.lemmas.Bool.{lt-ltb, ltb-true}
-use Rattle.schemars_schema.specs.Json.{Text}
-use Rattle.schemars_shapes.specs.Repeated.{AreDistinctLists, IsFirstRepeated}
-use Rattle.schemars_types.specs.Walks.{Leads, OnCycle, IsFree, IsLeast}
-use Rattle.schemars_types.proofs.GraphLemmas.{walk_along}
-use Rattle.schemars_types.proofs.Heights.{IsWithin, longest-bound, longest-below, longest_falls}
-use Rattle.schemars_types.specs.EdgeKind.{targets_along}
+use Rattle.schemars_types.proofs.Words.{lt-ltb, ltb-true, Text, AreDistinctLists, IsFirstRepeated, Leads, OnCycle, IsFree, IsLeast, targets_along, Row, entry_at, RefersWithin, DirectEdge, SameValueEdge, direct_targets, same_value_targets, is_row, same_value_numbers_at, height, rank, names_at, IsUndefined, HasRepeated, OnDirectCycle, OnEmptyCycle, IsAccepted, IsChecked, walk_along, IsWithin, longest-bound, longest-below, longest_falls}
 use Rattle.schemars_types.specs.declared.check.faults.EdgeKind.TheVariants.{Direct, SameValue}
 use Rattle.schemars_types.proofs.EdgeLemmas.{Contains-filter, Contains-filtered, to_direct, from_direct, ends_within}
 use Rattle.schemars_types.proofs.Names.{lists_differ_or_repeated}
 pub use Rattle.schemars_types.proofs.Names.{never_first_repeated}
-use Rattle.schemars_types.specs.Rows.{Row, entry_at}
-use Rattle.schemars_types.specs.Edges.{RefersWithin, DirectEdge, SameValueEdge, direct_targets, same_value_targets, is_row, same_value_numbers_at, height, rank, names_at}
-use Rattle.schemars_types.specs.Faults.{IsUndefined, HasRepeated, OnDirectCycle, OnEmptyCycle, IsAccepted, IsChecked}
 
 -- ---- names
 

@@ -1,20 +1,10 @@
 -- Where each edge leads to a later row, or to one that refers to none, no walk closes.
 use Rattle.std.proofs.Common.{◌≡◌, ◌<◌, ◌≤◌, ◌+◌, ◌⊎◌, ◌∙◌, inl, inr, ℕ, List, [], ◌∷◌, All, Bool, true, false, not, is_some, Option, Some, None, length, cond, find, nat_le, Contains, refl, sym, ap, subst, arith}
-use Rattle.std.specs.Bool.{OnTrue}
-use Rattle.std.specs.Option.{option_map_or}
-use Rattle.std.proofs.lemmas.Bool.{cases_eq}
-use Rattle.std.proofs.lemmas.Bool.Decides.{nat_tests}
-use Rattle.std.proofs.lemmas.List.Elements.{All-contains, Contains-append_cases}
-use Rattle.schemars_shapes.specs.Shape.{Shape, Entry, numbers_of, same_value_numbers, asked_numbers, flattened_numbers}
-use Rattle.schemars_types.specs.Rows.{Row, entry_at}
-use Rattle.schemars_types.specs.Walks.{Walk, one, then, Leads, OnCycle, IsFree, EdgeFrom}
-use Rattle.schemars_types.specs.Edges.{numbers_at, is_row, asked_in, below_all, same_value_numbers_at}
-use Rattle.schemars_types.specs.EdgeKind.{targets_along, LeadsOn, Ascends}
+use Rattle.schemars_types.proofs.Words.{OnTrue, option_map_or, cases_eq, nat_tests, All-contains, Contains-append_cases, Shape, Entry, numbers_of, same_value_numbers, asked_numbers, flattened_numbers, Row, entry_at, Walk, one, then, Leads, OnCycle, IsFree, EdgeFrom, numbers_at, is_row, asked_in, below_all, same_value_numbers_at, targets_along, LeadsOn, Ascends, nothing_among}
 use Rattle.schemars_types.specs.declared.check.faults.EdgeKind.{EdgeKind}
 use Rattle.schemars_types.specs.declared.check.faults.EdgeKind.TheVariants.{Direct, SameValue}
 use Rattle.schemars_types.proofs.Asked.{same_number, flattened_number, asked_number}
 use Rattle.schemars_types.proofs.EdgeLemmas.{Contains-filter, to_direct, ends_within}
-use Rattle.schemars_types.proofs.GraphLemmas.{nothing_among}
 
 -- no number is below 0
 none_unknown : (ns : List ℕ) → find (λ m. nat_le 0 m) ns ≡ None → ns ≡ []

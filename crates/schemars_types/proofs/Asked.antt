@@ -1,14 +1,8 @@
 -- The rows whose options a row's own depend on.
 use Rattle.std.proofs.Common.{◌≡◌, ◌<◌, ◌∙◌, inl, inr, ℕ, zero, suc, List, [], ◌∷◌, Option, Some, None, length, get_or, map, Contains, refl, ap, sym, subst, arith}
-use Rattle.std.specs.Prelude.{option_and_then}
-use Rattle.std.specs.Option.{option_map_or}
-use Rattle.std.proofs.lemmas.List.Elements.{Contains-append_left, Contains-append_right, Contains-append_cases}
+use Rattle.schemars_types.proofs.Words.{option_and_then, option_map_or, Contains-append_left, Contains-append_right, Contains-append_cases, Shape, Entry, Tagging, by_name, by_nothing, by_tag, by_tag_and_content, Variant, Payload, no_payload, newtype_payload, tuple_payload, struct_payload, flattened_rows, payload_numbers, payload_flattened, payload_same, payload_same_by, payload_beside, of_variants, variant_numbers, numbers_of, same_value_numbers, flattened_numbers, asked_numbers, option_of, variant_of, payload_of, Row, entry_at, RefersWithin, SameValueEdge, numbers_at, same_value_numbers_at, option_at, nothing_among}
 use Rattle.schemars_shapes.specs.declared.variant.Variant as src-variant
 use Rattle.schemars_shapes.specs.Shape as shape
-use Rattle.schemars_shapes.specs.Shape.{Shape, Entry, Tagging, by_name, by_nothing, by_tag, by_tag_and_content, Variant, Payload, no_payload, newtype_payload, tuple_payload, struct_payload, flattened_rows, payload_numbers, payload_flattened, payload_same, payload_same_by, payload_beside, of_variants, variant_numbers, numbers_of, same_value_numbers, flattened_numbers, asked_numbers, option_of, variant_of, payload_of}
-use Rattle.schemars_types.specs.Rows.{Row, entry_at}
-use Rattle.schemars_types.specs.Edges.{RefersWithin, SameValueEdge, numbers_at, same_value_numbers_at, option_at}
-use Rattle.schemars_types.proofs.GraphLemmas.{nothing_among}
 
 same_of_payload : (p : Payload) (m : ℕ) → Contains (payload_same p) m → Contains (payload_numbers p) m
 same_of_payload no_payload m c = c

@@ -1,9 +1,8 @@
 -- Rows that are copied one by one say the same.
 use Rattle.std.proofs.Common.{◌≡◌, List, [], ◌∷◌, map, String, string_bytes, refl}
-use Rattle.std.specs.List.{AllZip}
+use Rattle.schemars_types.proofs.Words.{AllZip, row_of, SameSlot}
 use Rattle.std.specs.declared.alloc.Global.{Global}
 use Rattle.schemars_types.specs.declared.table.slots.Slot.{Slot}
-use Rattle.schemars_types.specs.Slots.{row_of, SameSlot}
 
 pub map-row_of-copied : (es fs : List (String Global × Slot)) → AllZip (λ p q. (string_bytes q.0 ≡ string_bytes p.0) × SameSlot p.1 q.1)
     es fs → map row_of fs ≡ map row_of es

@@ -1,19 +1,9 @@
 -- What belongs to types, computed, of values with decimals: numbers are read by their mathematical value.
 use Rattle.std.proofs.Common.{◌≡◌, List, [], ◌∷◌, Some, Bool, true, false, refl}
-use Rattle.std.specs.Prelude.{codes, pos, negsuc}
-use Rattle.std.specs.Float.{fin}
-use Rattle.std.specs.Float.Ieee.{eq, le, lt}
-use Rattle.serde_json.specs.Data.{Data, number, float, object, no_members}
-use Rattle.schemars_schema.specs.Json.{alike}
-use Rattle.schemars_schema.specs.SchemaData.{object_of}
-use Rattle.schemars_schema.proofs.JsonLiterals.{whole, text, minus_one, list, at_key, entry}
+use Rattle.schemars_types.proofs.Words.{codes, pos, negsuc, fin, eq, le, lt, Data, number, float, object, no_members, alike, object_of, whole, text, minus_one, list, at_key, entry, Shape, in_place, Row, options_within, belongs, belongs_within}
 use Rattle.schemars_shapes.specs.declared.shape.IntKind.TheVariants.{I8, U8, I64}
 use Rattle.schemars_shapes.specs.Shape as shape
-use Rattle.schemars_shapes.specs.Shape.{Shape, in_place}
-use Rattle.schemars_types.specs.Rows.{Row}
-use Rattle.schemars_types.specs.KeyOptions.{options_within}
 use Rattle.schemars_types.specs.declared.contract.Contract.TheVariants.{Deserialize}
-use Rattle.schemars_types.specs.Meaning.{belongs, belongs_within}
 
 -- row 0 has the bytes, row 1 texts, row 2 numbers, and row 3 this shape
 table : Shape → List Row

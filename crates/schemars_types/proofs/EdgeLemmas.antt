@@ -1,17 +1,8 @@
 -- The edges of a table lie among its rows, and a graph of targets has the same walks.
 use Rattle.std.proofs.Common.{◌≡◌, ◌<◌, ◌≤◌, ◌+◌, ◌-◌, ◌∙◌, ◌⊎◌, inl, inr, ℕ, zero, suc, List, [], ◌∷◌, ◌++◌, Bool, true, false, Some, None, length, filter, map, cond, nat_le, Contains, refl, sym, ap, subst, arith, true≢false, append_assoc, append-nil}
-use Rattle.std.specs.Option.{option_map_or}
-use Rattle.std.proofs.lemmas.List.Elements.{Contains-append_left, Contains-append_right, Contains-append_cases}
-use Rattle.std.proofs.lemmas.Bool.{lt-ltb, ltb-true, leb-true, leb-false}
-use Rattle.schemars_shapes.specs.Shape.{Entry, numbers_of, same_value_numbers}
-use Rattle.schemars_types.specs.Rows.{Row, entry_at}
-use Rattle.schemars_types.specs.Walks.{Walk, one, then, Leads, OnCycle, IsFree, IsLeast, EdgeFrom}
-use Rattle.schemars_types.specs.Search.{Graph, targets_in, IsClosed, HasTargets, counted_from}
-use Rattle.schemars_types.specs.Edges.{numbers_at, is_inline_at, asked_in, asked_at, is_row, DirectEdge, same_value_numbers_at, option_at, below_within}
-use Rattle.schemars_types.specs.EdgeKind.{targets_along, targets_from}
+use Rattle.schemars_types.proofs.Words.{option_map_or, Contains-append_left, Contains-append_right, Contains-append_cases, lt-ltb, ltb-true, leb-true, leb-false, Entry, numbers_of, same_value_numbers, Row, entry_at, Walk, one, then, Leads, OnCycle, IsFree, IsLeast, EdgeFrom, Graph, targets_in, IsClosed, HasTargets, counted_from, numbers_at, is_inline_at, asked_in, asked_at, is_row, DirectEdge, same_value_numbers_at, option_at, below_within, targets_along, targets_from, Contains-later, nothing_among, targets_in-within, walk_within, walk_under}
 use Rattle.schemars_types.specs.declared.check.faults.EdgeKind.{EdgeKind}
 use Rattle.schemars_types.specs.declared.check.faults.EdgeKind.TheVariants.{Direct, SameValue}
-use Rattle.schemars_types.proofs.GraphLemmas.{Contains-later, nothing_among, targets_in-within, walk_within, walk_under}
 
 pub Contains-cons : (x m : ℕ) (xs : List ℕ) → Contains (x ∷ xs) m → (x ≡ m) ⊎ Contains xs m
 Contains-cons x m xs (zero, below, is) = inl is

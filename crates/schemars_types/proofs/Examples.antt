@@ -1,16 +1,9 @@
 -- Key options, computed.
 use Rattle.std.proofs.Common.{◌≡◌, ℕ, List, [], ◌∷◌, Some, None, Bool, true, false, refl}
-use Rattle.std.specs.Prelude.{codes}
-use Prim.Native.String.{String}
-use Rattle.serde_json.specs.Data.{Data, boolean, number, unsigned, string, array, Items, no_items, item, Members, no_members, member}
+use Rattle.schemars_types.proofs.Words.{codes, String, Data, boolean, number, unsigned, string, array, Items, no_items, item, Members, no_members, member, Shape, int, non_zero, any, newtype, enum, by_name, by_nothing, literal, in_place, Variant, Payload, no_payload, newtype_payload, Text, object_of, Patterns, Row, KeyOptions, any_text, keys, key_options, options_within, is_key_allowed}
 use Rattle.schemars_shapes.specs.declared.shape.IntKind.TheVariants.{U8, I8, I32, U64}
-use Rattle.schemars_shapes.specs.Shape.{Shape, int, non_zero, text, any, newtype, enum, by_name, by_nothing, literal, in_place, Variant, Payload, no_payload, newtype_payload}
-use Rattle.schemars_schema.specs.Json.{Text}
-use Rattle.schemars_schema.specs.SchemaData.{object_of}
-use Rattle.schemars_schema.specs.Acceptance.{Patterns}
-use Rattle.schemars_types.specs.Rows.{Row}
+use Rattle.schemars_shapes.specs.Shape.{text}
 use Rattle.schemars_shapes.specs.declared.shape.IntegerKeys.TheVariants.{Unsigned, Signed}
-use Rattle.schemars_types.specs.KeyOptions.{KeyOptions, any_text, keys, key_options, options_within, is_key_allowed}
 
 variant : String → Payload → Members → Variant
 variant name payload notes = record { name = codes name; payload = payload; notes = notes }

@@ -1,16 +1,6 @@
 -- Which tables begin with which.
 use Rattle.std.proofs.Common.{◌≡◌, ◌&&◌, true, false, List, [], ◌∷◌, length, take, Option, Some, None, refl, ap, sym, true≢false}
-use Rattle.std.specs.Option.{option_eq, option_map_or}
-use Rattle.std.specs.Str.{bytes_eq}
-use Rattle.std.proofs.lemmas.Bool.{and_parts, or_parts}
-use Rattle.std.proofs.lemmas.Slice.Eq.{bytes_eq-Decides}
-use Rattle.schemars_shapes.specs.Shape.{Entry}
-use Rattle.schemars_shapes.specs.Equality.{entry_eq}
-use Rattle.schemars_shapes.specs.Decimals.{entry_has_float}
-use Rattle.schemars_types.specs.Rows.{Row}
-use Rattle.schemars_types.specs.Extends.{row_eq, begins_with, rows_have_float}
-use Rattle.schemars_shapes.proofs.EqualEntries.{same_entry}
-use Rattle.schemars_shapes.proofs.SelfEqual.{entry_eq-refl}
+use Rattle.schemars_types.proofs.Words.{option_eq, option_map_or, bytes_eq, and_parts, or_parts, bytes_eq-Decides, Entry, entry_eq, entry_has_float, Row, row_eq, begins_with, rows_have_float, same_entry, entry_eq-refl}
 
 -- ---- equal rows are the same
 

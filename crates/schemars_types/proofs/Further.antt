@@ -1,19 +1,7 @@
 -- What is known of the rows of a checked table stays as rows join, so that only these need a look.
 use Rattle.std.proofs.Common.{◌≡◌, ◌<◌, ◌≤◌, ◌∙◌, inl, inr, ℕ, zero, suc, List, [], ◌∷◌, ◌++◌, Option, Some, None, IsSome, false, true≢false, length, take, Contains, MatchOption, refl, ap, sym, subst, arith}
-use Rattle.std.specs.Prelude.{option_and_then}
-use Rattle.std.specs.Option.{option_map_or}
-use Rattle.std.proofs.lemmas.Bool.{cases_lt}
-use Rattle.std.proofs.lemmas.List.Elements.{Contains-append_cases}
-use Rattle.schemars_schema.specs.Json.{Text}
-use Rattle.schemars_shapes.specs.Repeated.{AreDistinctLists, IsFirstRepeated}
-use Rattle.schemars_shapes.specs.Shape.{Entry, numbers_of, same_value_numbers, flattened_numbers, asked_numbers, option_of, names_of}
-use Rattle.schemars_types.specs.Rows.{Row, entry_at}
-use Rattle.schemars_types.specs.Walks.{Walk, one, then, Leads, OnCycle, IsFree, IsLeast, FaultFrom, EdgeFrom}
-use Rattle.schemars_types.specs.Edges.{option_at, below_within, below, below_all, asked_in, asked_at, DirectEdge, SameValueEdge, height, rank, names_at}
-use Rattle.schemars_types.specs.EdgeKind.{targets_along}
+use Rattle.schemars_types.proofs.Words.{option_and_then, option_map_or, cases_lt, Contains-append_cases, Text, AreDistinctLists, IsFirstRepeated, Entry, numbers_of, same_value_numbers, flattened_numbers, asked_numbers, option_of, names_of, Row, entry_at, Walk, one, then, Leads, OnCycle, IsFree, IsLeast, FaultFrom, EdgeFrom, option_at, below_within, below, below_all, asked_in, asked_at, DirectEdge, SameValueEdge, height, rank, names_at, targets_along, IsUndefined, HasRepeated, OnDirectCycle, OnEmptyCycle, IsChecked, Contains-later, nothing_among, walk_along}
 use Rattle.schemars_types.specs.declared.check.faults.EdgeKind.TheVariants.{Direct, SameValue}
-use Rattle.schemars_types.specs.Faults.{IsUndefined, HasRepeated, OnDirectCycle, OnEmptyCycle, IsChecked}
-use Rattle.schemars_types.proofs.GraphLemmas.{Contains-later, nothing_among, walk_along}
 use Rattle.schemars_types.proofs.EdgeLemmas.{Contains-cons, to_direct}
 use Rattle.schemars_types.proofs.Asked.{asked, asked_number, flattened_number, option_asked}
 use Rattle.schemars_types.proofs.Settling.{entry_at-take, length-take}

@@ -1,8 +1,6 @@
 -- Borrowed texts, joined.
 use Rattle.std.proofs.Common.{◌≡◌, ◌≤◌, ℕ, Bor, List, [], ◌∷◌, ◌++◌, map, drop, length, refl, sym, ap, ◌∙◌, append-nil}
-use Rattle.std.proofs.lemmas.List.{drop_all}
-use Rattle.std.specs.List.{join_by, flat_map}
-use Rattle.schemars_schema.specs.Json.{Text}
+use Rattle.schemars_types.proofs.Words.{drop_all, join_by, flat_map, Text}
 
 behind_same : (sep : Text) (xs : List (Bor (List ℕ))) → flat_map (λ t. sep ++ t.now) xs ≡ flat_map (λ t. sep ++ t) (map (λ t. t.now) xs)
 behind_same sep [] = refl

@@ -1,6 +1,3 @@
-pub mod GraphLemmas
-pub mod Reaching
-pub mod Heights
 pub mod EdgeLemmas
 pub mod Names
 pub mod Joined
@@ -22,3 +19,4 @@ pub mod Further
 pub mod Options
 pub mod Shapes
 mod Examples
+mod Words

@@ -1,18 +1,6 @@
 -- Names that differ, and names that stand twice.
 use Rattle.std.proofs.Common.{◌≡◌, ◌<◌, ◌≤◌, ◌+◌, ◌∙◌, ◌⊎◌, inl, inr, ℕ, zero, suc, List, [], ◌∷◌, ◌++◌, Bool, true, false, Option, Some, None, is_some, option_map, option_and_then, length, take, get_or, refl, sym, ap, subst, arith, true≢false}
-use Rattle.std.specs.List.{IsDistinct, list_any}
-use Rattle.std.specs.Str.{bytes_eq}
-use Rattle.std.proofs.lemmas.Bool.{cases_lt}
-use Rattle.std.proofs.lemmas.Cmp.{nat_list_eq_equiv}
-use Rattle.std.proofs.lemmas.List.{take_more, take_all}
-use Rattle.std.proofs.lemmas.Map.Keys.{IsDistinct-push, apart_from_distinct}
-use Rattle.std.proofs.lemmas.Option.{slice_get_within, slice_get_past, slice_get-get_or, get_or_from_slice_get}
-use Rattle.std.proofs.lemmas.Slice.Eq.{bytes_eq-Decides}
-use Rattle.schemars_schema.specs.Json.{Text}
-use Rattle.schemars_shapes.specs.Repeated.{IsRepeated, AreDistinctLists, IsFirstRepeated}
-use Rattle.schemars_shapes.proofs.FieldLemmas.{Contains-from_any}
-use Rattle.schemars_types.specs.Rows.{Row, entry_at}
-use Rattle.schemars_types.specs.Edges.{names_at}
+use Rattle.schemars_types.proofs.Words.{IsDistinct, list_any, bytes_eq, cases_lt, nat_list_eq_equiv, take_more, take_all, IsDistinct-push, apart_from_distinct, slice_get_within, slice_get_past, slice_get-get_or, get_or_from_slice_get, bytes_eq-Decides, Text, IsRepeated, AreDistinctLists, IsFirstRepeated, Contains-from_any, Row, entry_at, names_at}
 
 take_at : (names : List Text) (place k : ℕ) (d : Text) → k < length (take place names)
     → (get_or (take place names) k d ≡ get_or names k d) × (k < place)

@@ -1,8 +1,6 @@
 -- A row without the Options around it.
 use Rattle.std.proofs.Common.{◌≡◌, ℕ, zero, suc, List, Some, None, ap, refl}
-use Rattle.schemars_types.specs.Rows.{Row}
-use Rattle.schemars_types.specs.Edges.{option_at}
-use Rattle.schemars_types.specs.Effective.{without_options_within}
+use Rattle.schemars_types.proofs.Words.{Row, option_at, without_options_within}
 
 pub stops : (rows : List Row) (steps n : ℕ) → option_at rows n ≡ None → without_options_within rows steps n ≡ n
 stops rows zero n none = refl

@@ -1,14 +1,8 @@
 -- What `define` answers for a row that was just reserved.
 use Rattle.std.proofs.Common.{◌≡◌, ◌<◌, ◌≤◌, ◌+◌, ℕ, List, [], ◌∷◌, ◌++◌, length, find, nat_le, Bool, true, false, Option, Some, None, cond, if◌then◌else◌, refl, ap, ◌∙◌, sym, subst, arith, length-append}
-use Rattle.std.proofs.lemmas.Bool.Decides.{nat_tests}
-use Rattle.std.specs.List.{position_from}
-use Rattle.std.specs.Str.{bytes_eq}
-use Rattle.schemars_schema.specs.Json.{Text}
+use Rattle.schemars_types.proofs.Words.{nat_tests, position_from, bytes_eq, Text, Shape, Entry, numbers_of, Row, place_of, entry_at, reserved, unknown_in, holds_another, Refuses, refusal_of}
 use Rattle.schemars_types.specs.declared.error.TypesError.{TypesError}
 use Rattle.schemars_types.specs.declared.error.TypesError.TheVariants.{AlreadyDefined}
-use Rattle.schemars_shapes.specs.Shape.{Shape, Entry, numbers_of}
-use Rattle.schemars_types.specs.Rows.{Row, place_of, entry_at, reserved, unknown_in, holds_another}
-use Rattle.schemars_types.specs.Refusals.{Refuses, refusal_of}
 use Rattle.schemars_types.proofs.TableLemmas.{place_of-reserved, reserved-absent}
 
 below_from : (test : Row → Bool) (rows : List Row) (i n : ℕ) → position_from test i rows ≡ Some n → n < i + length rows

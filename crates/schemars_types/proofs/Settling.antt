@@ -1,15 +1,7 @@
 -- Options that more steps and further rows leave as they are.
 use Rattle.std.proofs.Common.{◌≡◌, ◌<◌, ◌≤◌, ◌∙◌, inl, inr, ℕ, zero, suc, List, [], ◌∷◌, Option, Some, None, length, take, Contains, refl, ap, sym, subst, arith}
-use Rattle.std.specs.Prelude.{option_map, option_and_then}
-use Rattle.std.specs.Option.{option_map_or}
-use Rattle.std.proofs.lemmas.Bool.{cases_eq}
-use Rattle.std.proofs.lemmas.List.Elements.{Contains-append_left, Contains-append_right}
+use Rattle.schemars_types.proofs.Words.{option_map, option_and_then, option_map_or, cases_eq, Contains-append_left, Contains-append_right, Shape, Entry, Variant, Payload, newtype_payload, payload_same, of_variants, same_value_numbers, Row, entry_at, RefersWithin, rank, IsChecked, KeyOptions, any_text, or_any_text, either_options, member_options, members_options, shape_options, options_within, all_options, key_options, distinct_options}
 use Rattle.schemars_shapes.specs.Shape as shape
-use Rattle.schemars_shapes.specs.Shape.{Shape, Entry, Variant, Payload, newtype_payload, payload_same, of_variants, same_value_numbers}
-use Rattle.schemars_types.specs.Rows.{Row, entry_at}
-use Rattle.schemars_types.specs.Edges.{RefersWithin, rank}
-use Rattle.schemars_types.specs.Faults.{IsChecked}
-use Rattle.schemars_types.specs.KeyOptions.{KeyOptions, any_text, or_any_text, either_options, member_options, members_options, shape_options, options_within, all_options, key_options, distinct_options}
 use Rattle.schemars_types.proofs.Asked.{asked, entry_low}
 
 -- ---- options depend on the rows that are asked alone

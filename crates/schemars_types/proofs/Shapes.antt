@@ -2,12 +2,7 @@
 use Rattle.std.proofs.Common.{◌≡◌, ◌∙◌, ℕ, List, Some, Contains, ap, sym, subst}
 use Rattle.schemars_shapes.specs.declared.shape.Shape as src-shape
 use Rattle.schemars_shapes.specs.declared.shape.TypeEntry as src-entry
-use Rattle.schemars_shapes.specs.Shape.{entry_of, shape_of, same_value_numbers}
-use Rattle.schemars_types.specs.Rows.{Row, entry_at}
-use Rattle.schemars_types.specs.Edges.{SameValueEdge}
-use Rattle.schemars_types.specs.Faults.{IsChecked}
-use Rattle.schemars_types.specs.KeyOptions.{all_options, or_any_text, shape_options}
-use Rattle.schemars_types.specs.Found.{options_at}
+use Rattle.schemars_types.proofs.Words.{entry_of, shape_of, same_value_numbers, Row, entry_at, SameValueEdge, IsChecked, all_options, or_any_text, shape_options, options_at}
 use Rattle.schemars_types.proofs.Asked.{asked}
 use Rattle.schemars_types.proofs.Settling.{all_options-shape}
 

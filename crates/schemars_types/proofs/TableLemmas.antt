@@ -1,21 +1,10 @@
 -- The rows of a table against the entries of its map: where an id stands, and a row that joins or is written.
 use Rattle.std.proofs.Common.{◌≡◌, ◌+◌, ℕ, zero, suc, List, [], ◌∷◌, ◌++◌, length, map, slice_get, Bool, true, false, Some, None, cond, option_map, String, string_bytes, refl, ap, ◌∙◌, sym, arith, position}
 use Rattle.std.specs.declared.alloc.Global.{Global}
-use Rattle.std.specs.List.{position_from, AllByRecursion, IsDistinct}
-use Rattle.std.specs.Map.{keys_of, values_of}
-use Rattle.std.specs.Str.{bytes_eq}
-use Rattle.std.specs.String.{string_eq}
-use Rattle.std.proofs.lemmas.Iterator.Adapters.{position_from-zero}
-use Rattle.std.proofs.lemmas.Slice.Eq.{bytes_eq-Decides}
-use Rattle.indexmap.specs.IndexMap.{insert_entry, set_value_at}
-use Rattle.schemars_schema.specs.Json.{Text}
-use Rattle.schemars_text.proofs.Members.{bytes_eq_comm}
+use Rattle.schemars_types.proofs.Words.{position_from, AllByRecursion, IsDistinct, keys_of, values_of, bytes_eq, string_eq, position_from-zero, bytes_eq-Decides, insert_entry, set_value_at, Text, bytes_eq_comm, Entry, entry_of, Row, place_of, entry_at, reserved, defined, HasDistinctIds, row_of}
 use Rattle.schemars_types.specs.declared.table.slots.NamedEntry.{NamedEntry}
 use Rattle.schemars_types.specs.declared.table.slots.Slot.{Slot}
 use Rattle.schemars_shapes.specs.declared.shape.TypeEntry.{TypeEntry}
-use Rattle.schemars_shapes.specs.Shape.{Entry, entry_of}
-use Rattle.schemars_types.specs.Rows.{Row, place_of, entry_at, reserved, defined, HasDistinctIds}
-use Rattle.schemars_types.specs.Slots.{row_of}
 
 place_from : (id : Text) (slots : List (String Global × Slot)) (i : ℕ)
     → position_from (λ k. bytes_eq id (string_bytes k)) i (keys_of slots) ≡ position_from (λ r. bytes_eq r.id id) i (map row_of slots)

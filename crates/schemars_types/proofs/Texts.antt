@@ -1,13 +1,7 @@
 -- Texts that join a list one after another, each once.
 use Rattle.std.proofs.Common.{◌≡◌, ◌||◌, ◌&&◌, ◌∙◌, List, [], ◌∷◌, ◌++◌, Bool, true, false, not, cond, filter, refl, ap, sym, true≢false, append-nil}
 use Rattle.std.specs.Prelude.{bytes_eq}
-use Rattle.std.specs.List.{list_any}
-use Rattle.std.proofs.lemmas.List.Folds.{list_any-append}
-use Rattle.std.proofs.lemmas.Slice.Eq.{bytes_eq-Decides}
-use Rattle.indexmap.specs.IndexSet.{insert_key, insert_all}
-use Rattle.schemars_schema.specs.Json.{Text}
-use Rattle.schemars_types.specs.KeyOptions.{once}
-use Rattle.schemars_types.specs.Found.{AreListed}
+use Rattle.schemars_types.proofs.Words.{list_any, list_any-append, bytes_eq-Decides, insert_key, insert_all, Text, once, AreListed}
 
 pub listed_last : (p : Text → Bool) (ts : List Text) (u : Text) → p u ≡ true → list_any p (ts ++ u ∷ []) ≡ true
 listed_last p [] u is = rw is refl

@@ -1,12 +1,8 @@
 -- The rows of a time's numbers are rows of the table that its own row joins.
 use Rattle.std.proofs.Common.{◌≡◌, ◌<◌, ◌≤◌, ℕ, List, [], ◌∷◌, ◌++◌, Bool, true, false, None, length, find, nat_le, is_some, if◌then◌else◌, ap, ◌∙◌, sym, subst, arith, Result, Ok, Err, IfErr, OnErr}
-use Rattle.schemars_schema.specs.Json.{Text}
+use Rattle.schemars_types.proofs.Words.{Text, Entry, Row, place_of, reserved, unknown_in, Registers, Refuses, RegistersInt, RefusesTime, refuses_time, time_entry}
 use Rattle.schemars_shapes.specs.declared.shape.IntKind.TheVariants.{U32, U64}
-use Rattle.schemars_shapes.specs.Shape.{Entry}
-use Rattle.schemars_types.specs.Rows.{Row, place_of, reserved, unknown_in}
-use Rattle.schemars_types.specs.Refusals.{Registers, Refuses}
 use Rattle.schemars_types.specs.declared.error.TypesError.{TypesError}
-use Rattle.schemars_types.specs.Times.{RegistersInt, RefusesTime, refuses_time, time_entry}
 use Rattle.schemars_types.proofs.Registered.{place_of-below, nat_le-above}
 use Rattle.schemars_types.proofs.Within.{length-joined, length-defined}
 

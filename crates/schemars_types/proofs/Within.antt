@@ -1,11 +1,7 @@
 -- Every number in an entry stays a row's as rows join and are defined.
 use Rattle.std.proofs.Common.{◌≡◌, ◌<◌, ◌≤◌, ◌⊎◌, inl, inr, ℕ, zero, suc, List, [], ◌∷◌, ◌++◌, Bool, true, false, Some, None, cond, length, find, nat_le, is_some, Contains, refl, ap, arith, if◌then◌else◌}
-use Rattle.std.proofs.lemmas.Bool.{leb-false}
-use Rattle.schemars_schema.specs.Json.{Text}
-use Rattle.schemars_types.proofs.GraphLemmas.{nothing_among}
-use Rattle.schemars_shapes.specs.Shape.{Entry, numbers_of}
-use Rattle.schemars_types.specs.Rows.{Row, place_of, unknown_in, reserved, defined}
-use Rattle.schemars_types.specs.Edges.{numbers_at, RefersWithin}
+use Rattle.schemars_types.proofs.Words.{leb-false, Text, Entry, numbers_of, Row, place_of, unknown_in, reserved, defined, numbers_at, RefersWithin}
+use Rattle.schemars_cycles.proofs.GraphLemmas.{nothing_among}
 
 -- ---- a row joins
 

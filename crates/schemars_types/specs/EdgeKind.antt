@@ -1,7 +1,7 @@
 -- The edges of a table by their kind.
 use Rattle.std.specs.Prelude.{◌≡◌, ◌<◌, ◌≤◌, ◌⊎◌, ℕ, ◌+◌, List, [], ◌++◌, filter, Contains}
 use Rattle.schemars_types.specs.Rows.{Row}
-use Rattle.schemars_types.specs.Search.{counted_from}
+use Rattle.schemars_types.specs.LaterRows.{counted_from}
 use Rattle.schemars_types.specs.Edges.{numbers_at, is_inline_at, asked_at, is_row, same_value_numbers_at}
 use Rattle.schemars_types.specs.declared.check.faults.EdgeKind.{EdgeKind}
 use Rattle.schemars_types.specs.declared.check.faults.EdgeKind.TheVariants.{Direct, SameValue}

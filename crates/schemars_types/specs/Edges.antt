@@ -4,7 +4,7 @@ use Rattle.std.specs.Option.{option_map_or}
 use Rattle.schemars_schema.specs.Json.{Text}
 use Rattle.schemars_shapes.specs.Shape.{Shape, numbers_of, same_value_numbers, flattened_numbers, asked_numbers, option_of, names_of}
 use Rattle.schemars_types.specs.Rows.{Row, entry_at}
-use Rattle.schemars_types.specs.Walks.{longest}
+use Rattle.schemars_cycles.specs.Walks.{longest}
 
 -- the numbers in row n's entry; none where it has no entry
 abbrev pub numbers_at : List Row → ℕ → List ℕ

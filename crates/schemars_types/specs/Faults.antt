@@ -4,7 +4,7 @@ use Rattle.std.specs.Prelude.{◌<◌, ◌≤◌, ℕ, List, length, IsSome, str
 use Rattle.schemars_schema.specs.Json.{Text}
 use Rattle.schemars_types.specs.Rows.{Row, entry_at}
 pub use Rattle.schemars_types.specs.Undefined.{IsUndefined}
-use Rattle.schemars_types.specs.Walks.{OnCycle, IsFree, IsLeast}
+use Rattle.schemars_cycles.specs.Walks.{OnCycle, IsFree, IsLeast}
 use Rattle.schemars_shapes.specs.Repeated.{AreDistinctLists, IsFirstRepeated}
 use Rattle.schemars_types.specs.Edges.{RefersWithin, DirectEdge, SameValueEdge, height, rank, names_at}
 use Rattle.schemars_types.specs.declared.error.TypesError.{TypesError}

@@ -1,6 +1,5 @@
 pub mod SameContract
-pub mod Walks
-pub mod Search
+pub mod LaterRows
 pub mod Rows
 pub mod Slots
 pub mod Extends
@@ -17,3 +16,4 @@ pub mod Meaning
 pub mod OpenStructs
 pub mod Faults
 pub mod Found
+pub mod Words

@@ -9,7 +9,8 @@ use Rattle.serde_json.specs.Events.{items_len}
 use Rattle.schemars_schema.specs.Json.{Text, are_distinct}
 use Rattle.schemars_schema.specs.SchemaData.{is_schema}
 use Rattle.schemars_schema.specs.Edits.{without}
-use Rattle.schemars_schema.specs.Acceptance.{Patterns, is_null, whole_number, code_points}
+use Rattle.schemars_schema.specs.Judges.{Patterns}
+use Rattle.schemars_schema.specs.Assertions.{is_null, whole_number, code_points}
 use Rattle.schemars_schema.specs.Literal.{has_literal}
 use Rattle.schemars_shapes.specs.Shape.{Required, Field, Flattened, Tagging, Shape, null, bool, int, non_zero, number, text, char, formatted, any, bytes, schema_itself, option, seq, set, array as array_shape, up_to, tuple, struct, newtype, result, bound, range, either, map_from, enum, by_name, by_nothing, by_tag, by_tag_and_content, literal, Payload, Variant, no_payload, newtype_payload, tuple_payload, struct_payload}
 use Rattle.schemars_types.specs.KeyOptions.{KeyOptions, is_key_allowed, key_options}

@@ -3,7 +3,7 @@
 use Rattle.std.specs.Prelude.{ℕ, zero, suc, ◌+◌, ◌*◌, List, [], length, map, Bool, false, Some, None}
 use Rattle.std.specs.Option.{option_map_or}
 use Rattle.serde_json.specs.Data.{Data, depth}
-use Rattle.schemars_schema.specs.Acceptance.{Patterns}
+use Rattle.schemars_schema.specs.Judges.{Patterns}
 use Rattle.schemars_shapes.specs.Shape.{Field, Flattened, Fields, Shape, struct, enum, Payload, Variant, no_payload, newtype_payload, tuple_payload, struct_payload}
 use Rattle.schemars_types.specs.KeyOptions.{key_options}
 use Rattle.schemars_types.specs.Rows.{Row, entry_at}

@@ -2,9 +2,7 @@
 ghost use Rattle.std.specs.Prelude.{◌≡◌, ◌⊎◌, take, OnOk, IfErr};
 ghost use Rattle.schemars_types.specs.Faults.{IsAccepted, IsChecked, Refusal};
 
-pub(crate) mod cycles;
 pub(crate) mod faults;
-pub(crate) mod fields;
 
 use crate::check::faults::{EdgeKind, first_on_cycle, first_repeated, first_undefined};
 use crate::error::TypesError;

@@ -1,5 +1,6 @@
 //! The constructors of rows.
 mod containers;
+mod fields;
 mod fixed;
 mod register;
 mod scalars;

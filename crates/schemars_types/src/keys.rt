@@ -1,13 +1,6 @@
 //! Which keys the type of a row allows.
 ghost use Rattle.std.specs.Prelude.{◌≡◌, ℕ, [], None, IfOk, OnOk, Contains, map, option_map, option_and_then, false, is_none, is_some};
-ghost use Rattle.schemars_shapes.specs.Shape.{variant_of, payload_of, newtype_payload, payload_same, of_variants};
-ghost use Rattle.schemars_schema.specs.Acceptance.{texts_in};
-ghost use Rattle.schemars_types.specs.Edges.{SameValueEdge};
-ghost use Rattle.schemars_types.specs.Faults.{IsChecked};
-ghost use Rattle.schemars_types.specs.KeyOptions.{keys, are_names, external_options, untagged_options, all_options, member_options, key_options, or_any_text, typed_options, literal_texts, texts_options, literal_integers};
-ghost use Rattle.serde_json.specs.Find.{as_str, get};
-ghost use Rattle.serde_json.specs.View.{items_view};
-ghost use Rattle.schemars_types.specs.Found.{options_of, options_at, adding, some_takes_all, HoldsRows};
+ghost use Rattle.schemars_types.specs.Words.{variant_of, payload_of, newtype_payload, payload_same, of_variants, texts_in, SameValueEdge, IsChecked, keys, are_names, external_options, untagged_options, all_options, member_options, key_options, or_any_text, typed_options, literal_texts, texts_options, literal_integers, as_str, get, items_view, options_of, options_at, adding, some_takes_all, HoldsRows};
 
 pub(crate) mod options;
 

@@ -1,11 +1,5 @@
 ghost use Rattle.std.specs.Prelude.{◌≡◌, ◌≢◌, ◌<◌, ◌↔◌, [], length, take, map, false, None, Some, IsTrue, IfOk, OnOk, OnErr, IfErr, Err, option_map, string_bytes, slice_get};
-ghost use Rattle.schemars_shapes.specs.Shape.{entry_of, shape_of};
-ghost use Rattle.schemars_types.specs.Rows.{place_of, entry_at, unknown_in, reserved, defined, HasDistinctIds};
-ghost use Rattle.schemars_types.specs.Edges.{RefersWithin};
-ghost use Rattle.schemars_types.specs.Refusals.{first_unknown, refusal_of};
-ghost use Rattle.schemars_types.specs.Extends.{begins_with, rows_have_float};
-ghost use Rattle.schemars_types.specs.Slots.{row_of};
-ghost use Rattle.std.specs.Result.{result_err};
+ghost use Rattle.schemars_types.specs.Words.{entry_of, shape_of, place_of, entry_at, unknown_in, reserved, defined, HasDistinctIds, RefersWithin, first_unknown, refusal_of, begins_with, rows_have_float, row_of, result_err};
 
 pub(crate) mod slots;
 pub(crate) mod texts;

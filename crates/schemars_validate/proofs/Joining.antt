@@ -1,9 +1,8 @@
 -- What several schemas say, taken one after another.
 use Rattle.std.proofs.Common.{◌≡◌, List, [], ◌∷◌, ◌++◌, refl, sym, ap, ◌∙◌, append_assoc}
-use Rattle.schemars_schema.specs.Verdict.{Verdict, Yes, No, Open, both, opposite, all_of, none_of, one_of}
-use Rattle.schemars_schema.proofs.Verdicts.{both-yes, both-swap, both-assoc}
+use Rattle.schemars_validate.proofs.Words.{Verdict, Yes, No, Open, both, opposite, all_of, none_of, one_of, both-yes, both-swap, both-assoc, SoFar, with_one, with_each, joined_by, taken_by}
 use Rattle.schemars_validate.specs.declared.joined.Join as join
-use Rattle.schemars_validate.specs.Joined.{SoFar, one_more, with_one, with_each, joined_by, taken_by}
+use Rattle.schemars_validate.specs.Joined.{one_more}
 
 abbrev of_list : List Verdict → SoFar
 of_list xs = record { all = all_of xs; none = none_of xs; one = one_of xs }

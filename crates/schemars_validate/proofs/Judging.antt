@@ -1,20 +1,6 @@
 -- How a schema judges, by the parts of its keywords.
 use Rattle.std.proofs.Common.{◌≡◌, ℕ, zero, suc, ◌-◌, ◌<◌, List, [], ◌∷◌, length, Bool, true, false, Option, Some, None, refl, sym, ap, ◌∙◌, arith}
-use Rattle.std.proofs.Math.Path.{fun_ext}
-use Rattle.std.proofs.lemmas.Bool.Decides.{nat_tests}
-use Rattle.std.specs.Prelude.{◌&&◌, ◌||◌, not, nat_lt, is_some, option_map, option_and_then, if◌then◌else◌, map, codes}
-use Rattle.serde_json.specs.Data.{Data, null, boolean, number, string, array, object, Items, no_items, item, Members, no_members, member}
-use Rattle.serde_json.specs.Events.{items_len}
-use Rattle.serde_json.specs.Find.{get_member, get_item, as_str, as_array, as_object}
-use Rattle.schemars_schema.specs.Json.{Text}
-use Rattle.schemars_schema.specs.Lookup.{resolved}
-use Rattle.schemars_schema.specs.Verdict.{Verdict, Yes, No, Open, both, opposite, all_of, any_of, one_of, is_yes}
-use Rattle.schemars_schema.specs.Acceptance.{Dialect, Patterns, Context, Judge, Part, key, position, Raw, context, judge, all_keywords, reference_alone, is_reference, follow, unanswered, read_data, where_some, each_member, each_item_left, reference_says, judged_by, judged_by_some, judged_by_list, judged_by_position, judged_by_items, judged_by_contains, judged_by_reference, judged_itself, judged_beside, judges_rest, unevaluated_properties_say, unevaluated_items_say, has_schema, schema_named, matches_some, is_covered, named_in, Reading, contains_says, count_of_fitting, condition_says, dependencies_say, reads_dependencies, chosen, schema_says, branch_of, judged_by_schema, judged_by_condition, judged_by_dependents, beside_members}
-use Rattle.schemars_schema.proofs.Verdicts.{both-yes, both-assoc}
-use Rattle.schemars_schema.proofs.Objects.{says, judge-object}
-use Rattle.schemars_validate.specs.Schemas.{schema_at, schemas_in, schemas_by_name, schema_where_read, schemas_where_read, schema_of_rest, judge_at, judges_in, named_judges, named_judges_in, judges_of, judges_among_in}
-use Rattle.schemars_validate.specs.Judged.{keys_in, positions_in, parts_of, marked, unmarked, each_unmarked, each_unmarked_item, unmarked_by, at_keys, at_positions, is_placed, fits_at, is_named, is_matched, is_taken, judged_by_one, judged_beside_members}
-use Rattle.schemars_validate.specs.Parts.{by_itself, by_keys, inside, besides, names_by, dependents_by, reads, items_by, members_by, first_schemas, other_schema, items_or_none, counted_says}
+use Rattle.schemars_validate.proofs.Words.{fun_ext, nat_tests, ◌&&◌, ◌||◌, not, nat_lt, is_some, option_map, option_and_then, if◌then◌else◌, map, codes, Data, null, boolean, number, string, array, object, Items, no_items, item, Members, no_members, member, items_len, get_member, get_item, as_str, as_array, as_object, Text, resolved, Verdict, Yes, No, Open, both, opposite, all_of, any_of, one_of, is_yes, Dialect, reads_dependencies, Patterns, Context, Judge, Part, key, position, Raw, where_some, each_member, Reading, each_item_left, reference_says, unevaluated_properties_say, unevaluated_items_say, schema_named, matches_some, is_covered, named_in, contains_says, count_of_fitting, condition_says, dependencies_say, chosen, schema_says, beside_members, judged_by, judged_by_some, judged_by_list, judged_by_position, judged_by_items, judged_by_contains, judged_by_reference, judged_itself, judged_beside, judges_rest, has_schema, branch_of, judged_by_schema, judged_by_condition, judged_by_dependents, context, judge, all_keywords, reference_alone, is_reference, follow, unanswered, read_data, both-yes, both-assoc, says, judge-object, schema_at, schemas_in, schemas_by_name, schema_where_read, schemas_where_read, schema_of_rest, judge_at, judges_in, named_judges, named_judges_in, judges_of, judges_among_in, keys_in, positions_in, parts_of, marked, unmarked, each_unmarked, each_unmarked_item, unmarked_by, at_keys, at_positions, is_placed, fits_at, is_named, is_matched, is_taken, judged_by_one, judged_beside_members, by_itself, by_keys, inside, besides, names_by, dependents_by, reads, items_by, members_by, first_schemas, other_schema, items_or_none, counted_says}
 use Rattle.schemars_validate.proofs.Readings.{read_items_say, read_members_say, read_each, read_one, read_names, read_contains, read_condition, read_among, all_among, read_where_read, read_named, read_schema, read_listed, list_no_schema, named_in-read, named-judges, matched-judges, read_additional}
 
 -- ---- an object

@@ -1,17 +1,7 @@
 -- Marks that are set one after another.
 use Rattle.std.proofs.Common.{◌≡◌, ℕ, zero, suc, ◌+◌, ◌<◌, ◌≤◌, min, List, [], ◌∷◌, ◌++◌, length, replicate, take, drop, set, get_or, Bool, true, false, Option, Some, None, refl, sym, ap, ◌∙◌, add-one, arith}
-use Rattle.std.proofs.lemmas.Bool.Decides.{nat_tests}
-use Rattle.std.specs.Prelude.{◌&&◌, ◌||◌, if◌then◌else◌, nat_lt, is_some}
-use Rattle.serde_json.specs.Data.{Data, null, boolean, number, string, array, object, Items, no_items, item, Members, no_members, member}
-use Rattle.serde_json.specs.Events.{items_len}
-use Rattle.serde_json.specs.Find.{get_item, as_array, as_object}
-use Rattle.serde_json.specs.View.{view, items_view, members_view}
+use Rattle.schemars_validate.proofs.Words.{nat_tests, ◌&&◌, ◌||◌, if◌then◌else◌, nat_lt, is_some, Data, null, boolean, number, string, array, object, Items, no_items, item, Members, no_members, member, items_len, get_item, as_array, as_object, view, items_view, members_view, Entry, Text, Verdict, is_yes, Part, position, Judge, marked, unmarked, first_marked, keys_in, positions_in, parts_of, at_keys, at_positions, is_placed, fits_at}
 use Rattle.serde_json.specs.declared.value.Value.{Value}
-use Rattle.serde_json.proofs.Views.{Entry}
-use Rattle.schemars_schema.specs.Json.{Text}
-use Rattle.schemars_schema.specs.Verdict.{Verdict, is_yes}
-use Rattle.schemars_schema.specs.Acceptance.{Part, position, Judge}
-use Rattle.schemars_validate.specs.Judged.{marked, unmarked, first_marked, keys_in, positions_in, parts_of, at_keys, at_positions, is_placed, fits_at}
 
 or_off : (b : Bool) → (b || false) ≡ b
 or_off true = refl

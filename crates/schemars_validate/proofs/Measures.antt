@@ -1,16 +1,6 @@
 -- The work that is left: references, and then the depth of the schema.
 use Rattle.std.proofs.Common.{◌≡◌, ℕ, zero, suc, ◌+◌, ◌-◌, ◌*◌, ◌<◌, ◌≤◌, max, [], ◌∷◌, ◌++◌, Bool, true, false, Option, Some, None, refl, arith}
-use Rattle.std.specs.Prelude.{◌==◌, is_some, option_and_then, if◌then◌else◌, bytes_eq, codes}
-use Rattle.serde_json.specs.Data.{Data, null, boolean, number, string, array, object, Items, no_items, item, Members, no_members, member, depth, items_depth, members_depth}
-use Rattle.serde_json.specs.Find.{get_member, as_object, get_item, step, walk, pointer, index_of, unescape}
-use Rattle.schemars_text.proofs.Members.{get_member-member}
-use Rattle.schemars_schema.specs.Json.{Text}
-use Rattle.schemars_schema.specs.SchemaData.{is_schema}
-use Rattle.schemars_schema.specs.Encoding.{lookup, percent_decoded}
-use Rattle.schemars_schema.specs.Lookup.{resolved}
-use Rattle.schemars_schema.specs.Acceptance.{when}
-use Rattle.schemars_validate.specs.Schemas.{are_schemas, are_named_schemas, schema_at, schemas_in, schemas_by_name, schema_where_read, schemas_where_read, members_where_read, schema_of_rest}
-use Rattle.schemars_validate.specs.Parts.{first_schemas, other_schema, items_or_none}
+use Rattle.schemars_validate.proofs.Words.{◌==◌, is_some, option_and_then, if◌then◌else◌, bytes_eq, codes, Data, null, boolean, number, string, array, object, Items, no_items, item, Members, no_members, member, depth, items_depth, members_depth, get_member, as_object, get_item, step, walk, pointer, index_of, unescape, get_member-member, Text, is_schema, lookup, percent_decoded, resolved, when, are_schemas, are_named_schemas, schema_at, schemas_in, schemas_by_name, schema_where_read, schemas_where_read, members_where_read, schema_of_rest, first_schemas, other_schema, items_or_none}
 
 abbrev pub depth_at : Option Data → ℕ
 depth_at None = 0

@@ -1,18 +1,6 @@
 -- What is read of a keyword's value, by the schemas that stand there.
 use Rattle.std.proofs.Common.{◌≡◌, ℕ, List, [], ◌∷◌, Bool, true, false, Option, Some, None, refl, sym, ap, ◌∙◌}
-use Rattle.std.specs.Prelude.{◌&&◌, ◌||◌, is_some, option_map, option_and_then, if◌then◌else◌, bytes_eq, unwrap_or, length, map, codes}
-use Rattle.serde_json.specs.Data.{Data, null, boolean, number, string, array, object, Items, no_items, item, Members, no_members, member}
-use Rattle.serde_json.specs.Find.{get_member, as_array, as_object, as_bool}
-use Rattle.schemars_text.proofs.Members.{get_member-member}
-use Rattle.schemars_schema.specs.Json.{Text}
-use Rattle.schemars_schema.specs.SchemaData.{is_schema}
-use Rattle.schemars_schema.specs.Lookup.{schema_only}
-use Rattle.schemars_schema.specs.Verdict.{Verdict, Yes, both}
-use Rattle.schemars_schema.specs.Acceptance.{Context, Judge, Reading, Patterns, Raw, judge, read_data, read_items, read_members, all_named, both_some, truth_value, where_some, when, by_position, each_past, items_say, positions_say, past_say, past_list_say, count_of_positions, each_says, schema_says, condition_says, chosen, contains_says, count_of_fitting, where_read, property_names_say, dependent_schemas_say, dependencies_say, dependent_required_says, with_schema, some_named, schema_named, matches_some, by_patterns, each_member, named_in, properties_say, pattern_properties_say, additional_properties_say, is_covered, matches}
-use Rattle.schemars_schema.proofs.Verdicts.{both-yes, both-assoc, both-middle}
-use Rattle.schemars_validate.specs.Schemas.{are_schemas, are_named_schemas, schema_at, schemas_in, schemas_by_name, schema_where_read, schemas_where_read, members_where_read, judge_at, judges_of, named_judges, named_judges_in, judges_among, judges_among_in}
-use Rattle.schemars_validate.specs.Judged.{is_named, matches_one, is_matched}
-use Rattle.schemars_validate.specs.Parts.{each_item, items_by, items_or_none, first_schemas, other_schema, member_by, members_by, reads, names_by, dependents_by, counted_says}
+use Rattle.schemars_validate.proofs.Words.{◌&&◌, ◌||◌, is_some, option_map, option_and_then, if◌then◌else◌, bytes_eq, unwrap_or, length, map, codes, Data, null, boolean, number, string, array, object, Items, no_items, item, Members, no_members, member, get_member, as_array, as_object, as_bool, get_member-member, Text, is_schema, schema_only, Verdict, Yes, both, Context, Judge, Reading, Patterns, Raw, where_some, when, where_read, each_member, matches, dependent_required_says, by_position, each_past, items_say, positions_say, past_say, past_list_say, count_of_positions, each_says, schema_says, condition_says, chosen, contains_says, count_of_fitting, property_names_say, dependent_schemas_say, dependencies_say, schema_named, matches_some, by_patterns, named_in, properties_say, pattern_properties_say, additional_properties_say, is_covered, judge, read_data, read_items, read_members, all_named, both_some, truth_value, with_schema, some_named, both-yes, both-assoc, both-middle, are_schemas, are_named_schemas, schema_at, schemas_in, schemas_by_name, schema_where_read, schemas_where_read, members_where_read, judge_at, judges_of, named_judges, named_judges_in, judges_among, judges_among_in, is_named, matches_one, is_matched, each_item, items_by, items_or_none, first_schemas, other_schema, member_by, members_by, reads, names_by, dependents_by, counted_says}
 
 -- ---- schemas
 

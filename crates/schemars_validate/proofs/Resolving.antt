@@ -1,11 +1,6 @@
 -- Where a reference leads to.
 use Rattle.std.proofs.Common.{◌≡◌, ◌≢◌, [], ◌∷◌, Some, None, refl, ap, ne_eqb}
-use Rattle.std.specs.Prelude.{option_and_then}
-use Rattle.serde_json.specs.Data.{Data}
-use Rattle.serde_json.specs.Find.{pointer}
-use Rattle.schemars_schema.specs.Json.{Text}
-use Rattle.schemars_schema.specs.Encoding.{percent_decoded}
-use Rattle.schemars_schema.specs.Lookup.{resolved, schema_only}
+use Rattle.schemars_validate.proofs.Words.{option_and_then, Data, pointer, Text, percent_decoded, resolved, schema_only}
 
 pub no_fragment : (r : Text) (d : Data) → ((rest : Text) → r ≢ 35 ∷ rest) → None ≡ resolved d r
 unfolding resolved

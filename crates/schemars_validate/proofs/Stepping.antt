@@ -1,21 +1,7 @@
 -- One turn of a loop over schemas, items or members.
 use Rattle.std.proofs.Common.{◌≡◌, ℕ, zero, suc, ◌+◌, ◌<◌, ◌≤◌, List, [], ◌∷◌, Bool, true, false, Option, Some, None, length, get_or, refl, sym, ap, ◌∙◌, arith, Bor, Iter}
-use Rattle.std.specs.Prelude.{◌||◌, if◌then◌else◌, is_some, option_map, option_and_then, max, map}
-use Rattle.serde_json.specs.Data.{Data, Items, no_items, item, Members, member, depth, items_depth, members_depth}
-use Rattle.serde_json.specs.View.{view, items_view, members_view}
+use Rattle.schemars_validate.proofs.Words.{◌||◌, if◌then◌else◌, is_some, option_map, option_and_then, max, map, Data, Items, no_items, item, Members, member, depth, items_depth, members_depth, view, items_view, members_view, get_member, Entry, iter_rest, iter_steps, Text, is_schema, schema_only, Verdict, Yes, No, Open, both, all_of, Context, Judge, Patterns, where_some, Part, by_patterns, matches_some, schema_named, beside_members, one_more, judged_by_some, judge, with_schema, both-assoc, marked, each_unmarked, each_unmarked_item, is_marked, judged_by_one, first_of, judge_at, judges_of, named_judges_in, each_item, member_by}
 use Rattle.serde_json.specs.declared.value.Value.{Value}
-use Rattle.serde_json.specs.Find.{get_member}
-use Rattle.serde_json.proofs.Views.{Entry}
-use Rattle.std.specs.Slice.Iter.{iter_rest, iter_steps}
-use Rattle.schemars_schema.specs.Json.{Text}
-use Rattle.schemars_schema.specs.SchemaData.{is_schema}
-use Rattle.schemars_schema.specs.Lookup.{schema_only}
-use Rattle.schemars_schema.specs.Verdict.{Verdict, Yes, No, Open, both, all_of}
-use Rattle.schemars_schema.specs.Acceptance.{Context, Judge, Patterns, judge, where_some, by_patterns, matches_some, schema_named, Part, judged_by_some, beside_members, with_schema, one_more}
-use Rattle.schemars_schema.proofs.Verdicts.{both-assoc}
-use Rattle.schemars_validate.specs.Judged.{marked, each_unmarked, each_unmarked_item, is_marked, judged_by_one}
-use Rattle.schemars_validate.specs.Schemas.{first_of, judge_at, judges_of, named_judges_in}
-use Rattle.schemars_validate.specs.Parts.{each_item, member_by}
 use Rattle.schemars_validate.proofs.Measures.{depth_at, members_depth_at, member_shallow}
 use Rattle.schemars_validate.proofs.Judging.{marked_none, next_marks}
 use Rattle.schemars_validate.proofs.Readings.{schema_named-judges, named-judges}

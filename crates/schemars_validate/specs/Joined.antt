@@ -1,7 +1,7 @@
 -- What all, one or any of several schemas say, schema by schema.
 use Rattle.std.specs.Prelude.{List, [], ◌∷◌}
 use Rattle.schemars_schema.specs.Verdict.{Verdict, Yes, No, Open, both, opposite, all_of, any_of, one_of}
-use Rattle.schemars_validate.specs.Meant.{meant}
+use Rattle.schemars_assertions.specs.Meant.{meant}
 use Rattle.schemars_validate.specs.declared.joined.Join as join
 use Rattle.schemars_validate.specs.declared.joined.Joined.{Joined}
 

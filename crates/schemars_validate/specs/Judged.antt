@@ -5,7 +5,9 @@ use Rattle.serde_json.specs.Events.{items_len}
 use Rattle.schemars_schema.specs.Json.{Text}
 use Rattle.serde_json.specs.Find.{get_member, get_item, as_object}
 use Rattle.schemars_schema.specs.Verdict.{Verdict, Yes, both, is_yes}
-use Rattle.schemars_schema.specs.Acceptance.{Judge, Part, key, position, Patterns, matches, judged_by, judged_by_some, beside_members}
+use Rattle.schemars_schema.specs.Judges.{Judge, Part, key, position, Patterns, matches}
+use Rattle.schemars_schema.specs.Applicators.{beside_members}
+use Rattle.schemars_schema.specs.Evaluated.{judged_by, judged_by_some}
 
 abbrev pub keys_in : Members → List Part
 keys_in no_members = []

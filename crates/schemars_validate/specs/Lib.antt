@@ -1,7 +1,6 @@
 -- The definitions that contracts cite.
-pub mod Meant
-pub mod Texts
 pub mod Schemas
 pub mod Judged
 pub mod Joined
 pub mod Parts
+pub mod Words

@@ -1,39 +1,15 @@
 -- The keywords by groups.
-use Rattle.std.specs.Prelude.{◌||◌, ◌&&◌, ℕ, nat_le, map, Bool, true, false, is_some, Option, Some, None, option_map, if◌then◌else◌, List, [], ◌∷◌, codes}
+use Rattle.std.specs.Prelude.{◌||◌, map, Bool, true, false, is_some, Option, Some, None, option_map, if◌then◌else◌, List, [], ◌∷◌, codes}
 use Rattle.serde_json.specs.Data.{Data, string, Items, no_items, item}
 use Rattle.serde_json.specs.Find.{as_array, as_object}
 use Rattle.schemars_schema.specs.Json.{Text}
-use Rattle.schemars_schema.specs.Verdict.{Verdict, Yes, Open, verdict, both, all_of, any_of, one_of}
-use Rattle.schemars_schema.specs.Acceptance.{Dialect, Patterns, Context, Judge, Test, Raw, Readings, read_data, where_some, type_says, const_says, enum_says, minimum_says, maximum_says, exclusive_minimum_says, exclusive_maximum_says, multiple_of_says, min_length_says, max_length_says, pattern_says, min_items_says, max_items_says, unique_items_says, items_say, contains_says, or_one, is_up_to, contained_count, min_properties_says, max_properties_says, required_says, dependent_required_says, property_names_say, properties_say, pattern_properties_say, additional_properties_say, is_covered, each_says, not_says, condition_says, dependent_schemas_say, dependencies_say, reads_dependencies, beside_members, reference_says, schema_named, by_patterns, matches_some, each_member}
+use Rattle.schemars_schema.specs.Verdict.{Verdict, Yes, both, all_of, any_of, one_of}
+use Rattle.schemars_schema.specs.Dialects.{reads_dependencies}
+use Rattle.schemars_schema.specs.Judges.{Patterns, Context, Judge, Test, Raw, Readings, where_some, each_member}
+use Rattle.schemars_schema.specs.Applicators.{items_say, contains_says, property_names_say, properties_say, pattern_properties_say, additional_properties_say, is_covered, each_says, not_says, condition_says, dependent_schemas_say, dependencies_say, beside_members, reference_says, schema_named, by_patterns, matches_some}
+use Rattle.schemars_schema.specs.Acceptance.{read_data}
+use Rattle.schemars_assertions.specs.Groups.{by_itself, by_keys}
 use Rattle.schemars_validate.specs.Schemas.{schema_at, schemas_in}
-
--- the keywords that judge a value by itself, but for those that look at the keys
-abbrev pub by_itself : Dialect → Patterns → Raw → Data → List Verdict
-by_itself dialect patterns raw v =
-    type_says dialect.reads_nullable (raw (codes "type")) (raw (codes "nullable")) v
-    ∷ const_says dialect.reads_const (raw (codes "const")) v
-    ∷ enum_says (raw (codes "enum")) v
-    ∷ minimum_says (raw (codes "minimum")) v
-    ∷ maximum_says (raw (codes "maximum")) v
-    ∷ exclusive_minimum_says dialect.reads_const (raw (codes "exclusiveMinimum")) (raw (codes "minimum")) v
-    ∷ exclusive_maximum_says dialect.reads_const (raw (codes "exclusiveMaximum")) (raw (codes "maximum")) v
-    ∷ multiple_of_says (raw (codes "multipleOf")) v
-    ∷ min_length_says (raw (codes "minLength")) v
-    ∷ max_length_says (raw (codes "maxLength")) v
-    ∷ pattern_says patterns (raw (codes "pattern")) v
-    ∷ min_items_says (raw (codes "minItems")) v
-    ∷ max_items_says (raw (codes "maxItems")) v
-    ∷ unique_items_says (raw (codes "uniqueItems")) v
-    ∷ []
-
--- the keywords that look at the keys
-abbrev pub by_keys : Dialect → Raw → Data → List Verdict
-by_keys dialect raw v =
-    min_properties_says (raw (codes "minProperties")) v
-    ∷ max_properties_says (raw (codes "maxProperties")) v
-    ∷ required_says (raw (codes "required")) v
-    ∷ dependent_required_says dialect.reads_unevaluated (raw (codes "dependentRequired")) v
-    ∷ []
 
 -- the value of each keyword, read
 abbrev pub reads : Context → Raw → Readings
@@ -94,14 +70,6 @@ abbrev pub other_schema : Bool → Raw → Option Data
 other_schema true raw = schema_at (raw (codes "items"))
 other_schema false raw =
     schema_at (if is_some (schemas_in (raw (codes "items"))) then raw (codes "additionalItems") else raw (codes "items"))
-
--- so many items as `minContains` and `maxContains` ask for
-abbrev pub is_contained : Bool → Option Data → Option Data → ℕ → Bool
-is_contained reads least most n = nat_le (or_one (contained_count reads least)) n && is_up_to (contained_count reads most) n
-
--- what is said of a count, unless an item was left open
-abbrev pub counted_says : Bool → Option Data → Option Data → Option ℕ → Verdict
-counted_says reads least most count = elim count [ None ↦ Open | Some n ↦ verdict (is_contained reads least most n) ]
 
 -- ---- objects
 

@@ -5,7 +5,8 @@ use Rattle.serde_json.specs.Find.{as_array, as_object}
 use Rattle.schemars_schema.specs.Json.{Text}
 use Rattle.schemars_schema.specs.SchemaData.{is_schema}
 use Rattle.schemars_schema.specs.Lookup.{schema_only}
-use Rattle.schemars_schema.specs.Acceptance.{Context, Judge, Raw, judge, when, with_schema}
+use Rattle.schemars_schema.specs.Judges.{Context, Judge, Raw, when}
+use Rattle.schemars_schema.specs.Acceptance.{judge, with_schema}
 
 abbrev pub are_schemas : Items → Bool
 are_schemas no_items = true

@@ -1,17 +1,10 @@
 //! A whole document, or one of its schemas, asked about a value.
 ghost use Rattle.std.specs.Prelude.{◌≡◌, IfOk, IfSome};
-ghost use Rattle.serde_json.specs.Data.{depth, items_depth, members_depth};
-ghost use Rattle.serde_json.specs.View.{view, items_view, members_view};
-ghost use Rattle.schemars_schema.specs.Verdict.{is_yes};
-ghost use Rattle.schemars_schema.specs.Acceptance.{accepts, bound, context, count_of_definitions, judge};
-ghost use Rattle.schemars_validate.specs.Judged.{marked, parts_of, unmarked};
-ghost use Rattle.schemars_validate.specs.Meant.{meant};
+ghost use Rattle.schemars_validate.specs.Words.{depth, items_depth, members_depth, view, items_view, members_view, is_yes, accepts, bound, context, count_of_definitions, judge, marked, parts_of, unmarked, meant};
 
-use crate::dialect::Dialect;
 use crate::judge::{Document, judge};
 use crate::marks::unmarked;
-use crate::patterns::Patterns;
-use crate::verdict::Verdict;
+use schemars_assertions::{Dialect, Patterns, Verdict};
 use serde_json::{Map, Value};
 use std::alloc::{AllocError, Global};
 
@@ -115,7 +108,7 @@ pub fn bound(definitions: &str, document: &Value, value: &Value) -> Option<u64>
     deep.checked_mul(count)
 }
 
-#[tactic(auto, using(crate::proofs::Lists::members_counted))]
+#[tactic(auto, using(schemars_assertions::proofs::Lists::members_counted))]
 fn count_of_definitions(definitions: &str, document: &Value) -> u64
     ensures { result ≡ count_of_definitions definitions.now (view document.now) }
 {

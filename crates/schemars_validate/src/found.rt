@@ -1,27 +1,12 @@
 //! What stands under a keyword.
 ghost use Rattle.std.specs.Prelude.{◌≡◌, ◌||◌, ◌&&◌, not, None, IfOk, is_some, option_map, option_and_then, codes, if◌then◌else◌};
-ghost use Rattle.serde_json.specs.Data.{string};
-ghost use Rattle.serde_json.specs.Find.{get_member, as_str};
-ghost use Rattle.serde_json.specs.View.{view, items_view, members_view};
-ghost use Rattle.schemars_validate.specs.Schemas.{are_schemas, are_named_schemas, first_of, schema_at, schemas_in, schemas_by_name, schema_where_read, schemas_where_read, members_where_read, schema_of_rest};
-ghost use Rattle.schemars_validate.specs.Parts.{first_schemas, other_schema, items_or_none};
-ghost use Rattle.schemars_schema.specs.Lookup.{resolved, schema_only};
-ghost use Rattle.schemars_schema.specs.Acceptance.{is_reference};
+ghost use Rattle.schemars_validate.specs.Words.{string, get_member, as_str, view, items_view, members_view, are_schemas, are_named_schemas, first_of, schema_at, schemas_in, schemas_by_name, schema_where_read, schemas_where_read, members_where_read, schema_of_rest, first_schemas, other_schema, items_or_none, resolved, schema_only, is_reference};
 
-use crate::dialect::Dialect;
-use crate::verdict::Verdict;
+use schemars_assertions::{Dialect, Verdict, member};
 use schemars_schema::Schema;
 use schemars_schema::encoding::percent_decode;
 use serde_json::{Map, Value};
 use std::alloc::{AllocError, Global};
-
-/// The member at a key.
-pub fn member<'m>(members: &'m Map<String, Value>, key: &str) -> Option<&'m Value>
-    ensures { option_map (λ v. view v.now) result
-        ≡ get_member key.now (members_view members.now.entries) }
-{
-    members.get(key)
-}
 
 /// The value, if it is a schema.
 pub fn schema_at(value: Option<&Value>) -> Option<&Value>

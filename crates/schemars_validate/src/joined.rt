@@ -1,10 +1,8 @@
 //! What several schemas of one value say together.
 ghost use Rattle.std.specs.Prelude.{◌≡◌};
-ghost use Rattle.schemars_schema.specs.Verdict.{Yes, No};
-ghost use Rattle.schemars_validate.specs.Meant.{meant};
-ghost use Rattle.schemars_validate.specs.Joined.{so_far, with_one, taken_by};
+ghost use Rattle.schemars_validate.specs.Words.{Yes, No, meant, so_far, with_one, taken_by};
 
-use crate::verdict::{Verdict, both, opposite};
+use schemars_assertions::{Verdict, both, opposite};
 
 /// How many of the schemas the value has to fit.
 #[derive(Clone, Copy)]

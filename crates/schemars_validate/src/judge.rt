@@ -1,31 +1,20 @@
 //! What a schema says of a value, and which of the value's parts it has judged, in one pass.
 ghost use Rattle.std.specs.Prelude.{◌≡◌, IfOk, OnOk, option_map, map, codes};
-ghost use Rattle.serde_json.specs.Data.{object};
-ghost use Rattle.serde_json.specs.Find.{get_member};
-ghost use Rattle.serde_json.specs.View.{view, items_view, members_view};
-ghost use Rattle.schemars_schema.specs.Verdict.{all_of};
-ghost use Rattle.schemars_schema.specs.Acceptance.{Raw, context, judge, follow, where_some, reference_says, contains_says, count_of_fitting, condition_says, dependencies_say, reads_dependencies, judged_by, judged_by_reference, judged_by_some, judged_by_condition, judged_by_contains, by_patterns, matches_some, judged_itself, judged_beside};
-ghost use Rattle.schemars_validate.specs.Meant.{meant};
-ghost use Rattle.schemars_validate.specs.Judged.{marked, parts_of, positions_in, at_positions, fits_at, each_unmarked, each_unmarked_item, unmarked_by, judged_by_one, judged_beside_members};
-ghost use Rattle.schemars_validate.specs.Joined.{joined_by};
-ghost use Rattle.schemars_validate.specs.Schemas.{judge_at, judges_of, judges_in, named_judges_in, judges_among_in};
-ghost use Rattle.schemars_validate.specs.Parts.{besides, inside, reads, items_by, members_by, member_by, names_by, dependents_by};
+ghost use Rattle.schemars_validate.specs.Words.{object, get_member, view, items_view, members_view, all_of, reads_dependencies, Raw, where_some, reference_says, contains_says, count_of_fitting, condition_says, dependencies_say, by_patterns, matches_some, judged_by, judged_by_reference, judged_by_some, judged_by_condition, judged_by_contains, judged_itself, judged_beside, context, judge, follow, meant, marked, parts_of, positions_in, at_positions, fits_at, each_unmarked, each_unmarked_item, unmarked_by, judged_by_one, judged_beside_members, joined_by, judge_at, judges_of, judges_in, named_judges_in, judges_among_in, besides, inside, reads, items_by, members_by, member_by, names_by, dependents_by};
 
-use crate::arrays::{contained_says, one_more};
-use crate::dialect::Dialect;
 use crate::found::{
-    ItemSchemas, Matched, MemberSchemas, item_schemas, member, member_schemas, members_where_read,
-    or_else, others_for, reference_in, refers_alone, resolved, schema_at, schema_beside,
-    schema_named, schema_of_rest, schema_where_read, schemas_in, schemas_where_read, text,
+    ItemSchemas, Matched, MemberSchemas, item_schemas, member_schemas, members_where_read, or_else,
+    others_for, reference_in, refers_alone, resolved, schema_at, schema_beside, schema_named,
+    schema_of_rest, schema_where_read, schemas_in, schemas_where_read, text,
 };
 use crate::joined::{Join, Joined};
-use crate::keys::{by_keys, dependent_required_says};
 use crate::marks::{
     copied, keep, mark_all, mark_fitting, mark_items, mark_members, unless_marked, unmarked,
 };
-use crate::patterns::Patterns;
-use crate::scalars::by_itself;
-use crate::verdict::{Verdict, all_of, both, opposite, unless_missing, verdict_of};
+use schemars_assertions::{
+    Dialect, Patterns, Verdict, all_of, both, by_itself, by_keys, contained_says,
+    dependent_required_says, member, one_more, opposite, unless_missing, verdict_of,
+};
 use serde_json::{Map, Value};
 use std::alloc::{AllocError, Global};
 

@@ -1,14 +1,9 @@
 //! Marks for the parts of a value that have been judged.
 ghost use Rattle.std.specs.Prelude.{◌≡◌, IfOk, Some, None, option_map, true, is_some, if◌then◌else◌, ◌&&◌, length, min, slice_set};
-ghost use Rattle.serde_json.specs.Events.{items_len};
-ghost use Rattle.serde_json.specs.View.{view, items_view, members_view};
-ghost use Rattle.schemars_validate.specs.Judged.{marked, unmarked, first_marked, keys_in, parts_of, at_keys, at_positions, is_placed, is_marked, is_named, matches_one, is_matched, is_taken};
-ghost use Rattle.schemars_schema.specs.Verdict.{is_yes};
-ghost use Rattle.schemars_validate.specs.Meant.{meant};
+ghost use Rattle.schemars_validate.specs.Words.{items_len, view, items_view, members_view, marked, unmarked, first_marked, keys_in, parts_of, at_keys, at_positions, is_placed, is_marked, is_named, matches_one, is_matched, is_taken, is_yes, meant};
 
-use crate::found::{ItemSchemas, MemberSchemas, member};
-use crate::patterns::Patterns;
-use crate::verdict::Verdict;
+use crate::found::{ItemSchemas, MemberSchemas};
+use schemars_assertions::{Patterns, Verdict, member};
 use serde_json::{Map, Value};
 use std::alloc::{AllocError, Global};
 
@@ -58,7 +53,7 @@ pub fn mark_items(schemas: &ItemSchemas<'_>, value: &Value, marks: &mut Vec<bool
     mark_first(count_of_placed(schemas, items), marks);
 }
 
-#[tactic(auto, using(crate::proofs::Lists::items_counted))]
+#[tactic(auto, using(schemars_assertions::proofs::Lists::items_counted))]
 fn count_of_placed(schemas: &ItemSchemas<'_>, items: &[Value]) -> usize
     ensures { result ≡ (if is_some schemas.now.others then items_len (items_view items.now)
         else min (items_len (items_view schemas.now.first.now)) (items_len (items_view items.now))) }

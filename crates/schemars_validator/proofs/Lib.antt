@@ -1,8 +1,3 @@
 -- Lemmas that several proofs share.
 pub mod Pairs
-pub mod Translated
-pub mod Following
-pub mod Telling
-pub mod Elements
-pub mod Refusing
-mod Examples
+mod Words

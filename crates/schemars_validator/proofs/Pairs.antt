@@ -1,19 +1,9 @@
 -- Which pairs a reading has.
-use Rattle.std.proofs.Common.{◌≡◌, ◌++◌, ◌∙◌, List, [], ◌∷◌, map, Bool, true, false, true≢false, refl, sym, ap, subst}
-use Rattle.std.specs.Prelude.{◌&&◌, ◌||◌, not, is_some, String, string_bytes, bytes_eq}
-use Rattle.std.specs.List.{list_any}
-use Rattle.std.specs.HashSet.{HashSet, PutsKey}
-use Rattle.std.proofs.lemmas.Slice.Eq.{bytes_eq-Decides}
-use Rattle.std.proofs.lemmas.List.Sorted.{list_any-IsPermutation}
-use Rattle.schemars_schema.specs.Json.{Text}
-use Rattle.schemars_schema.specs.Acceptance.{Patterns, matches}
-use Rattle.schemars_text.proofs.Members.{bytes_eq_comm}
+use Rattle.std.proofs.Common.{◌≡◌, ◌++◌, ◌∙◌, List, [], ◌∷◌, map, Bool, true, false, refl, sym, ap}
+use Rattle.schemars_validator.proofs.Words.{◌&&◌, ◌||◌, is_some, String, string_bytes, bytes_eq, list_any, Text, Patterns, matches, bytes_eq_comm, find_str, regex_pattern, found_in, answers, pairs_of, some_has}
 use Rattle.schemars_validator.specs.declared.reading.Matched.{Matched}
-use Rattle.regex.specs.Patterns.{find_str}
-use Rattle.regex.specs.Strings.{regex_pattern}
-use Rattle.schemars_validator.specs.declared.expressions.Expression.{Expression}
-use Rattle.schemars_validator.specs.Texts.{found_in, answers}
-use Rattle.schemars_validator.specs.Asked.{has_pair, pairs_of, some_has}
+use Rattle.schemars_readable.specs.declared.expressions.Expression.{Expression}
+use Rattle.schemars_validator.specs.Asked.{has_pair}
 
 pub matches_append : (xs ys : Patterns) (p t : Text) → matches (xs ++ ys) p t ≡ (matches xs p t || matches ys p t)
 matches_append [] ys p t = refl
@@ -51,50 +41,6 @@ some_has_pair (m ∷ ms) p t =
     ap (λ b. has_pair m p t || b) (some_has_pair ms p t)
     ∙ sym (ap (λ b. b || matches (pairs_of ms) p t) (matches_texts (string_bytes m.pattern) m.texts.keys p t))
     ∙ sym (matches_append (map (λ k. (string_bytes m.pattern, string_bytes k)) m.texts.keys) (pairs_of ms) p t)
-
-or_none : (b c : Bool) → (b || (c && false)) ≡ b
-or_none true c = refl
-or_none false true = refl
-or_none false false = refl
-
-or_turned : (b c : Bool) → (c || b) ≡ (b || (c && true))
-or_turned true true = refl
-or_turned true false = refl
-or_turned false true = refl
-or_turned false false = refl
-
--- a set of texts without more
-pub put_none : {Y : Type 0} (ks : List (String Y)) (k t : Text)
-    → list_any (λ x. bytes_eq t (string_bytes x)) ks
-    ≡ (list_any (λ x. bytes_eq t (string_bytes x)) ks || (bytes_eq t k && false))
-put_none ks k t = sym (or_none (list_any (λ x. bytes_eq t (string_bytes x)) ks) (bytes_eq t k))
-
--- a set of texts that has one more
-pub put_text : {Y S : Type 0} (s n : HashSet (String Y) S) (k : String Y) (t : Text) (added : Bool)
-    → PutsKey s n k added → added ≡ not (list_any (λ x. bytes_eq (string_bytes k) (string_bytes x)) s.keys)
-    → list_any (λ x. bytes_eq t (string_bytes x)) n.keys
-    ≡ (list_any (λ x. bytes_eq t (string_bytes x)) s.keys || (bytes_eq t (string_bytes k) && true))
-put_text s n k t true puts is =
-    sym (list_any-IsPermutation (λ x. bytes_eq t (string_bytes x)) (k ∷ s.keys) n.keys puts)
-    ∙ or_turned (list_any (λ x. bytes_eq t (string_bytes x)) s.keys) (bytes_eq t (string_bytes k))
-put_text s n k t false same is =
-    ap (list_any (λ x. bytes_eq t (string_bytes x))) same
-    ∙ known (bytes_eq t (string_bytes k)) refl
-  where
-    turned : (b : Bool) → false ≡ not b → b ≡ true
-    turned true h = refl
-    turned false h = absurd (true≢false (sym h))
-
-    known : (b : Bool) → bytes_eq t (string_bytes k) ≡ b
-        → list_any (λ x. bytes_eq t (string_bytes x)) s.keys
-        ≡ (list_any (λ x. bytes_eq t (string_bytes x)) s.keys || (b && true))
-    known false differs = sym (or_none (list_any (λ x. bytes_eq t (string_bytes x)) s.keys) true)
-    known true equal =
-        let there = turned (list_any (λ x. bytes_eq (string_bytes k) (string_bytes x)) s.keys) is in
-        let here : list_any (λ x. bytes_eq t (string_bytes x)) s.keys ≡ true =
-        subst (λ u. list_any (λ x. bytes_eq u (string_bytes x)) s.keys ≡ true)
-        (sym ((bytes_eq-Decides t (string_bytes k)).0 equal)) there in
-        here ∙ sym (ap (λ b. b || true) here)
 
 or_apart : (a b c : Bool) → ((a || b) || c) ≡ (a || (b || c))
 or_apart true b c = refl

@@ -1,28 +1,17 @@
 -- What a validator says of values.
-use Rattle.std.specs.Prelude.{◌≡◌, ◌≤◌, ◌++◌, ◌&&◌, ◌||◌, ℕ, Bool, true, false, List, [], ◌∷◌, map, codes, string_bytes, bytes_eq, length, nat_lt}
+use Rattle.std.specs.Prelude.{◌≡◌, ◌≤◌, ◌++◌, ◌&&◌, ◌||◌, ℕ, Bool, true, false, List, [], ◌∷◌, map, string_bytes, bytes_eq}
 use Rattle.std.specs.List.{list_any}
 use Rattle.serde_json.specs.Data.{Data}
 use Rattle.serde_json.specs.View.{view}
 use Rattle.schemars_schema.specs.Json.{Text}
 use Rattle.schemars_schema.specs.Verdict.{Verdict, Yes, No, Open, is_yes}
-use Rattle.schemars_schema.specs.Acceptance.{Dialect, Patterns, draft2020_12, draft2019_09, draft07, openapi3, accepts, bound}
-use Rattle.schemars_validator.specs.declared.draft.Draft as named
+use Rattle.schemars_schema.specs.Judges.{Patterns}
+use Rattle.schemars_schema.specs.Acceptance.{accepts, bound}
+use Rattle.schemars_readable.specs.declared.draft.Draft as named
+use Rattle.schemars_readable.specs.Drafts.{dialect_of, path_of}
 use Rattle.schemars_validator.specs.declared.reading.Matched.{Matched}
 use Rattle.schemars_validator.specs.declared.validator.Validator.{Validator}
 use Rattle.schemars_validator.specs.Texts.{IsReadBy}
-
-abbrev pub dialect_of : named.Draft → Dialect
-dialect_of named.TheVariants.Draft07 = draft07
-dialect_of named.TheVariants.Draft2019_09 = draft2019_09
-dialect_of named.TheVariants.Draft2020_12 = draft2020_12
-dialect_of named.TheVariants.OpenApi3 = openapi3
-
--- where documents of a dialect have their definitions
-abbrev pub path_of : named.Draft → Text
-path_of named.TheVariants.Draft07 = codes "/definitions"
-path_of named.TheVariants.Draft2019_09 = codes "/$defs"
-path_of named.TheVariants.Draft2020_12 = codes "/$defs"
-path_of named.TheVariants.OpenApi3 = codes "/components/schemas"
 
 -- the pairs of an expression and a text that matches it
 abbrev pub pairs_of : List Matched → Patterns
@@ -58,6 +47,3 @@ abbrev pub is_no : Verdict → Bool
 is_no Yes = false
 is_no No = true
 is_no Open = false
-
-abbrev pub has_some : {X : Type 0} → List X → Bool
-has_some xs = nat_lt 0 (length xs)

@@ -4,8 +4,8 @@ use Rattle.serde_json.specs.Data.{Data, null, boolean, number, string, array, ob
 use Rattle.regex.specs.Patterns.{find_str}
 use Rattle.regex.specs.Strings.{regex_pattern}
 use Rattle.schemars_schema.specs.Json.{Text}
-use Rattle.schemars_schema.specs.Acceptance.{Patterns, matches}
-use Rattle.schemars_validator.specs.declared.expressions.Expression.{Expression}
+use Rattle.schemars_schema.specs.Judges.{Patterns, matches}
+use Rattle.schemars_readable.specs.declared.expressions.Expression.{Expression}
 
 -- the texts of a value, and the names of its members
 unfoldable mutual

@@ -1,11 +1,10 @@
 //! What is asked of schemas about the parts of a value, and what is found.
 ghost use Rattle.std.specs.Prelude.{◌≡◌, IsTrue, OnOk};
-ghost use Rattle.schemars_validator.specs.Asked.{has_some};
+ghost use Rattle.schemars_readable.specs.Refused.{has_some};
 
-use crate::draft::Draft;
-use crate::places::member_place;
 use crate::probes::with_keywords;
 use crate::reading::Reading;
+use schemars_readable::{Draft, member_place};
 use schemars_validate::{Verdict, judged, validate};
 use serde_json::{Map, Value};
 use std::alloc::{AllocError, Global};

@@ -1,15 +1,14 @@
 //! Why a value is not accepted, keyword by keyword.
 ghost use Rattle.std.specs.Prelude.{IfOk, IsTrue};
-ghost use Rattle.schemars_validator.specs.Asked.{has_some};
+ghost use Rattle.schemars_readable.specs.Refused.{has_some};
 
 use crate::asking::{Asked, At, Failure, add, is_denied, is_denied_by, judged_by};
-use crate::draft::Draft;
 use crate::itself::explain_itself;
-use crate::places::member_place;
 use crate::probes::without;
 use crate::reading::Reading;
 use crate::sentences::{Choice, sentence_of_choice, sentence_of_key};
 use crate::ways::{Way, parts_of, way_of, ways_beside_keys, ways_listed, ways_to};
+use schemars_readable::{Draft, member_place};
 use schemars_schema::Schema;
 use schemars_validate::resolved;
 use serde_json::{Map, Value};

@@ -1,10 +1,29 @@
 //! The failures of keywords that judge a value by itself, or by its keys, or by how many of its items fit.
 use crate::asking::{Asked, At, Failure, add, is_denied, is_denied_by};
-use crate::keywords::{BY_ITSELF, excluded_bound};
 use crate::probes::with_keyword;
 use crate::sentences::{sentence_about, sentence_of_items, sentence_of_missing};
 use serde_json::{Map, Value};
 use std::alloc::AllocError;
+
+// The keywords that judge a value by itself.
+const BY_ITSELF: [&str; 16] = [
+    "type",
+    "const",
+    "enum",
+    "minimum",
+    "maximum",
+    "exclusiveMinimum",
+    "exclusiveMaximum",
+    "multipleOf",
+    "minLength",
+    "maxLength",
+    "pattern",
+    "minItems",
+    "maxItems",
+    "uniqueItems",
+    "minProperties",
+    "maxProperties",
+];
 
 /// Adds why the keywords for the value itself, for its keys and for the count of its items deny it.
 pub fn explain_itself(
@@ -22,6 +41,15 @@ pub fn explain_itself(
     explain_dependent(asked, keywords, "dependentRequired", at, failures)?;
     explain_dependent(asked, keywords, "dependencies", at, failures)?;
     explain_contained(asked, keywords, at, failures)
+}
+
+// The keyword whose bound a truth value under this one excludes.
+fn excluded_bound(keyword: &str, wanted: &Value) -> Option<&'static str> {
+    match wanted {
+        Value::Bool(_) if keyword == "exclusiveMinimum" => Some("minimum"),
+        Value::Bool(_) if keyword == "exclusiveMaximum" => Some("maximum"),
+        _ => None,
+    }
 }
 
 // Adds that a keyword denies the value, unless the one that is read beside it does so alone.

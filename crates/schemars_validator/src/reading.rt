@@ -1,12 +1,8 @@
 //! What the expressions of a document answer about the texts of a value.
 ghost use Rattle.std.specs.Prelude.{◌≡◌, ◌++◌, ◌&&◌, ◌||◌, IfOk, OnOk, map, bytes_eq, string_bytes};
-ghost use Rattle.std.specs.List.{list_any};
-ghost use Rattle.serde_json.specs.View.{view, items_view, members_view};
-ghost use Rattle.schemars_schema.specs.Json.{Text};
-ghost use Rattle.schemars_validator.specs.Asked.{has_pair, pairs_of, some_has};
-ghost use Rattle.schemars_validator.specs.Texts.{texts_of, texts_in_items, texts_in_members, answers, IsReadBy};
+ghost use Rattle.schemars_validator.specs.Words.{list_any, view, items_view, members_view, Text, has_pair, pairs_of, some_has, texts_of, texts_in_items, texts_in_members, answers, IsReadBy};
 
-use crate::expressions::Expression;
+use schemars_readable::Expression;
 use schemars_validate::Patterns;
 use serde_json::{Map, Value};
 use std::alloc::{AllocError, Global};
@@ -83,7 +79,7 @@ fn matched_by(alloc: Global, expression: &Expression, texts: &[&str]) -> Result<
 }
 
 // Adds a text, if it is wanted.
-#[tactic(auto, using(crate::proofs::Pairs::put_none))]
+#[tactic(auto, using(schemars_readable::proofs::Sets::put_none))]
 fn add_if(
     alloc: Global,
     wanted: bool,

@@ -1,21 +1,13 @@
 //! A document that is asked about many values.
 ghost use Rattle.std.specs.Prelude.{◌≡◌, ◌≤◌, IfOk, OnOk, IfErr};
-ghost use Rattle.serde_json.specs.View.{view};
-ghost use Rattle.schemars_schema.specs.Acceptance.{bound};
-ghost use Rattle.schemars_validate.specs.Meant.{meant};
-ghost use Rattle.schemars_validator.specs.Asked.{Accepts, IsOf, Says, has_some, is_no, pairs_of, path_of};
-ghost use Rattle.schemars_validator.specs.Texts.{IsReadBy};
-ghost use Rattle.schemars_validator.specs.Expressions.{AreExpressionsOf};
-ghost use Rattle.schemars_validator.specs.Refused.{IsRead, IsRefusal};
+ghost use Rattle.schemars_validator.specs.Words.{view, bound, meant, Accepts, IsOf, Says, has_some, is_no, pairs_of, path_of, IsReadBy, AreExpressionsOf, IsRead, IsRefusal};
 
 use crate::asking::Failure;
-use crate::draft::Draft;
-use crate::expressions::{Expression, compiled, patterns_in};
 use crate::failures::failures_of;
-use crate::places::{Place, schemas_in};
 use crate::reading::{Reading, read};
-use crate::refusal::Refusal;
-use crate::unread::unread_in;
+use schemars_readable::{
+    Draft, Expression, Place, Refusal, compiled, patterns_in, schemas_in, unread_in,
+};
 use schemars_schema::Schema;
 use schemars_validate::{Verdict, bound, depth, validate};
 use serde_json::Value;

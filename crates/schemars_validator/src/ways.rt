@@ -1,6 +1,6 @@
 //! The parts of a value, and the schemas under keywords that judge them.
-use crate::places::{item_place, member_place};
 use crate::reading::Reading;
+use schemars_readable::{item_place, member_place};
 use schemars_schema::Schema;
 use schemars_validate::Patterns;
 use serde_json::{Map, Value};

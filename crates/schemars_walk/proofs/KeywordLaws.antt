@@ -1,14 +1,6 @@
 -- The keywords of a schema are rewritten each by itself.
 use Rattle.std.proofs.Common.{◌≡◌, Option, Some, option_map, Ordering, Less, Equal, Greater, nat_cmp, is_eq, refl, sym, ap, ◌∙◌, subst}
-use Rattle.std.proofs.lemmas.Map.Text.{is_eq-slice_cmp}
-use Rattle.std.proofs.lemmas.Slice.Eq.{bytes_eq-Decides}
-use Rattle.std.specs.Cmp.Lexicographic.{slice_cmp}
-use Rattle.std.specs.Ordering.{match_ordering}
-use Rattle.serde_json.specs.Data.{Data, Members, no_members, member, put}
-use Rattle.serde_json.specs.Find.{get_member}
-use Rattle.schemars_schema.specs.Json.{Text}
-use Rattle.schemars_schema.specs.References.{NoSchemas}
-use Rattle.schemars_walk.specs.Rewritten.{Rules, form_at, forms, in_keywords, read_at}
+use Rattle.schemars_walk.proofs.Words.{is_eq-slice_cmp, bytes_eq-Decides, slice_cmp, match_ordering, Data, Members, no_members, member, put, get_member, Text, NoSchemas, Rules, form_at, forms, in_keywords, read_at}
 use Rattle.schemars_walk.proofs.Rewrites.{keywords_more, keywords_none}
 
 same_key : (k l : Text) → slice_cmp nat_cmp k l ≡ Equal → k ≡ l

@@ -6,3 +6,4 @@ pub mod Parts
 pub mod KeywordLaws
 pub mod Changes
 pub mod Boxed
+mod Words

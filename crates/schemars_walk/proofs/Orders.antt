@@ -1,8 +1,6 @@
 -- A list of transforms, member by member.
 use Rattle.std.proofs.Common.{◌≡◌, ℕ, zero, suc, ◌+◌, ◌<◌, ◌≤◌, List, [], ◌∷◌, ◌++◌, length, get_or, take, drop, set, Ok, Err, refl, sym, ap, subst, add-one, arith}
-use Rattle.serde_json.specs.Data.{Data}
-use Rattle.schemars_walk.specs.Walk.{Answer, TransformStep}
-use Rattle.schemars_walk.specs.Order.{InOrder}
+use Rattle.schemars_walk.proofs.Words.{Data, Answer, TransformStep, InOrder}
 use Rattle.schemars_walk.specs.declared.transform.TransformError.{TransformError}
 
 -- the place behind the members that are done

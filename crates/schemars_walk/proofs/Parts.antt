@@ -1,18 +1,8 @@
 -- The members of an object in parts.
 use Rattle.std.proofs.Common.{◌≡◌, ℕ, zero, suc, ◌+◌, ◌<◌, ◌≤◌, max, List, [], ◌∷◌, ◌++◌, length, get_or, take, drop, set, map, zip, Bool, true, cond, String, Global, string_bytes, refl, sym, ap, ◌∙◌, add-one, arith}
-use Rattle.std.specs.Map.{keys_of, values_of}
-use Rattle.std.specs.Map.Calls.{RetainsPairs}
-use Rattle.serde_json.specs.Data.{Data, Items, item, Members, no_members, member, depth, items_depth, members_depth}
-use Rattle.serde_json.specs.View.{view, items_view, members_view}
+use Rattle.schemars_walk.proofs.Words.{keys_of, values_of, RetainsPairs, Data, Items, item, Members, no_members, member, depth, items_depth, members_depth, view, items_view, members_view, Entry, Text, Place, nothing_left, place_meant, all_unread, member_places, in_places, Rules, form_at, forms, in_items, in_names, in_keywords}
 use Rattle.serde_json.specs.declared.value.Value.{Value}
-use Rattle.serde_json.proofs.Views.{Entry}
-use Rattle.schemars_schema.specs.Json.{Text}
-use Rattle.schemars_schema.specs.References.{Place}
-use Rattle.schemars_text.proofs.Lists.{nothing_left}
 use Rattle.schemars_walk.specs.declared.rewrite.place.Place as place
-use Rattle.schemars_walk.specs.Walk.{place_meant}
-use Rattle.schemars_walk.specs.Parts.{all_unread, member_places, in_places}
-use Rattle.schemars_walk.specs.Rewritten.{Rules, form_at, forms, in_items, in_names, in_keywords}
 use Rattle.schemars_walk.proofs.Walks.{then_items, then_items-none, item_written, items_from, all_taken}
 use Rattle.schemars_walk.proofs.Rewrites.{keywords_more, keywords_none, names_more, names_none, items_more}
 

@@ -1,15 +1,7 @@
 -- A rewrite from the bottom up, call by call.
 use Rattle.std.proofs.Common.{◌≡◌, ℕ, zero, suc, ◌+◌, ◌<◌, ◌≤◌, max, List, [], ◌∷◌, length, get_or, take, drop, set, Some, None, sym, ap, ◌∙◌, refl, add-one, arith}
-use Rattle.serde_json.specs.Data.{Data, boolean, array, object, Items, no_items, item, Members, no_members, member, depth, items_depth}
-use Rattle.serde_json.specs.Find.{as_array, as_object}
-use Rattle.serde_json.specs.View.{view, items_view}
+use Rattle.schemars_walk.proofs.Words.{Data, boolean, array, object, Items, no_items, item, Members, no_members, member, depth, items_depth, as_array, as_object, view, items_view, Text, IsSchema, SchemaList, SchemaOrList, SchemasByName, nothing_left, array-as_array, not_array, object-as_object, not_object, Rules, form_at, forms, in_items, in_names, in_keywords, read_at, as_schema_in, rewritten, with_subschemas}
 use Rattle.serde_json.specs.declared.value.Value.{Value}
-use Rattle.schemars_schema.specs.Json.{Text}
-use Rattle.schemars_schema.specs.SchemaData.{IsSchema}
-use Rattle.schemars_schema.specs.References.{SchemaList, SchemaOrList, SchemasByName}
-use Rattle.schemars_text.proofs.Lists.{nothing_left}
-use Rattle.schemars_schema.proofs.Containers.{array-as_array, not_array, object-as_object, not_object}
-use Rattle.schemars_walk.specs.Rewritten.{Rules, form_at, forms, in_items, in_names, in_keywords, read_at, as_schema_in, rewritten, with_subschemas}
 use Rattle.schemars_walk.proofs.Walks.{then_items, then_items-none, item_written, items_from, all_taken}
 
 -- ---- depths

@@ -1,20 +1,7 @@
 -- The walk, call by call.
 use Rattle.std.proofs.Common.{◌≡◌, ℕ, zero, suc, ◌+◌, ◌<◌, ◌≤◌, ◌-◌, Some, List, [], ◌∷◌, ◌++◌, length, get_or, take, drop, set, String, Global, string_bytes, string_cmp, Less, Greater, Ok, Err, OnOk, inl, inr, refl, sym, ap, ◌∙◌, subst, add-one, arith}
-use Rattle.std.proofs.lemmas.Cmp.{nat_list_cmp_total}
-use Rattle.std.specs.List.{AllByRecursion}
-use Rattle.std.specs.List.Sorted.{IsStrictlySortedBy}
-use Rattle.std.specs.Map.{keys_of}
-use Rattle.std.specs.Ordering.{ordering_reverse}
-use Rattle.std.specs.BTreeMap.{insert_entry}
-use Rattle.serde_json.specs.Data.{Data, array, object, Items, no_items, item, Members, no_members, member}
-use Rattle.serde_json.specs.View.{view, items_view, members_view}
+use Rattle.schemars_walk.proofs.Words.{nat_list_cmp_total, AllByRecursion, IsStrictlySortedBy, keys_of, ordering_reverse, insert_entry, Data, array, object, Items, no_items, item, Members, no_members, member, view, items_view, members_view, Entry, Text, as_array, as_object, place_under, nothing_left, Answer, TransformStep, EachItem, EachMember, AtSchema, AtList, AtSchemaOrList, AtNames, AtPlace, Walked, Recursed}
 use Rattle.serde_json.specs.declared.value.Value.{Value}
-use Rattle.serde_json.proofs.Views.{Entry}
-use Rattle.schemars_schema.specs.Json.{Text}
-use Rattle.serde_json.specs.Find.{as_array, as_object}
-use Rattle.schemars_schema.specs.References.{place_under}
-use Rattle.schemars_text.proofs.Lists.{nothing_left}
-use Rattle.schemars_walk.specs.Walk.{Answer, TransformStep, EachItem, EachMember, AtSchema, AtList, AtSchemaOrList, AtNames, AtPlace, Walked, Recursed}
 use Rattle.schemars_walk.specs.declared.transform.TransformError.{TransformError}
 use Rattle.schemars_walk.specs.declared.transform.TransformError.TheVariants.{Memory, TooDeep}
 use Rattle.schemars_walk.specs.declared.walk.Reach.{Reach}

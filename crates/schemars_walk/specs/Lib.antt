@@ -3,3 +3,4 @@ pub mod Walk
 pub mod Order
 pub mod Parts
 pub mod Rewritten
+pub mod Words

@@ -1,14 +1,6 @@
 //! Rewrites of all schemas inside a schema, from the bottom up.
 ghost use Rattle.std.specs.Prelude.{◌≡◌, ◌∷◌, List, length, map, zip, false, IsTrue, OnOk, IfOk};
-ghost use Rattle.std.specs.Map.{keys_of, values_of};
-ghost use Rattle.std.specs.Vec.Iter.{into_iter_items};
-ghost use Rattle.serde_json.specs.Data.{Data};
-ghost use Rattle.serde_json.specs.View.{view, items_view, members_view};
-ghost use Rattle.schemars_schema.specs.Json.{Text};
-ghost use Rattle.schemars_schema.specs.References.{Place};
-ghost use Rattle.schemars_walk.specs.Walk.{place_meant};
-ghost use Rattle.schemars_walk.specs.Parts.{all_unread, member_places, in_places};
-ghost use Rattle.schemars_walk.specs.Rewritten.{Rules, rewritten, with_subschemas, read_at, as_schema_in, in_items, in_names, in_keywords};
+ghost use Rattle.schemars_walk.specs.Words.{keys_of, values_of, into_iter_items, Data, view, items_view, members_view, Text, Place, place_meant, all_unread, member_places, in_places, Rules, rewritten, with_subschemas, read_at, as_schema_in, in_items, in_names, in_keywords};
 
 pub mod change;
 pub mod place;

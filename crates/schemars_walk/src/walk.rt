@@ -1,10 +1,6 @@
 //! The walk over the subschemas of a schema.
 ghost use Rattle.std.specs.Prelude.{◌≡◌, OnOk, IfErr};
-ghost use Rattle.std.specs.BTreeMap.{insert_entry};
-ghost use Rattle.std.specs.String.{string_cmp};
-ghost use Rattle.serde_json.specs.View.{view, items_view, members_view};
-ghost use Rattle.schemars_schema.specs.References.{place_under};
-ghost use Rattle.schemars_walk.specs.Walk.{EachItem, EachMember, AtSchema, AtPlace, Walked, Visited, place_meant};
+ghost use Rattle.schemars_walk.specs.Words.{insert_entry, string_cmp, view, items_view, members_view, place_under, EachItem, EachMember, AtSchema, AtPlace, Walked, Visited, place_meant};
 ghost use Rattle.schemars_walk.specs.declared.transform.TransformError.TheVariants.{Memory};
 ghost use Rattle.schemars_walk.specs.declared.walk.Reach.TheVariants.{Once};
 

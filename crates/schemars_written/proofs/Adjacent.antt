@@ -1,35 +1,13 @@
 -- Variants of enums whose names stand beside a content, under keys of their own.
 use Rattle.std.proofs.Common.{◌≡◌, ◌⊎◌, inl, inr, ℕ, suc, ◌*◌, ◌<◌, ◌≤◌, List, [], ◌∷◌, length, Bool, true, false, not, Some, None, refl, sym, ap, ◌∙◌, subst, arith}
-use Rattle.std.specs.Prelude.{bytes_eq, Contains, is_some, ◌&&◌, if◌then◌else◌}
-use Rattle.std.specs.List.{IsDistinct}
-use Rattle.std.specs.Option.{option_map_or}
-use Rattle.std.proofs.lemmas.Nat.{mul-le}
-use Rattle.std.proofs.lemmas.Slice.Eq.{bytes_eq-Decides}
+use Rattle.schemars_written.proofs.Words.{bytes_eq, Contains, is_some, ◌&&◌, if◌then◌else◌, IsDistinct, option_map_or, mul-le, bytes_eq-Decides, Json, Event, Log, Logs, spelled, Data, string, Members, no_members, member, members_depth, depth, get_member, of_json, of_members, get_member-here, Text, Patterns, AllMembers, by_tag_and_content, Payload, no_payload, newtype_payload, tuple_payload, struct_payload, payload_numbers, Row, rank, IsChecked, expanded_payload, flattened_in, part_enums, belongs_within, choices_within, has_payload, has_beside, every_member, Member, member_named, must_have, tag_member, IsPlain, Gives, GivesMembers, Named, Beside, Tagged, Struct, IsObject, FirstMember, NoMembers, Done, MeansUnder, HasVariantAt}
 use Rattle.json.specs.Json as json
-use Rattle.json.specs.Json.{Json}
 use Rattle.serde.specs.Event as event
-use Rattle.serde.specs.Event.{Event, Log, Logs}
 use Rattle.serde.specs.declared.name.Case.{Case}
 use Rattle.serde.specs.declared.name.Case.TheVariants.{AsIs}
 use Rattle.serde.specs.declared.name.NameKind.TheVariants as kind
-use Rattle.serde.specs.Spelling.{spelled}
-use Rattle.serde_json.specs.Data.{Data, string, Members, no_members, member, members_depth, depth}
-use Rattle.serde_json.specs.Find.{get_member}
-use Rattle.serde_json.specs.Read.{of_json, of_members}
-use Rattle.schemars_text.proofs.Members.{get_member-here}
-use Rattle.schemars_schema.specs.Json.{Text}
-use Rattle.schemars_schema.specs.Acceptance.{Patterns}
-use Rattle.schemars_flatten.proofs.Kept.{AllMembers}
-use Rattle.schemars_shapes.specs.Shape.{by_tag_and_content, Payload, no_payload, newtype_payload, tuple_payload, struct_payload, payload_numbers}
-use Rattle.schemars_types.specs.Rows.{Row}
-use Rattle.schemars_types.specs.Edges.{rank}
-use Rattle.schemars_types.specs.Faults.{IsChecked}
-use Rattle.schemars_types.specs.Effective.{expanded_payload, flattened_in, part_enums}
-use Rattle.schemars_types.specs.Meaning.{belongs_within, choices_within, has_payload, has_beside, every_member, Member, member_named, must_have, tag_member}
 use Rattle.schemars_types.specs.declared.contract.Contract.TheVariants.{Serialize}
 use Rattle.schemars_written.specs.Gives as gives
-use Rattle.schemars_written.specs.Gives.{IsPlain, Gives, GivesMembers, Named, Beside, Tagged, Struct, IsObject, FirstMember, NoMembers, Done}
-use Rattle.schemars_written.specs.Fits.{MeansUnder, HasVariantAt}
 use Rattle.schemars_written.proofs.Atoms.{weaker}
 use Rattle.schemars_written.proofs.Lists.{both_true}
 use Rattle.schemars_written.proofs.Objects.{object_parts, read_members, stays, comes, field_key_gives, member_gives, done_gives, struct_gives}

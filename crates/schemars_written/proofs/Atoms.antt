@@ -1,33 +1,13 @@
 -- Values that are one event.
 use Rattle.std.proofs.Common.{◌≡◌, ℕ, zero, suc, ◌+◌, ◌*◌, ◌<◌, ◌^◌, ℤ, pos, negsuc, List, [], ◌∷◌, ◌++◌, length, Bool, true, false, ◌==◌, Option, Some, None, decimal, encode_utf8, refl, sym, ap, ◌∙◌, subst, arith}
-use Rattle.std.specs.Option.{option_map_or}
-use Rattle.std.specs.Prelude.{option_map, Contains}
-use Rattle.std.specs.Fmt.{signed_decimal}
-use Rattle.std.proofs.lemmas.Grind.{common_steps}
+use Rattle.schemars_written.proofs.Words.{option_map_or, option_map, Contains, signed_decimal, common_steps, Json, json_tokens, Event, Log, Logs, Data, depth, number, unsigned, negative, boolean, null, string, of_json, State, Takes, Patterns, code_points, Shape, Entry, numbers_of, same_value_numbers, Row, entry_at, rank, IsChecked, key_options, expanded_shape_in, belongs_within, choices_within, has_shape, is_of_kind, IsPlain, Gives, AnyReading, IsWithin64, Fits, MeansUnder, Means, HasShape}
 use Rattle.json.specs.Json as json
-use Rattle.json.specs.Json.{Json}
-use Rattle.json.specs.Tree.{json_tokens}
 use Rattle.serde.specs.Event as event
-use Rattle.serde.specs.Event.{Event, Log, Logs}
-use Rattle.serde_json.specs.Data.{Data, depth, number, unsigned, negative, boolean, null, string}
-use Rattle.serde_json.specs.Read.{of_json}
-use Rattle.serde_json.specs.Sent.{State, Takes}
 use Rattle.schemars_written.proofs.Digits.{number_of-decimal, number_of-negative}
-use Rattle.schemars_schema.specs.Acceptance.{Patterns, code_points}
 use Rattle.schemars_shapes.specs.Shape as shape
-use Rattle.schemars_shapes.specs.Shape.{Shape, Entry, numbers_of, same_value_numbers}
 use Rattle.schemars_shapes.specs.declared.shape.IntKind.{IntKind}
-use Rattle.schemars_types.specs.Rows.{Row, entry_at}
-use Rattle.schemars_types.specs.Edges.{rank}
-use Rattle.schemars_types.specs.Faults.{IsChecked}
-use Rattle.schemars_types.specs.KeyOptions.{key_options}
-use Rattle.schemars_types.specs.Effective.{expanded_shape_in}
-use Rattle.schemars_types.specs.Meaning.{belongs_within, choices_within, has_shape, is_of_kind}
 use Rattle.schemars_types.specs.declared.contract.Contract.TheVariants.{Serialize}
 use Rattle.schemars_written.proofs.Characters.{one-character}
-use Rattle.schemars_written.specs.Gives.{IsPlain, Gives}
-use Rattle.schemars_written.specs.Readings.{AnyReading, IsWithin64}
-use Rattle.schemars_written.specs.Fits.{Fits, MeansUnder, Means, HasShape}
 
 -- one event, wherever it is taken, writes one JSON with P
 abbrev pub Added : (Json → Type 0) → State → State → Type 0

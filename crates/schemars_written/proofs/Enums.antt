@@ -1,36 +1,14 @@
 -- Variants of enums, by how their names are written.
 use Rattle.std.proofs.Common.{◌≡◌, ◌⊎◌, inl, inr, ℕ, suc, ◌+◌, ◌*◌, ◌<◌, ◌≤◌, List, [], ◌∷◌, ◌++◌, length, map, Bool, true, false, not, Option, Some, None, refl, sym, ap, ◌∙◌, subst, arith, append-nil}
-use Rattle.std.specs.Prelude.{bytes_eq, Contains, is_some, ◌&&◌, if◌then◌else◌}
-use Rattle.std.specs.List.{IsDistinct}
-use Rattle.std.specs.Option.{option_map_or}
-use Rattle.std.proofs.lemmas.Grind.{common_steps}
-use Rattle.std.proofs.lemmas.Slice.Eq.{bytes_eq-Decides}
+use Rattle.schemars_written.proofs.Words.{bytes_eq, Contains, is_some, ◌&&◌, if◌then◌else◌, IsDistinct, option_map_or, common_steps, bytes_eq-Decides, Json, Event, Log, Logs, spelled, Data, string, object, Members, no_members, member, members_depth, depth, put, get_member, of_json, of_members, get_member-here, Text, Patterns, AllMembers, Field, Tagging, by_name, by_nothing, by_tag, by_tag_and_content, Variant, Payload, no_payload, newtype_payload, tuple_payload, struct_payload, payload_numbers, payload_same, Row, rank, IsChecked, expanded_variant, expanded_payload, flattened_in, part_enums, belongs_within, choices_within, has_variant, has_payload, has_tagged, field_named, is_text, every_member, Member, member_named, must_have, tag_member, field_member, has_member, Gives, GivesMembers, Named, Beside, Tagged, Struct, IsObject, FirstMember, NoMembers, Done, Fits, MeansUnder, HasVariantAt, AvoidsTag}
 use Rattle.json.specs.Json as json
-use Rattle.json.specs.Json.{Json}
 use Rattle.serde.specs.Event as event
-use Rattle.serde.specs.Event.{Event, Log, Logs}
 use Rattle.serde.specs.declared.name.Case.{Case}
 use Rattle.serde.specs.declared.name.Case.TheVariants.{AsIs}
 use Rattle.serde.specs.declared.name.NameKind.TheVariants as kind
-use Rattle.serde.specs.Spelling.{spelled}
-use Rattle.serde_json.specs.Data.{Data, string, object, Members, no_members, member, members_depth, depth, put}
-use Rattle.serde_json.specs.Find.{get_member}
-use Rattle.serde_json.specs.Read.{of_json, of_members}
-use Rattle.schemars_text.proofs.Members.{get_member-here}
-use Rattle.schemars_schema.specs.Json.{Text}
-use Rattle.schemars_schema.specs.Acceptance.{Patterns}
-use Rattle.schemars_flatten.proofs.Kept.{AllMembers}
 use Rattle.schemars_shapes.specs.Shape as shape
-use Rattle.schemars_shapes.specs.Shape.{Field, Tagging, by_name, by_nothing, by_tag, by_tag_and_content, Variant, Payload, no_payload, newtype_payload, tuple_payload, struct_payload, payload_numbers, payload_same}
-use Rattle.schemars_types.specs.Rows.{Row}
-use Rattle.schemars_types.specs.Edges.{rank}
-use Rattle.schemars_types.specs.Faults.{IsChecked}
-use Rattle.schemars_types.specs.Effective.{expanded_variant, expanded_payload, flattened_in, part_enums}
-use Rattle.schemars_types.specs.Meaning.{belongs_within, choices_within, has_variant, has_payload, has_tagged, field_named, is_text, every_member, Member, member_named, must_have, tag_member, field_member, has_member}
 use Rattle.schemars_written.proofs.Members.{field_fits, beside_tag_fits, has_each_field, member_at}
 use Rattle.schemars_types.specs.declared.contract.Contract.TheVariants.{Serialize}
-use Rattle.schemars_written.specs.Gives.{Gives, GivesMembers, Named, Beside, Tagged, Struct, IsObject, FirstMember, NoMembers, Done}
-use Rattle.schemars_written.specs.Fits.{Fits, MeansUnder, HasVariantAt, AvoidsTag}
 use Rattle.schemars_written.proofs.Atoms.{one, step, weaker, same_lower, Some_same}
 use Rattle.schemars_written.proofs.Lists.{both_true, closer}
 use Rattle.schemars_written.proofs.Objects.{EachJson, OfField, Matches, small, object_parts, member_parts, read_members, stays, named_number, name_of_found, of_fields, has_keys_of, plain_fields, GivesKey, field_key_gives, member_gives, done_gives, struct_gives}

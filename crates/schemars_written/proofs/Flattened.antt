@@ -1,26 +1,9 @@
 -- A struct into which another is flattened: one map with the fields of both.
 use Rattle.std.proofs.Common.{◌≡◌, ◌⊎◌, inl, inr, ℕ, zero, suc, ◌<◌, List, [], ◌∷◌, ◌++◌, length, map, Bool, true, Option, None, is_some, refl, sym, ap, ◌∙◌, subst, arith, append_assoc, append-nil}
-use Rattle.std.specs.Prelude.{Contains, option_and_then, if◌then◌else◌}
-use Rattle.std.specs.List.{IsDistinct}
-use Rattle.std.specs.Option.{option_map_or}
-use Rattle.std.proofs.lemmas.List.Elements.{Contains-append_left, Contains-append_cases}
+use Rattle.schemars_written.proofs.Words.{Contains, option_and_then, if◌then◌else◌, IsDistinct, option_map_or, Contains-append_left, Contains-append_cases, Json, Log, Data, Text, Patterns, Entry, Field, Flattened, Required, option_of, Row, rank, option_at, IsChecked, fields_within, enums_within, row_fields, part_fields, part_enums, flattened_in, shape_fields, shape_enums, required_only_if, without_options, enum_at, belongs_within, choices_within, has_fields, matches_of, stops, Gives, Struct, IsObject, MeansUnder, HasShape, HasFlattened, NextField, NextOptional, LastField, AvoidsTag, AreApart}
 use Rattle.json.specs.Json as json
-use Rattle.json.specs.Json.{Json}
-use Rattle.serde.specs.Event.{Log}
-use Rattle.serde_json.specs.Data.{Data}
-use Rattle.schemars_schema.specs.Json.{Text}
-use Rattle.schemars_schema.specs.Acceptance.{Patterns}
 use Rattle.schemars_shapes.specs.Shape as shape
-use Rattle.schemars_shapes.specs.Shape.{Entry, Field, Flattened, Required, option_of}
-use Rattle.schemars_types.specs.Rows.{Row}
-use Rattle.schemars_types.specs.Edges.{rank, option_at}
-use Rattle.schemars_types.specs.Faults.{IsChecked}
-use Rattle.schemars_types.specs.Effective.{fields_within, enums_within, row_fields, part_fields, part_enums, flattened_in, shape_fields, shape_enums, required_only_if, without_options, enum_at}
-use Rattle.schemars_types.specs.Meaning.{belongs_within, choices_within, has_fields, matches_of}
 use Rattle.schemars_types.specs.declared.contract.Contract.TheVariants.{Serialize}
-use Rattle.schemars_types.proofs.Options.{stops}
-use Rattle.schemars_written.specs.Gives.{Gives, Struct, IsObject}
-use Rattle.schemars_written.specs.Fits.{MeansUnder, HasShape, HasFlattened, NextField, NextOptional, LastField, AvoidsTag, AreApart}
 use Rattle.schemars_written.proofs.Atoms.{weaker, step, part_low}
 use Rattle.schemars_written.proofs.Objects.{Apart, Matches, plain_fields, names_apart, fields_belong, struct_gives}
 use Rattle.schemars_written.proofs.Laws.{FieldsAgreeUnder}

@@ -1,31 +1,11 @@
 -- A variant with its name under a tag, beside the members of its value.
 use Rattle.std.proofs.Common.{◌≡◌, inl, inr, ℕ, ◌≤◌, max, List, [], ◌∷◌, length, Bool, true, false, Option, Some, refl, sym, ap, ◌∙◌, subst, arith}
-use Rattle.std.specs.Prelude.{Contains, option_map, option_and_then, bytes_eq, if◌then◌else◌}
-use Rattle.std.proofs.lemmas.Nat.{mul-le}
-use Rattle.std.proofs.lemmas.Slice.Eq.{bytes_eq-Decides}
+use Rattle.schemars_written.proofs.Words.{Contains, option_map, option_and_then, bytes_eq, if◌then◌else◌, mul-le, bytes_eq-Decides, Log, spelled, Data, string, object, Members, no_members, member, members_depth, depth, put, get_member, of_json, of_members, get_member-put, get_member-put_other, differ, get_member-here, Text, Patterns, without, get_member-without, without-put, IsSorted, sorted-put, sorted-without, same_members, Field, by_tag, newtype_payload, payload_same, Row, IsChecked, belongs_within, holds, is_text, Gives, GivesMembers, Struct, Beside, IsObject, FirstMember, Fits, MeansUnder, HasShape, HasVariantAt, AvoidsTag}
 use Rattle.json.specs.Json as json
-use Rattle.serde.specs.Event.{Log}
 use Rattle.serde.specs.declared.name.Case.{Case}
 use Rattle.serde.specs.declared.name.NameKind.TheVariants as kind
-use Rattle.serde.specs.Spelling.{spelled}
-use Rattle.serde_json.specs.Data.{Data, string, object, Members, no_members, member, members_depth, depth, put}
-use Rattle.serde_json.specs.Find.{get_member}
-use Rattle.serde_json.specs.Read.{of_json, of_members}
-use Rattle.serde_json.proofs.Views.{get_member-put, get_member-put_other}
-use Rattle.schemars_text.proofs.Members.{differ, get_member-here}
-use Rattle.schemars_schema.specs.Json.{Text}
-use Rattle.schemars_schema.specs.Acceptance.{Patterns}
-use Rattle.schemars_schema.specs.Edits.{without}
-use Rattle.schemars_schema.proofs.Members.{get_member-without, without-put}
-use Rattle.schemars_schema.proofs.SortedMembers.{IsSorted, sorted-put, sorted-without, same_members}
 use Rattle.schemars_shapes.specs.Shape as shape
-use Rattle.schemars_shapes.specs.Shape.{Field, by_tag, newtype_payload, payload_same}
-use Rattle.schemars_types.specs.Rows.{Row}
-use Rattle.schemars_types.specs.Faults.{IsChecked}
-use Rattle.schemars_types.specs.Meaning.{belongs_within, holds, is_text}
 use Rattle.schemars_types.specs.declared.contract.Contract.TheVariants.{Serialize}
-use Rattle.schemars_written.specs.Gives.{Gives, GivesMembers, Struct, Beside, IsObject, FirstMember}
-use Rattle.schemars_written.specs.Fits.{Fits, MeansUnder, HasShape, HasVariantAt, AvoidsTag}
 use Rattle.schemars_written.proofs.Atoms.{weaker, same_lower, Some_same}
 use Rattle.schemars_written.proofs.Lists.{both_true}
 use Rattle.schemars_written.proofs.Objects.{EachJson, Matches, plain_fields, object_parts, member_parts, struct_means, struct_gives}

@@ -1,20 +1,11 @@
 -- The laws of whole numbers as keys, under readings that take each of them for what it is.
 use Rattle.std.proofs.Common.{◌≡◌, ℕ, ◌<◌, ◌^◌, ℤ, List, refl, arith}
-use Rattle.std.specs.Prelude.{FitsSigned}
-use Rattle.std.specs.Int.{w8, w16, w32, w64}
-use Rattle.std.proofs.lemmas.Int.{ints}
+use Rattle.schemars_written.proofs.Words.{FitsSigned, w8, w16, w32, w64, ints, Logs, integers_of, Row, IsChecked, IsWithin64, TakesWholeNumbers, GivesAsKey, IsKeyUnder, HasShape}
 use Rattle.serde.specs.Event as event
-use Rattle.serde.specs.Event.{Logs}
 use Rattle.schemars_shapes.specs.Shape as shape
-use Rattle.schemars_shapes.specs.IntegerKeys.{integers_of}
 use Rattle.schemars_shapes.specs.declared.shape.IntegerKeys.TheVariants.{Unsigned, Signed}
 use Rattle.schemars_shapes.specs.declared.shape.IntKind.{IntKind}
 use Rattle.schemars_shapes.specs.declared.shape.IntKind.TheVariants.{U8, U16, U32, U64, U128, Usize, I8, I16, I32, I64, I128, Isize}
-use Rattle.schemars_types.specs.Rows.{Row}
-use Rattle.schemars_types.specs.Faults.{IsChecked}
-use Rattle.schemars_written.specs.Readings.{IsWithin64, TakesWholeNumbers}
-use Rattle.schemars_written.specs.Gives.{GivesAsKey}
-use Rattle.schemars_written.specs.Fits.{IsKeyUnder, HasShape}
 use Rattle.schemars_written.proofs.Keys.{natural_key_law, integer_key_law, key_under}
 use Rattle.schemars_written.proofs.Laws.{within}
 

@@ -1,34 +1,14 @@
 -- What is written where a key of a map is due.
 use Rattle.std.proofs.Common.{◌≡◌, inl, inr, ℕ, ℤ, List, [], ◌∷◌, ◌++◌, map, Bool, true, false, ◌||◌, Some, None, decimal, encode_utf8, refl, ap, ◌∙◌, subst, arith}
-use Rattle.std.specs.Prelude.{bytes_eq, codes, if◌then◌else◌}
-use Rattle.std.specs.Fmt.{signed_decimal}
-use Rattle.std.specs.List.{list_any}
-use Rattle.std.proofs.lemmas.Grind.{common_steps}
+use Rattle.schemars_written.proofs.Words.{bytes_eq, codes, if◌then◌else◌, signed_decimal, list_any, common_steps, Event, Log, Logs, spelled, State, Takes, Text, Patterns, matches, is_listed, Shape, Variant, by_name, no_payload, pattern_of, integers_of, Row, IsChecked, AreListed, KeyOptions, keys, any_text, is_key_allowed, all_options, shape_options, external_options, are_names, distinct_options, or_any_text, once, all_options-shape, listed_own, once_by_joining, AnyReading, TakesNatural, TakesInteger, IsAtKey, GivesAsKey, Named, IsKeyUnder, HasShape, HasVariant, HasUnit}
 use Rattle.json.specs.Token as token
 use Rattle.serde.specs.Event as event
-use Rattle.serde.specs.Event.{Event, Log, Logs}
 use Rattle.serde.specs.declared.name.Case.{Case}
 use Rattle.serde.specs.declared.name.NameKind.TheVariants as kind
-use Rattle.serde.specs.Spelling.{spelled}
-use Rattle.serde_json.specs.Sent.{State, Takes}
-use Rattle.schemars_schema.specs.Json.{Text}
-use Rattle.schemars_schema.specs.Acceptance.{Patterns, matches}
-use Rattle.schemars_text.specs.OrderedText.{is_listed}
 use Rattle.schemars_shapes.specs.Shape as shape
-use Rattle.schemars_shapes.specs.Shape.{Shape, Variant, by_name, no_payload}
-use Rattle.schemars_shapes.specs.IntegerKeys.{pattern_of, integers_of}
 use Rattle.schemars_shapes.specs.declared.shape.IntegerKeys.TheVariants.{Unsigned, Signed}
 use Rattle.schemars_shapes.specs.declared.shape.IntegerKeys.{IntegerKeys}
 use Rattle.schemars_shapes.specs.declared.shape.IntKind.{IntKind}
-use Rattle.schemars_types.specs.Rows.{Row}
-use Rattle.schemars_types.specs.Faults.{IsChecked}
-use Rattle.schemars_types.specs.Found.{AreListed}
-use Rattle.schemars_types.specs.KeyOptions.{KeyOptions, keys, any_text, is_key_allowed, all_options, shape_options, external_options, are_names, distinct_options, or_any_text, once}
-use Rattle.schemars_types.proofs.Settling.{all_options-shape}
-use Rattle.schemars_types.proofs.Texts.{listed_own, once_by_joining}
-use Rattle.schemars_written.specs.Readings.{AnyReading, TakesNatural, TakesInteger}
-use Rattle.schemars_written.specs.Gives.{IsAtKey, GivesAsKey, Named}
-use Rattle.schemars_written.specs.Fits.{IsKeyUnder, HasShape, HasVariant, HasUnit}
 
 -- one event that is this key
 one_key : (e : Event) (k : Text) (Q : Text → Type 0) → Q k

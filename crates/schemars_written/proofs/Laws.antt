@@ -1,30 +1,14 @@
 -- The laws of implementations, in the form in which they are cited.
 use Rattle.std.proofs.Common.{◌≡◌, inl, inr, ℕ, ◌<◌, ◌^◌, ℤ, pos, negsuc, List, [], ◌∷◌, length, Bool, true, Option, Float, refl, arith}
-use Rattle.std.specs.Prelude.{All, FitsSigned, IsTrue}
-use Rattle.std.specs.Float.{float_is_finite}
-use Rattle.std.specs.Int.{w8, w16, w32, w64}
-use Rattle.std.proofs.lemmas.Int.{ints}
-use Rattle.std.proofs.lemmas.Bool.Decides.{nat_tests}
+use Rattle.schemars_written.proofs.Words.{All, FitsSigned, IsTrue, float_is_finite, w8, w16, w32, w64, ints, nat_tests, Log, Logs, WritesEach, WritesSeq, WritesOption, WritesMap, InSeq, Then, number_event, num_of, is_valid, number_view, Text, Patterns, Field, Row, IsChecked, Gives, GivesAsKey, GivesMembers, Done, Struct, NoMembers, NoItems, IsArray, AnyReading, IsWithin64, IsNumberRow, HasShape, IsArrayRow, HasFields, NextField, NextOptional, LastField, MeansUnder, Means, IsKeyUnder, OfSome}
 use Rattle.serde.specs.Event as event
-use Rattle.serde.specs.Event.{Log, Logs, WritesEach, WritesSeq, WritesOption, WritesMap, InSeq, Then}
-use Rattle.serde_json.specs.Events.{number_event}
-use Rattle.serde_json.specs.Number.{num_of, is_valid}
-use Rattle.serde_json.specs.View.{number_view}
 use Rattle.serde_json.specs.declared.number.N.{N}
 use Rattle.serde_json.specs.declared.number.N.TheVariants as kept
 use Rattle.serde_json.specs.declared.number.Number.{Number}
-use Rattle.schemars_schema.specs.Json.{Text}
-use Rattle.schemars_schema.specs.Acceptance.{Patterns}
 use Rattle.schemars_shapes.specs.Shape as shape
-use Rattle.schemars_shapes.specs.Shape.{Field}
 use Rattle.schemars_shapes.specs.declared.shape.IntKind.{IntKind}
 use Rattle.schemars_shapes.specs.declared.shape.IntKind.TheVariants.{U8, U16, U32, U64, U128, Usize, I8, I16, I32, I64, I128, Isize}
-use Rattle.schemars_types.specs.Rows.{Row}
-use Rattle.schemars_types.specs.Faults.{IsChecked}
 use Rattle.schemars_written.specs.Gives as gives
-use Rattle.schemars_written.specs.Gives.{Gives, GivesAsKey, GivesMembers, Done, Struct, NoMembers, NoItems, IsArray}
-use Rattle.schemars_written.specs.Readings.{AnyReading, IsWithin64}
-use Rattle.schemars_written.specs.Fits.{IsNumberRow, HasShape, IsArrayRow, HasFields, NextField, NextOptional, LastField, MeansUnder, Means, IsKeyUnder, OfSome}
 use Rattle.schemars_written.proofs.Atoms.{weaker, unsigned_gives, signed_gives, unsigned_agrees, signed_agrees}
 use Rattle.schemars_written.proofs.Values.{number_means, double_gives, single_agrees, double_agrees}
 use Rattle.schemars_written.proofs.Lists.{no_items_give, option_agrees, seq_agrees, array_agrees, pair_agrees, Of, tuple_means, in_seq_gives, then_give, last_gives}

@@ -1,30 +1,11 @@
 -- Options, lists and tuples.
 use Rattle.std.proofs.Common.{◌≡◌, ℕ, zero, suc, ◌+◌, ◌*◌, ◌<◌, ◌≤◌, List, [], ◌∷◌, ◌++◌, length, Bool, true, false, ◌&&◌, ◌||◌, ◌==◌, Option, Some, None, refl, sym, ap, ◌∙◌, subst, arith, append_assoc, append-nil, mul-le-mul_right}
-use Rattle.std.specs.Prelude.{All, option_map, option_and_then, Contains}
-use Rattle.std.proofs.lemmas.Grind.{common_steps}
-use Rattle.std.proofs.lemmas.List.Elements.{All-head, All-tail}
-use Rattle.std.proofs.lemmas.Nat.{mul-le}
+use Rattle.schemars_written.proofs.Words.{All, option_map, option_and_then, Contains, common_steps, All-head, All-tail, mul-le, Json, json_tokens, items_tokens, Event, Log, Logs, WritesEach, WritesSeq, WritesOption, InSeq, Then, Data, depth, items_depth, null, array, Items, no_items, item, items_len, of_json, of_items, TakesAll, Patterns, is_null, Shape, Entry, numbers_of, Row, rank, IsChecked, belongs_within, every_item, each_of, IsPlain, Gives, GivesItems, First, NoItems, Each, IsArray, AnyReading, Fits, MeansUnder, Means, HasShape, OfSome}
 use Rattle.json.specs.Json as json
-use Rattle.json.specs.Json.{Json}
 use Rattle.json.specs.Token as token
-use Rattle.json.specs.Tree.{json_tokens, items_tokens}
 use Rattle.serde.specs.Event as event
-use Rattle.serde.specs.Event.{Event, Log, Logs, WritesEach, WritesSeq, WritesOption, InSeq, Then}
-use Rattle.serde_json.specs.Data.{Data, depth, items_depth, null, array, Items, no_items, item}
-use Rattle.serde_json.specs.Events.{items_len}
-use Rattle.serde_json.specs.Read.{of_json, of_items}
-use Rattle.serde_json.specs.Sent.{TakesAll}
-use Rattle.schemars_schema.specs.Acceptance.{Patterns, is_null}
 use Rattle.schemars_shapes.specs.Shape as shape
-use Rattle.schemars_shapes.specs.Shape.{Shape, Entry, numbers_of}
-use Rattle.schemars_types.specs.Rows.{Row}
-use Rattle.schemars_types.specs.Edges.{rank}
-use Rattle.schemars_types.specs.Faults.{IsChecked}
-use Rattle.schemars_types.specs.Meaning.{belongs_within, every_item, each_of}
 use Rattle.schemars_types.specs.declared.contract.Contract.TheVariants.{Serialize}
-use Rattle.schemars_written.specs.Gives.{IsPlain, Gives, GivesItems, First, NoItems, Each, IsArray}
-use Rattle.schemars_written.specs.Readings.{AnyReading}
-use Rattle.schemars_written.specs.Fits.{Fits, MeansUnder, Means, HasShape, OfSome}
 use Rattle.schemars_written.proofs.Atoms.{weaker, step, part_low, same_lower, known, null_gives, Some_same}
 
 -- ---- Option

@@ -1,18 +1,9 @@
 -- A loop over the entries of a map, and what calls give.
 use Rattle.std.proofs.Common.{◌≡◌, ℕ, zero, suc, ◌<◌, ◌≤◌, get_or, drop, List, [], ◌∷◌, ◌++◌, length, Bool, true, false, Option, Some, None, Result, Ok, Err, IfOk, inl, inr, refl, sym, ap, ◌∙◌, subst, append_assoc, append-nil, arith}
-use Rattle.std.specs.Prelude.{All, IfSome, map, string_bytes, String, slice_index_or}
+use Rattle.schemars_written.proofs.Words.{All, IfSome, map, string_bytes, String, slice_index_or, All-push, All-head, All-tail, tokens, Log, read, AreTokensOf, IsTextOf, view, Text, Patterns, Field, fields_of, field_of, flattened_of, required_of, Payload, Tagging, struct_payload, by_tag, by_tag_and_content, shape_of, payload_of, variant_of, internal_payload_of, internal_variant_of, Row, IsChecked, Gives, MeansUnder, HasShape, HasList, HasPart, HasFields, NextField, NextOptional, LastField, HasOwnFields, HasStruct, HasVariant, HasVariantAt, BelongsUnder, BelongsAsReadUnder}
 use Rattle.std.specs.declared.alloc.Global.{Global}
-use Rattle.std.proofs.lemmas.List.Elements.{All-push, All-head, All-tail}
-use Rattle.json.specs.Lex.{tokens}
-use Rattle.serde.specs.Event.{Log}
-use Rattle.serde_json.specs.Read.{read}
-use Rattle.serde_json.specs.Sent.{AreTokensOf, IsTextOf}
-use Rattle.serde_json.specs.View.{view}
 use Rattle.serde_json.specs.declared.value.Value.{Value}
-use Rattle.schemars_schema.specs.Json.{Text}
-use Rattle.schemars_schema.specs.Acceptance.{Patterns}
 use Rattle.schemars_shapes.specs.Shape as shape
-use Rattle.schemars_shapes.specs.Shape.{Field, fields_of, field_of, flattened_of, required_of, Payload, Tagging, struct_payload, by_tag, by_tag_and_content, shape_of, payload_of, variant_of, internal_payload_of, internal_variant_of}
 use Rattle.schemars_shapes.specs.declared.variant.Variant as src-variant
 use Rattle.schemars_shapes.specs.declared.variant.InternalVariant as src-internal
 use Rattle.schemars_shapes.specs.declared.variant.Internal as src-inside
@@ -21,11 +12,6 @@ use Rattle.schemars_shapes.specs.declared.shape.Shape.TheVariants as src-shape
 use Rattle.schemars_shapes.specs.declared.shape.Field as src-field
 use Rattle.schemars_shapes.specs.declared.shape.Fields as src-fields
 use Rattle.schemars_shapes.specs.declared.shape.Flattened as src-flattened
-use Rattle.schemars_types.specs.Rows.{Row}
-use Rattle.schemars_types.specs.Faults.{IsChecked}
-use Rattle.schemars_written.specs.Gives.{Gives}
-use Rattle.schemars_written.specs.Fits.{MeansUnder, HasShape, HasList, HasPart, HasFields, NextField, NextOptional, LastField, HasOwnFields, HasStruct, HasVariant, HasVariantAt}
-use Rattle.schemars_written.specs.Writes.{BelongsUnder, BelongsAsReadUnder}
 use Rattle.schemars_written.proofs.Final.{as_read}
 
 -- of all, P holds of those before the rest

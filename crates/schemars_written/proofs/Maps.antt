@@ -1,29 +1,11 @@
 -- Maps: keys and values that belong.
 use Rattle.std.proofs.Common.{◌≡◌, ℕ, suc, ◌*◌, ◌<◌, ◌≤◌, List, [], ◌∷◌, ◌++◌, length, true, ◌&&◌, Some, refl, ap, ◌∙◌, subst, arith, append_assoc}
-use Rattle.std.specs.Prelude.{All}
-use Rattle.std.proofs.lemmas.Grind.{common_steps}
-use Rattle.std.proofs.lemmas.List.Elements.{All-head, All-tail}
+use Rattle.schemars_written.proofs.Words.{All, common_steps, All-head, All-tail, Json, json_tokens, members_tokens, Event, Log, Logs, WritesEach, WritesEntry, WritesMap, Data, members_depth, object, Members, no_members, member, of_json, of_members, State, TakesAll, Text, Patterns, AllMembers, Row, rank, IsChecked, key_options, is_key_allowed, belongs_within, every_member, IsPlain, IsAtKey, Gives, GivesAsKey, GivesMembers, NoMembers, EachEntry, IsObject, Fits, MeansUnder, IsKeyUnder, HasShape}
 use Rattle.json.specs.Json as json
-use Rattle.json.specs.Json.{Json}
 use Rattle.json.specs.Token as token
-use Rattle.json.specs.Tree.{json_tokens, members_tokens}
 use Rattle.serde.specs.Event as event
-use Rattle.serde.specs.Event.{Event, Log, Logs, WritesEach, WritesEntry, WritesMap}
-use Rattle.serde_json.specs.Data.{Data, members_depth, object, Members, no_members, member}
-use Rattle.serde_json.specs.Read.{of_json, of_members}
-use Rattle.serde_json.specs.Sent.{State, TakesAll}
-use Rattle.schemars_schema.specs.Json.{Text}
-use Rattle.schemars_schema.specs.Acceptance.{Patterns}
-use Rattle.schemars_flatten.proofs.Kept.{AllMembers}
 use Rattle.schemars_shapes.specs.Shape as shape
-use Rattle.schemars_types.specs.Rows.{Row}
-use Rattle.schemars_types.specs.Edges.{rank}
-use Rattle.schemars_types.specs.Faults.{IsChecked}
-use Rattle.schemars_types.specs.KeyOptions.{key_options, is_key_allowed}
-use Rattle.schemars_types.specs.Meaning.{belongs_within, every_member}
 use Rattle.schemars_types.specs.declared.contract.Contract.TheVariants.{Serialize}
-use Rattle.schemars_written.specs.Gives.{IsPlain, IsAtKey, Gives, GivesAsKey, GivesMembers, NoMembers, EachEntry, IsObject}
-use Rattle.schemars_written.specs.Fits.{Fits, MeansUnder, IsKeyUnder, HasShape}
 use Rattle.schemars_written.proofs.Atoms.{weaker, step, part_low}
 use Rattle.schemars_written.proofs.Lists.{both_true}
 use Rattle.schemars_written.proofs.Objects.{EachJson, read_members, object_parts, small, done_gives, struct_gives}

@@ -1,12 +1,7 @@
 -- A member of a field in the meaning.
 use Rattle.std.proofs.Common.{◌≡◌, ℕ, List, [], ◌∷◌, map, Some, Bool, true, false, refl}
-use Rattle.std.specs.Prelude.{if◌then◌else◌, bytes_eq, not}
-use Rattle.std.specs.Option.{option_map_or}
-use Rattle.serde_json.specs.Data.{Data, Members}
-use Rattle.schemars_schema.specs.Json.{Text}
-use Rattle.schemars_shapes.specs.Shape.{Field}
+use Rattle.schemars_written.proofs.Words.{if◌then◌else◌, bytes_eq, not, option_map_or, Data, Members, Text, Field, Member, member_named, has_each, field_member, field_named, tag_member}
 use Rattle.schemars_types.specs.declared.contract.Contract.TheVariants.{Serialize}
-use Rattle.schemars_types.specs.Meaning.{Member, member_named, has_each, field_member, field_named, tag_member}
 
 -- it has the values of the field's row
 pub member_at : (part : ℕ → Data → Bool) (fs : List Field) (k : Text) (w : Data) (free : Bool)

@@ -1,40 +1,15 @@
 -- Maps and structs.
 use Rattle.std.proofs.Common.{◌≡◌, ◌⊎◌, inl, inr, ℕ, suc, ◌*◌, ◌<◌, ◌≤◌, List, [], ◌∷◌, ◌++◌, length, map, Bool, true, false, not, ◌||◌, Option, Some, None, is_some, refl, sym, ap, ◌∙◌, subst, arith, append_assoc, append-nil}
-use Rattle.std.specs.Prelude.{option_map, option_and_then, Contains, bytes_eq, if◌then◌else◌}
-use Rattle.std.specs.List.{IsDistinct, AllByRecursion}
-use Rattle.std.specs.Option.{option_map_or}
-use Rattle.std.proofs.lemmas.Grind.{common_steps}
-use Rattle.std.proofs.lemmas.Slice.Eq.{bytes_eq-Decides}
+use Rattle.schemars_written.proofs.Words.{option_map, option_and_then, Contains, bytes_eq, if◌then◌else◌, IsDistinct, AllByRecursion, option_map_or, common_steps, bytes_eq-Decides, Json, json_tokens, members_tokens, Event, Log, Logs, WritesEach, WritesEntry, WritesMap, Then, spelled-AsIs, Data, depth, members_depth, object, Members, no_members, member, put, get_member, of_json, of_members, State, Takes, TakesAll, get_member-put, get_member-put_other, Text, Patterns, differ, Shape, Entry, Field, numbers_of, names_of, AreDistinctLists, AllMembers, all_put, Row, rank, IsChecked, belongs_within, every_member, field_named, has_fields, is_required, IsPlain, Gives, GivesMembers, SpellsMembers, LeadsMembers, NoMembers, FirstMember, IsObject, Done, Struct, Fits, MeansUnder, HasShape}
 use Rattle.json.specs.Json as json
-use Rattle.json.specs.Json.{Json}
 use Rattle.json.specs.Token as token
-use Rattle.json.specs.Tree.{json_tokens, members_tokens}
 use Rattle.serde.specs.Event as event
-use Rattle.serde.specs.Event.{Event, Log, Logs, WritesEach, WritesEntry, WritesMap, Then}
 use Rattle.serde.specs.declared.name.Case.TheVariants.{AsIs}
 use Rattle.serde.specs.declared.name.NameKind.TheVariants as kind
-use Rattle.serde.proofs.Spellings.{spelled-AsIs}
-use Rattle.serde_json.specs.Data.{Data, depth, members_depth, object, Members, no_members, member, put}
-use Rattle.serde_json.specs.Find.{get_member}
-use Rattle.serde_json.specs.Read.{of_json, of_members}
-use Rattle.serde_json.specs.Sent.{State, Takes, TakesAll}
-use Rattle.serde_json.proofs.Views.{get_member-put, get_member-put_other}
-use Rattle.schemars_schema.specs.Json.{Text}
-use Rattle.schemars_schema.specs.Acceptance.{Patterns}
-use Rattle.schemars_text.proofs.Members.{differ}
 use Rattle.schemars_shapes.specs.Shape as shape
-use Rattle.schemars_shapes.specs.Shape.{Shape, Entry, Field, numbers_of, names_of}
-use Rattle.schemars_shapes.specs.Repeated.{AreDistinctLists}
-use Rattle.schemars_flatten.proofs.Kept.{AllMembers, all_put}
-use Rattle.schemars_types.specs.Rows.{Row}
-use Rattle.schemars_types.specs.Edges.{rank}
-use Rattle.schemars_types.specs.Faults.{IsChecked}
-use Rattle.schemars_types.specs.Meaning.{belongs_within, every_member, field_named, has_fields, is_required}
 use Rattle.schemars_written.proofs.Members.{field_fits, has_each_field, member_at}
 use Rattle.schemars_types.specs.declared.contract.Contract.TheVariants.{Serialize}
 use Rattle.schemars_written.specs.Gives as gives
-use Rattle.schemars_written.specs.Gives.{IsPlain, Gives, GivesMembers, SpellsMembers, LeadsMembers, NoMembers, FirstMember, IsObject, Done, Struct}
-use Rattle.schemars_written.specs.Fits.{Fits, MeansUnder, HasShape}
 use Rattle.schemars_written.proofs.Atoms.{weaker, step, part_low, known, Some_same}
 use Rattle.schemars_written.proofs.Lists.{closer, shallower, both_true}
 

@@ -1,19 +1,8 @@
 -- The laws of what holds other values, each of which asks for readings of its own.
 use Rattle.std.proofs.Common.{◌≡◌, ℕ, List, [], ◌∷◌, length, Bool, false, Option, Some, None, Ordering, Less, is_eq}
-use Rattle.std.specs.Prelude.{All}
-use Rattle.std.specs.Cmp.{IsTotalOrder}
-use Rattle.std.specs.List.{IsDistinct}
-use Rattle.std.specs.List.Sorted.{IsStrictlySortedBy}
-use Rattle.serde.specs.Event.{Log, WritesSeq, WritesOption, WritesMap, InSeq, Then}
-use Rattle.serde_json.specs.Data.{Data}
-use Rattle.schemars_schema.specs.Json.{json_eq}
-use Rattle.schemars_schema.specs.Acceptance.{Patterns}
+use Rattle.schemars_written.proofs.Words.{All, IsTotalOrder, IsDistinct, IsStrictlySortedBy, Log, WritesSeq, WritesOption, WritesMap, InSeq, Then, Data, json_eq, Patterns, Row, IsChecked, Readings, every, those, IsAmong, inside, of_each, of_some, both, of_entries, Gives, GivesAsKey, MeansUnder, MeansJustUnder, IsKeyUnder, HasShape, IsArrayRow}
 use Rattle.schemars_shapes.specs.Shape as shape
-use Rattle.schemars_types.specs.Rows.{Row}
-use Rattle.schemars_types.specs.Faults.{IsChecked}
-use Rattle.schemars_written.specs.Readings.{Readings, every, those, IsAmong, inside, of_each, of_some, both, of_entries, OfSome}
-use Rattle.schemars_written.specs.Gives.{Gives, GivesAsKey}
-use Rattle.schemars_written.specs.Fits.{MeansUnder, MeansJustUnder, IsKeyUnder, HasShape, IsArrayRow}
+use Rattle.schemars_written.specs.Readings.{OfSome}
 use Rattle.schemars_written.proofs.Atoms.{weaker, under}
 use Rattle.schemars_written.proofs.Keys.{key_under}
 use Rattle.schemars_written.proofs.Laws.{Part, option_law, vec_law, any_array_law, keyed_map_law, single_law, pair_law, triple_law, quadruple_law}

@@ -1,27 +1,9 @@
 -- What a variant has beside its name.
 use Rattle.std.proofs.Common.{◌≡◌, inl, inr, ℕ, suc, ◌+◌, ◌*◌, ◌<◌, ◌≤◌, List, [], ◌∷◌, ◌++◌, length, map, Bool, true, false, ◌||◌, Some, refl, sym, ap, ◌∙◌, subst, arith}
-use Rattle.std.specs.Prelude.{bytes_eq, Contains}
-use Rattle.std.specs.List.{IsDistinct, list_any}
-use Rattle.std.specs.Option.{option_map_or}
-use Rattle.std.proofs.lemmas.List.Elements.{Contains-append_left, Contains-append_right}
+use Rattle.schemars_written.proofs.Words.{bytes_eq, Contains, IsDistinct, list_any, option_map_or, Contains-append_left, Contains-append_right, Json, Data, null, depth, items_depth, as_array, of_json, of_items, Text, Patterns, is_null, Shape, Entry, Field, Flattened, Tagging, by_name, by_nothing, by_tag, by_tag_and_content, Variant, Payload, no_payload, newtype_payload, tuple_payload, struct_payload, payload_numbers, payload_names, of_variants, variant_names, tagging_keys, names_of, numbers_of, AreDistinctLists, Row, rank, IsChecked, expanded_payload, flattened_fields, flattened_enums, flattened_in, part_enums, enum_at, belongs_within, choices_within, each_of, has_fields, has_payload, holds, matches_of, IsArray, IsObject, MeansUnder, HasShape, HasVariant}
 use Rattle.json.specs.Json as json
-use Rattle.json.specs.Json.{Json}
-use Rattle.serde_json.specs.Data.{Data, null, depth, items_depth}
-use Rattle.serde_json.specs.Find.{as_array}
-use Rattle.serde_json.specs.Read.{of_json, of_items}
-use Rattle.schemars_schema.specs.Json.{Text}
-use Rattle.schemars_schema.specs.Acceptance.{Patterns, is_null}
 use Rattle.schemars_shapes.specs.Shape as shape
-use Rattle.schemars_shapes.specs.Shape.{Shape, Entry, Field, Flattened, Tagging, by_name, by_nothing, by_tag, by_tag_and_content, Variant, Payload, no_payload, newtype_payload, tuple_payload, struct_payload, payload_numbers, payload_names, of_variants, variant_names, tagging_keys, names_of, numbers_of}
-use Rattle.schemars_shapes.specs.Repeated.{AreDistinctLists}
-use Rattle.schemars_types.specs.Rows.{Row}
-use Rattle.schemars_types.specs.Edges.{rank}
-use Rattle.schemars_types.specs.Faults.{IsChecked}
-use Rattle.schemars_types.specs.Effective.{expanded_payload, flattened_fields, flattened_enums, flattened_in, part_enums, enum_at}
-use Rattle.schemars_types.specs.Meaning.{belongs_within, choices_within, each_of, has_fields, has_payload, holds, matches_of}
 use Rattle.schemars_types.specs.declared.contract.Contract.TheVariants.{Serialize}
-use Rattle.schemars_written.specs.Gives.{IsArray, IsObject}
-use Rattle.schemars_written.specs.Fits.{MeansUnder, HasShape, HasVariant}
 use Rattle.schemars_written.proofs.Atoms.{part_low, Some_same}
 use Rattle.schemars_written.proofs.Lists.{Of, array_parts, parts_fit}
 use Rattle.schemars_written.proofs.Objects.{Apart, Matches, fields_belong}

@@ -1,14 +1,7 @@
 -- There are readings that take decimal digits for what they are.
 use Rattle.std.proofs.Common.{◌≡◌, ◌⊎◌, inl, inr, ℕ, zero, suc, ◌<◌, ◌^◌, ℤ, pos, negsuc, [], ◌∷◌, ◌++◌, true, false, Bool, ◌&&◌, ◌||◌, decimal, refl, sym, ap, ◌∙◌, arith}
-use Rattle.std.specs.Prelude.{bytes_eq}
-use Rattle.std.specs.Fmt.{signed_decimal}
-use Rattle.std.proofs.Math.Nat.{eq-or-lt_of_le}
-use Rattle.std.proofs.lemmas.Slice.Eq.{bytes_eq-Decides}
-use Rattle.schemars_schema.specs.Json.{Text}
-use Rattle.schemars_schema.specs.Acceptance.{Patterns, matches}
-use Rattle.schemars_shapes.specs.IntegerKeys.{pattern_of}
+use Rattle.schemars_written.proofs.Words.{bytes_eq, signed_decimal, eq-or-lt_of_le, bytes_eq-Decides, Text, Patterns, matches, pattern_of, IsWithin64, TakesWholeNumbers}
 use Rattle.schemars_shapes.specs.declared.shape.IntegerKeys.TheVariants.{Unsigned, Signed}
-use Rattle.schemars_written.specs.Readings.{IsWithin64, TakesWholeNumbers}
 
 right_true : (a b : Bool) → b ≡ true → (a || b) ≡ true
 right_true true b h = refl

@@ -1,27 +1,9 @@
 -- Sets of values that their JSON tells apart.
 use Rattle.std.proofs.Common.{◌≡◌, ℕ, List, [], ◌∷◌, length, Bool, true, false, not, ◌||◌, Some, Ordering, Less, Equal, Greater, is_eq, refl, sym, ap, ◌∙◌, subst, arith}
-use Rattle.std.specs.Prelude.{All}
-use Rattle.std.specs.Cmp.{IsTotalOrder}
-use Rattle.std.specs.List.{AllByRecursion, IsDistinct}
-use Rattle.std.specs.Ordering.{ordering_reverse}
-use Rattle.std.specs.List.Sorted.{IsStrictlySortedBy}
-use Rattle.std.proofs.lemmas.List.Elements.{All-head, All-tail}
+use Rattle.schemars_written.proofs.Words.{All, IsTotalOrder, AllByRecursion, IsDistinct, ordering_reverse, IsStrictlySortedBy, All-head, All-tail, Json, Log, WritesEach, WritesSeq, Data, items_depth, array, Items, no_items, item, of_json, of_items, json_eq, is_among, are_distinct, Patterns, json_eq-sym, Row, rank, IsChecked, belongs_within, every_item, Gives, GivesItems, First, NoItems, Each, IsArray, Fits, MeansUnder, MeansJustUnder, HasShape}
 use Rattle.json.specs.Json as json
-use Rattle.json.specs.Json.{Json}
-use Rattle.serde.specs.Event.{Log, WritesEach, WritesSeq}
-use Rattle.serde_json.specs.Data.{Data, items_depth, array, Items, no_items, item}
-use Rattle.serde_json.specs.Read.{of_json, of_items}
-use Rattle.schemars_schema.specs.Json.{json_eq, is_among, are_distinct}
-use Rattle.schemars_schema.specs.Acceptance.{Patterns}
-use Rattle.schemars_schema.proofs.Equalities.{json_eq-sym}
 use Rattle.schemars_shapes.specs.Shape as shape
-use Rattle.schemars_types.specs.Rows.{Row}
-use Rattle.schemars_types.specs.Edges.{rank}
-use Rattle.schemars_types.specs.Faults.{IsChecked}
-use Rattle.schemars_types.specs.Meaning.{belongs_within, every_item}
 use Rattle.schemars_types.specs.declared.contract.Contract.TheVariants.{Serialize}
-use Rattle.schemars_written.specs.Gives.{Gives, GivesItems, First, NoItems, Each, IsArray}
-use Rattle.schemars_written.specs.Fits.{Fits, MeansUnder, MeansJustUnder, HasShape}
 use Rattle.schemars_written.proofs.Atoms.{weaker, step, part_low, Some_same}
 use Rattle.schemars_written.proofs.Lists.{no_items_give, then_give, in_seq_gives, item_parts, array_parts, items_fit, room, both_true}
 

@@ -1,36 +1,12 @@
 -- What values are read as, and that different values are read as different JSON.
 use Rattle.std.proofs.Common.{◌≡◌, ℕ, ◌<◌, ◌^◌, ℤ, pos, negsuc, List, [], ◌∷◌, ◌++◌, Bool, true, false, Some, Ordering, Less, Equal, nat_cmp, is_eq, encode_utf8, refl, sym, ap, ◌∙◌, arith}
-use Rattle.std.specs.Prelude.{option_map, bytes_eq, FitsSigned, String, string_bytes}
-use Rattle.std.specs.Fmt.{signed_decimal}
-use Rattle.std.specs.Int.{w8, w16, w32, w64}
-use Rattle.std.specs.Ordering.{int_cmp, int_eq, bool_cmp, ordering_reverse}
-use Rattle.std.specs.String.{string_cmp}
-use Rattle.std.specs.Cmp.Lexicographic.{slice_cmp}
+use Rattle.schemars_written.proofs.Words.{option_map, bytes_eq, FitsSigned, String, string_bytes, signed_decimal, w8, w16, w32, w64, int_cmp, int_eq, bool_cmp, ordering_reverse, string_cmp, slice_cmp, nat_list_cmp_total, nat_cmp_total, int_cmp_total, tied_itself, common_steps, ints, nat_tests, bytes_eq-Decides, encodes_same, Log, Logs, unsigned, boolean, number, string, of_integer, of_json, alike, json_eq, value_of, of_whole, eq_whole, Row, IsChecked, is_of_kind, Gives, AnyReading, IsWithin64, MeansJust, HasShape}
 use Rattle.std.specs.declared.alloc.Global.{Global}
-use Rattle.std.proofs.lemmas.Cmp.{nat_list_cmp_total, nat_cmp_total, int_cmp_total, tied_itself}
-use Rattle.std.proofs.lemmas.Grind.{common_steps}
-use Rattle.std.proofs.lemmas.Int.{ints}
-use Rattle.std.proofs.lemmas.Bool.Decides.{nat_tests}
-use Rattle.std.proofs.lemmas.Slice.Eq.{bytes_eq-Decides}
-use Rattle.std.proofs.lemmas.Str.{encodes_same}
 use Rattle.json.specs.Json as json
 use Rattle.serde.specs.Event as event
-use Rattle.serde.specs.Event.{Log, Logs}
-use Rattle.serde_json.specs.Data.{unsigned, boolean, number, string}
-use Rattle.serde_json.specs.Find.{of_integer}
-use Rattle.serde_json.specs.Read.{of_json}
-use Rattle.schemars_schema.specs.Json.{alike, json_eq}
-use Rattle.schemars_schema.specs.Numbers.{value_of, of_whole}
-use Rattle.schemars_schema.proofs.ByValue.{eq_whole}
 use Rattle.schemars_shapes.specs.Shape as shape
 use Rattle.schemars_shapes.specs.declared.shape.IntKind.{IntKind}
 use Rattle.schemars_shapes.specs.declared.shape.IntKind.TheVariants.{U8, U16, U32, U64, U128, Usize, I8, I16, I32, I64, I128, Isize}
-use Rattle.schemars_types.specs.Rows.{Row}
-use Rattle.schemars_types.specs.Faults.{IsChecked}
-use Rattle.schemars_types.specs.Meaning.{is_of_kind}
-use Rattle.schemars_written.specs.Gives.{Gives}
-use Rattle.schemars_written.specs.Readings.{AnyReading, IsWithin64}
-use Rattle.schemars_written.specs.Fits.{MeansJust, HasShape}
 use Rattle.schemars_written.proofs.Digits.{number_of-decimal, number_of-negative}
 use Rattle.schemars_written.proofs.Atoms.{one, step, known, unsigned_gives, signed_gives, natural_means, integer_means, one_character}
 use Rattle.schemars_written.proofs.Laws.{within}

@@ -1,24 +1,11 @@
 -- JSON values, and numbers.
 use Rattle.std.proofs.Common.{◌≡◌, inl, inr, ℕ, List, true, false, Option, Some, None, Float, refl, subst, arith}
-use Rattle.std.specs.Prelude.{option_map, codes}
-use Rattle.std.specs.Float.{float_is_finite}
-use Rattle.std.proofs.lemmas.Grind.{common_steps}
+use Rattle.schemars_written.proofs.Words.{option_map, codes, float_is_finite, common_steps, Json, Event, Log, Logs, InSeq, Then, Num, unsigned, negative, float, Data, null, boolean, number, string, array, object, Items, no_items, item, Members, no_members, member, number_event, items_len, members_len, SendsValue, SendsItems, SendsMembers, get, get_member, number_of, State, Takes, TakesFloat, ReadsAsSingle, ReadsAsDouble, Text, where_given, Row, IsPlain, Gives, GivesItems, GivesMembers, Done, Struct, IsArray, IsObject, First, FirstMember, NoItems, NoMembers, Fits, Means, HasShape, HasNumbers, IsFreeOfBounds, IsNumberRow}
 use Rattle.json.specs.Json as json
-use Rattle.json.specs.Json.{Json}
 use Rattle.serde.specs.Event as event
-use Rattle.serde.specs.Event.{Event, Log, Logs, InSeq, Then}
 use Rattle.serde.specs.declared.name.Case.TheVariants.{AsIs}
-use Rattle.serde_json.specs.Data.{Num, unsigned, negative, float, Data, null, boolean, number, string, array, object, Items, no_items, item, Members, no_members, member}
-use Rattle.serde_json.specs.Events.{number_event, items_len, members_len, SendsValue, SendsItems, SendsMembers}
-use Rattle.serde_json.specs.Find.{get, get_member}
-use Rattle.serde_json.specs.Read.{number_of}
-use Rattle.serde_json.specs.Sent.{State, Takes, TakesFloat, ReadsAsSingle, ReadsAsDouble}
-use Rattle.schemars_schema.specs.Json.{Text}
-use Rattle.schemars_schema.specs.Literal.{where_given}
 use Rattle.schemars_shapes.specs.Shape as shape
-use Rattle.schemars_types.specs.Rows.{Row}
-use Rattle.schemars_written.specs.Gives.{IsPlain, Gives, GivesItems, GivesMembers, Done, Field, Struct, IsArray, IsObject, First, FirstMember, NoItems, NoMembers}
-use Rattle.schemars_written.specs.Fits.{Fits, Means, HasShape, HasNumbers, IsFreeOfBounds, IsNumberRow}
+use Rattle.schemars_written.specs.Gives.{Field}
 use Rattle.schemars_written.proofs.Atoms.{Added, one, weaker, step, Some_same, unsigned_gives, signed_gives, null_gives}
 use Rattle.schemars_written.proofs.Lists.{no_items_give, then_give, in_seq_gives}
 use Rattle.schemars_written.proofs.Objects.{done_gives, member_gives, field_key_gives, struct_gives}

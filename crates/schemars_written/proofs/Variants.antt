@@ -1,20 +1,11 @@
 -- The laws of variants, in the form in which they are cited.
 use Rattle.std.proofs.Common.{◌≡◌, ℕ, List, [], ◌∷◌, Bool, false, refl, sym, subst}
-use Rattle.std.specs.Prelude.{bytes_eq}
+use Rattle.schemars_written.proofs.Words.{bytes_eq, Log, Logs, InSeq, Then, spelled, Text, Patterns, Field, by_name, by_nothing, by_tag, by_tag_and_content, no_payload, newtype_payload, tuple_payload, struct_payload, Row, IsChecked, Gives, GivesItems, GivesMembers, Done, Named, Tagged, Struct, Beside, IsObject, MeansUnder, HasFields, HasUnit, HasNewtype, HasTuple, HasStruct, NextItem, LastItem, NextField, NextOptional, LastField, AvoidsTag}
 use Rattle.json.specs.Json as json
 use Rattle.serde.specs.Event as event
-use Rattle.serde.specs.Event.{Log, Logs, InSeq, Then}
 use Rattle.serde.specs.declared.name.Case.{Case}
 use Rattle.serde.specs.declared.name.NameKind.TheVariants as kind
-use Rattle.serde.specs.Spelling.{spelled}
-use Rattle.schemars_schema.specs.Json.{Text}
-use Rattle.schemars_schema.specs.Acceptance.{Patterns}
-use Rattle.schemars_shapes.specs.Shape.{Field, by_name, by_nothing, by_tag, by_tag_and_content, no_payload, newtype_payload, tuple_payload, struct_payload}
-use Rattle.schemars_types.specs.Rows.{Row}
-use Rattle.schemars_types.specs.Faults.{IsChecked}
 use Rattle.schemars_written.specs.Gives as gives
-use Rattle.schemars_written.specs.Gives.{Gives, GivesItems, GivesMembers, Done, Named, Tagged, Struct, Beside, IsObject}
-use Rattle.schemars_written.specs.Fits.{MeansUnder, HasFields, HasUnit, HasNewtype, HasTuple, HasStruct, NextItem, LastItem, NextField, NextOptional, LastField, AvoidsTag}
 use Rattle.schemars_written.proofs.Atoms.{weaker, null_gives}
 use Rattle.schemars_written.proofs.Lists.{Of, in_seq_gives, then_give, last_gives}
 use Rattle.schemars_written.proofs.Objects.{Matches, plain_fields, struct_gives}

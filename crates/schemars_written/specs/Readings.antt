@@ -1,7 +1,7 @@
 -- Readings of patterns, and which of them a type asks for.
 use Rattle.std.specs.Prelude.{◌≡◌, ◌<◌, ◌^◌, ℕ, ℤ, pos, negsuc, List, All, Option, Some, None, true, decimal}
 use Rattle.std.specs.Fmt.{signed_decimal}
-use Rattle.schemars_schema.specs.Acceptance.{Patterns, matches}
+use Rattle.schemars_schema.specs.Judges.{Patterns, matches}
 use Rattle.schemars_shapes.specs.IntegerKeys.{pattern_of}
 use Rattle.schemars_shapes.specs.declared.shape.IntegerKeys.TheVariants.{Unsigned, Signed}
 

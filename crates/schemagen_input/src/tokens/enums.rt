@@ -1,10 +1,6 @@
 //! Enums, by how their variants are tagged.
 ghost use Rattle.std.specs.Prelude.{◌≡◌, ◌<◌, Err, IfOk, OnOk, length, map, option_map};
-ghost use Rattle.serde_json.specs.Data.{Data, Members, object};
-ghost use Rattle.schemars_shapes.specs.Shape.{shape_of, variant_of, internal_variant_of};
-ghost use Rattle.schemagen_input.specs.Forms.{adjacent_in, enum_in, external_in, internal_in, internal_variant_in, untagged_in, variant_in};
-ghost use Rattle.schemagen_input.specs.Gathered.{AreOfEnum};
-ghost use Rattle.schemagen_input.specs.Tokens.{IsNext, IsNoValue};
+ghost use Rattle.schemagen_input.specs.Words.{Data, Members, object, shape_of, variant_of, internal_variant_of, adjacent_in, enum_in, external_in, internal_in, internal_variant_in, untagged_in, variant_in, AreOfEnum, IsNext, IsNoValue};
 
 use crate::tokens::object::{ObjectMembers, read_object};
 use crate::tokens::said::{Said, read_list};

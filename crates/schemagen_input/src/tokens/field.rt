@@ -1,18 +1,14 @@
 //! Fields of structs.
 ghost use Rattle.std.specs.Prelude.{◌≡◌, ◌<◌, Err, IfOk, OnOk, length, option_map};
-ghost use Rattle.serde_json.specs.Data.{Data, Members, object};
-ghost use Rattle.schemars_shapes.specs.Shape.{field_of, required_of};
+ghost use Rattle.schemagen_input.specs.Words.{Data, Members, object, field_of, required_of, field_in, required_in, AreOfField, IsNext, IsNoValue};
 ghost use Rattle.schemars_shapes.specs.Shape as shapes;
-ghost use Rattle.schemagen_input.specs.Forms.{field_in, required_in};
-ghost use Rattle.schemagen_input.specs.Gathered.{AreOfField};
-ghost use Rattle.schemagen_input.specs.Tokens.{IsNext, IsNoValue};
 
-use crate::fields::required_in;
 use crate::tokens::object::{ObjectMembers, read_object};
 use crate::tokens::said::Said;
 use crate::tokens::single::{read_notes, read_number, read_text};
 use json::Reader;
 use schemagen_json::{ParseError, read_value};
+use schemagen_shapes::required_in;
 use schemars_types::{Field, Required, TypeNo};
 use serde_json::{Map, Value};
 use std::alloc::Global;

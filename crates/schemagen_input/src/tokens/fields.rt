@@ -1,18 +1,13 @@
 //! Structs: their fields, the rows flattened into them, and whether other keys are excluded.
 ghost use Rattle.std.specs.Prelude.{◌≡◌, ◌<◌, Err, IfOk, OnOk, length, map, option_map};
-ghost use Rattle.serde_json.specs.Data.{Data, Members, object};
-ghost use Rattle.schemars_shapes.specs.Shape.{fields_of, flattened_of};
-ghost use Rattle.schemagen_input.specs.Forms.{fields_said, flattened_from};
-ghost use Rattle.schemagen_input.specs.Gathered.{AreOfStruct};
-ghost use Rattle.schemagen_input.specs.Tokens.{IsNext, IsNoValue, listed};
+ghost use Rattle.schemagen_input.specs.Words.{Data, Members, object, fields_of, flattened_of, fields_said, flattened_from, AreOfStruct, IsNext, IsNoValue, listed};
 
-use crate::error::if_said;
-use crate::fields::flattened_each;
 use crate::tokens::object::{ObjectMembers, read_object};
 use crate::tokens::said::read_list;
 use crate::tokens::single::read_flag;
 use json::Reader;
 use schemagen_json::{ParseError, read_value};
+use schemagen_shapes::{flattened_each, if_said};
 use schemars_types::{Field, Fields, Flattened};
 use std::alloc::Global;
 

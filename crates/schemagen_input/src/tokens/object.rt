@@ -1,10 +1,7 @@
 //! Objects, of which each member is read for what it says.
 ghost use Rattle.std.specs.Prelude.{◌≡◌, ◌<◌, Some, None, Err, IfOk, OnOk, length};
-ghost use Rattle.json.specs.Json.{members};
+ghost use Rattle.schemagen_input.specs.Words.{members, Data, Members, no_members, put, of_members, converted, IsNext, IsNoValue, AreOfObject};
 ghost use Rattle.json.specs.Json as json;
-ghost use Rattle.serde_json.specs.Data.{Data, Members, no_members, put};
-ghost use Rattle.serde_json.specs.Read.{of_members, converted};
-ghost use Rattle.schemagen_input.specs.Tokens.{IsNext, IsNoValue, AreOfObject};
 
 use json::{Reader, Token};
 use schemagen_json::{ParseError, read_value_from};

@@ -1,9 +1,6 @@
 //! Rows.
 ghost use Rattle.std.specs.Prelude.{◌≡◌, ◌<◌, Err, IfOk, OnOk, length};
-ghost use Rattle.serde_json.specs.Data.{Data, Members, object};
-ghost use Rattle.schemagen_input.specs.Gathered.{AreOfRow};
-ghost use Rattle.schemagen_input.specs.Listing.{IsRowIn};
-ghost use Rattle.schemagen_input.specs.Tokens.{IsNext, IsNoValue};
+ghost use Rattle.schemagen_input.specs.Words.{Data, Members, object, AreOfRow, IsRowIn, IsNext, IsNoValue};
 
 use crate::listing::NewRow;
 use crate::tokens::object::{ObjectMembers, read_object};

@@ -1,11 +1,6 @@
 //! What a value says, and lists of such values.
 ghost use Rattle.std.specs.Prelude.{◌≡◌, ◌<◌, List, Some, None, Option, Err, IfOk, OnOk, length, map, option_map};
-ghost use Rattle.json.specs.Json.{items, value};
-ghost use Rattle.serde_json.specs.Data.{Data};
-ghost use Rattle.serde_json.specs.Read.{of_items, converted};
-ghost use Rattle.serde_json.specs.View.{items_of};
-ghost use Rattle.schemagen_input.specs.Forms.{read_each};
-ghost use Rattle.schemagen_input.specs.Tokens.{IsNext, IsNoValue, listed, with_last};
+ghost use Rattle.schemagen_input.specs.Words.{items, value, Data, of_items, converted, items_of, read_each, IsNext, IsNoValue, listed, with_last};
 
 use json::{Reader, Token};
 use schemagen_json::{ParseError, read_value_from};

@@ -1,15 +1,14 @@
 //! Shapes.
 ghost use Rattle.schemars_shapes.specs.Shape as shapes;
-ghost use Rattle.schemagen_input.specs.Input as input;
+ghost use Rattle.schemagen_shapes.specs.Shapes as input;
 
-use crate::error::if_said;
-use crate::shapes::{shape_named, shape_under};
 use crate::tokens::enums::{read_adjacent, read_external, read_internal, read_untagged};
 use crate::tokens::fields::read_fields;
 use crate::tokens::single::read_parts;
 use crate::tokens::tagged::Tagged;
 use json::Reader;
 use schemagen_json::{ParseError, read_value};
+use schemagen_shapes::{if_said, shape_named, shape_under};
 use schemars_types::Shape;
 use std::alloc::Global;
 

@@ -1,15 +1,11 @@
 //! Texts, numbers, lists of numbers, truth values and notes.
 ghost use Rattle.std.specs.Prelude.{◌≡◌, ◌<◌, ℕ, Err, IfOk, OnOk, length, option_map, string_bytes};
-ghost use Rattle.serde_json.specs.Data.{Data};
-ghost use Rattle.serde_json.specs.Find.{as_bool, as_object, as_str};
-ghost use Rattle.serde_json.specs.View.{members_view};
-ghost use Rattle.schemagen_input.specs.Forms.{number_in, parts_from};
-ghost use Rattle.schemagen_input.specs.Tokens.{IsNext, IsNoValue};
+ghost use Rattle.schemagen_input.specs.Words.{Data, as_bool, as_object, as_str, members_view, number_in, parts_from, IsNext, IsNoValue};
 
-use crate::members::number_in;
 use crate::tokens::said::{Said, read_list};
 use json::{Reader, Token};
 use schemagen_json::{ParseError, copy_members, read_value, read_value_from};
+use schemagen_shapes::number_in;
 use schemars_types::TypeNo;
 use serde_json::{Map, Value};
 use std::alloc::Global;

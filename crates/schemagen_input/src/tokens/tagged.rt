@@ -1,10 +1,6 @@
 //! What is said by a text, or by an object with one member.
 ghost use Rattle.std.specs.Prelude.{◌≡◌, ◌<◌, Option, Err, IfOk, OnOk, length, option_map};
-ghost use Rattle.serde_json.specs.Data.{Data, Members, object};
-ghost use Rattle.schemars_schema.specs.Json.{Text};
-ghost use Rattle.schemagen_input.specs.Forms.{externally_tagged};
-ghost use Rattle.schemagen_input.specs.Gathered.{AreOfTagged, can_be_lone};
-ghost use Rattle.schemagen_input.specs.Tokens.{IsNext, IsNoValue};
+ghost use Rattle.schemagen_input.specs.Words.{Data, Members, object, Text, externally_tagged, AreOfTagged, can_be_lone, IsNext, IsNoValue};
 
 use crate::tokens::object::{ObjectMembers, read_members};
 use json::{Reader, Token};

@@ -1,18 +1,17 @@
 //! Variants of enums.
 ghost use Rattle.std.specs.Prelude.{◌≡◌, option_map};
-ghost use Rattle.serde_json.specs.Data.{Members, object};
+ghost use Rattle.schemagen_input.specs.Words.{Members, object, AreOfVariant};
 ghost use Rattle.schemars_shapes.specs.Shape as shapes;
-ghost use Rattle.schemagen_input.specs.Forms as forms;
-ghost use Rattle.schemagen_input.specs.Gathered.{AreOfVariant};
+ghost use Rattle.schemagen_shapes.specs.Forms as forms;
 
 use crate::tokens::fields::read_fields;
 use crate::tokens::object::{ObjectMembers, read_object};
 use crate::tokens::said::Said;
 use crate::tokens::single::{read_notes, read_number, read_parts, read_text};
 use crate::tokens::tagged::{Tagged, read_tagged};
-use crate::variants::{payload_named, variant_inside};
 use json::Reader;
 use schemagen_json::{ParseError, read_value};
+use schemagen_shapes::{payload_named, variant_inside};
 use schemars_types::{InternalVariant, Payload, Variant};
 use serde_json::{Map, Value};
 use std::alloc::Global;

@@ -1,9 +1,6 @@
 //! The members of objects.
 ghost use Rattle.std.specs.Prelude.{◌≡◌, option_map, map, true, false};
-ghost use Rattle.serde_json.specs.Find.{get_member};
-ghost use Rattle.schemars_text.specs.OrderedText.{is_listed};
-ghost use Rattle.schemagen_json.specs.BorrowedValue.{data_of, members_data};
-ghost use Rattle.schemagen_json.specs.Members.{has_only, lone_in};
+ghost use Rattle.schemagen_json.specs.Words.{get_member, is_listed, data_of, members_data, has_only, lone_in};
 
 use crate::borrowed_value::BorrowedValue;
 use schemars_schema::edits::is_listed;

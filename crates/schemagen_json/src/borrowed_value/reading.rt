@@ -1,10 +1,7 @@
 //! From a text to a value, in one pass over its tokens.
 ghost use Rattle.std.specs.Prelude.{◌≡◌, ◌<◌, ◌≤◌, ◌∷◌, Some, None, Err, IfOk, OnOk, length};
-ghost use Rattle.json.specs.Json.{value, items, members};
-ghost use Rattle.json.specs.Reads.{token_of};
-ghost use Rattle.serde_json.specs.Data.{no_members};
-ghost use Rattle.serde_json.specs.Read.{of_json, of_items, of_members, converted, read as read_text};
-ghost use Rattle.schemagen_json.specs.BorrowedValue.{data_of, items_data, members_data};
+ghost use Rattle.schemagen_json.specs.Words.{value, items, members, token_of, no_members, of_json, of_items, of_members, converted, data_of, items_data, members_data};
+ghost use Rattle.serde_json.specs.Read.{read as read_text};
 
 use crate::borrowed_value::BorrowedValue;
 use crate::borrowed_value::number::parse_number;

@@ -1,15 +1,12 @@
 //! The templates of enums whose values have name and content under keys of their own.
 ghost use Rattle.std.specs.Prelude.{◌≡◌, ◌∷◌, ◌++◌, map, IfOk, OnOk};
-ghost use Rattle.schemars_builders.specs.Variants.{unit_variant};
-ghost use Rattle.schemars_shapes.specs.Shape.{payload_of, variant_of, adjacent_view};
-ghost use Rattle.schemars_documents.specs.View.{template_view, node_view, property_view};
-ghost use Rattle.schemars_documents.specs.OfShape.{said, adjacent_payload, adjacent_item, adjacent_template};
+ghost use Rattle.schemars_documents.specs.Words.{unit_variant, payload_of, variant_of, adjacent_view, template_view, node_view, property_view, said, adjacent_payload, adjacent_item, adjacent_template};
 
 use crate::shape::enums::payload_template;
-use crate::shape::maps::whole_template;
-use crate::template::nodes::{bare, noted, one_of, unit};
-use crate::template::{SchemaNode, SchemaTemplate};
 use schemars_schema::Schema;
+use schemars_templates::template::maps::whole_template;
+use schemars_templates::template::nodes::{bare, noted, one_of, unit};
+use schemars_templates::template::{SchemaNode, SchemaTemplate};
 use schemars_types::{Adjacent, Contract, Payload, Variant};
 use std::alloc::{AllocError, Global};
 

@@ -1,13 +1,10 @@
 //! The templates of results, bounds and either of two.
 ghost use Rattle.std.specs.Prelude.{◌≡◌, ◌∷◌, ◌++◌, [], map, IfOk, OnOk};
-ghost use Rattle.schemars_builders.specs.Variants.{unit_variant};
-ghost use Rattle.schemars_documents.specs.Template.{row, finished};
-ghost use Rattle.schemars_documents.specs.View.{template_view, node_view};
-ghost use Rattle.schemars_documents.specs.OfShape.{member_template, result_template, bound_template, either_template};
+ghost use Rattle.schemars_documents.specs.Words.{unit_variant, row, finished, template_view, node_view, member_template, result_template, bound_template, either_template};
 
-use crate::shape::maps::member_template;
-use crate::template::nodes::{bare, one_of, row, unit};
-use crate::template::{SchemaNode, SchemaTemplate};
+use schemars_templates::template::maps::member_template;
+use schemars_templates::template::nodes::{bare, one_of, row, unit};
+use schemars_templates::template::{SchemaNode, SchemaTemplate};
 use schemars_types::TypeNo;
 use std::alloc::{AllocError, Global};
 

@@ -1,18 +1,16 @@
 //! The templates of enums whose variants are tagged by their names, or by nothing.
 ghost use Rattle.std.specs.Prelude.{◌≡◌, ◌∷◌, [], codes, map, IfOk};
-ghost use Rattle.serde_json.specs.Data.{array};
-ghost use Rattle.schemars_shapes.specs.Shape.{payload_of, variant_of};
-ghost use Rattle.schemars_builders.specs.NullLaw.{text_items};
-ghost use Rattle.schemars_documents.specs.Template.{noted};
-ghost use Rattle.schemars_documents.specs.View.{template_view, node_view};
-ghost use Rattle.schemars_documents.specs.OfShape.{object_with, typed_template, said, payload_template, named_template, bare_units, other_items, external_template, payload_item, untagged_template, titled};
+ghost use Rattle.schemars_documents.specs.Words.{array, payload_of, variant_of, text_items, noted, template_view, node_view, object_with, typed_template, said, payload_template, named_template, bare_units, other_items, external_template, payload_item, untagged_template, titled};
 
 use crate::shape::lists::tuple_template;
-use crate::shape::maps::{member_template, struct_template, typed};
-use crate::template::nodes::{any_of, bare, noted, object_with, one_of, row, type_alone, unit};
-use crate::template::{SchemaNode, SchemaTemplate, ValueTemplate};
+use crate::shape::maps::struct_template;
 use schemars_schema::Schema;
 use schemars_shapes::is_bare_unit;
+use schemars_templates::template::maps::{member_template, typed};
+use schemars_templates::template::nodes::{
+    any_of, bare, noted, object_with, one_of, row, type_alone, unit,
+};
+use schemars_templates::template::{SchemaNode, SchemaTemplate, ValueTemplate};
 use schemars_types::{Contract, Payload, Variant};
 use std::alloc::{AllocError, Global};
 

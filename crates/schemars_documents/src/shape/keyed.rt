@@ -1,15 +1,10 @@
 //! The templates of maps by their keys.
 ghost use Rattle.std.specs.Prelude.{◌≡◌, ◌∷◌, ◌++◌, None, map, filter, not, bytes_eq, IfOk, OnOk};
-ghost use Rattle.schemars_types.specs.Faults.{IsChecked};
-ghost use Rattle.schemars_types.specs.KeyOptions.{key_options, keys};
-ghost use Rattle.schemars_types.specs.Found.{options_of};
-ghost use Rattle.schemars_documents.specs.Template.{row};
-ghost use Rattle.schemars_documents.specs.View.{node_view, value_view, keyword_view, property_view};
-ghost use Rattle.schemars_documents.specs.OfShape.{pattern_properties_at, other_values, values_template, values_of};
+ghost use Rattle.schemars_documents.specs.Words.{IsChecked, key_options, keys, options_of, row, node_view, value_view, keyword_view, property_view, pattern_properties_at, other_values, values_template, values_of};
 
-use crate::shape::maps::{add_properties, typed};
-use crate::template::nodes::{bare, named, object_with, row, row_value, truth};
-use crate::template::{SchemaNode, SchemaTemplate, ValueTemplate};
+use schemars_templates::template::maps::{add_properties, typed};
+use schemars_templates::template::nodes::{bare, named, object_with, row, row_value, truth};
+use schemars_templates::template::{SchemaNode, SchemaTemplate, ValueTemplate};
 use schemars_types::{KeyOptions, TypeNo, Types, key_options};
 use std::alloc::{AllocError, Global};
 

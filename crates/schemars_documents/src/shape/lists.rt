@@ -1,12 +1,10 @@
 //! The templates of lists.
 ghost use Rattle.std.specs.Prelude.{◌≡◌, [], map, IfOk};
-ghost use Rattle.schemars_documents.specs.Template.{row};
-ghost use Rattle.schemars_documents.specs.View.{template_view, node_view};
-ghost use Rattle.schemars_documents.specs.OfShape.{list_template, set_template, array_template, up_to_template, tuple_template};
+ghost use Rattle.schemars_documents.specs.Words.{row, template_view, node_view, list_template, set_template, array_template, up_to_template, tuple_template};
 
 use crate::shape::scalars::empty_list_template;
-use crate::template::nodes::{bare, count, object_with, row, row_value, text, truth};
-use crate::template::{SchemaNode, SchemaTemplate, ValueTemplate};
+use schemars_templates::template::nodes::{bare, count, object_with, row, row_value, text, truth};
+use schemars_templates::template::{SchemaNode, SchemaTemplate, ValueTemplate};
 use schemars_types::TypeNo;
 use std::alloc::{AllocError, Global};
 

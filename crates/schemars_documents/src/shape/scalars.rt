@@ -1,13 +1,10 @@
 //! The templates of values without parts.
 ghost use Rattle.std.specs.Prelude.{◌≡◌, ◌∷◌, [], codes, map, IfOk};
-ghost use Rattle.serde_json.specs.Data.{number, unsigned};
-ghost use Rattle.schemars_documents.specs.Documents.{typed, int_document, char_document, formatted_document, empty_list_document};
-ghost use Rattle.schemars_documents.specs.Template.{finished};
-ghost use Rattle.schemars_documents.specs.View.{node_view, scalar_keyword};
+ghost use Rattle.schemars_documents.specs.Words.{number, unsigned, typed, int_document, char_document, formatted_document, empty_list_document, finished, node_view, scalar_keyword};
 
 use crate::integers::int_keywords_of;
-use crate::template::nodes::keywords;
-use crate::template::{Scalar, SchemaNode};
+use schemars_templates::template::nodes::keywords;
+use schemars_templates::template::{Scalar, SchemaNode};
 use schemars_types::IntKind;
 use std::alloc::{AllocError, Global};
 

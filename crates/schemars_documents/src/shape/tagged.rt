@@ -1,13 +1,11 @@
 //! The templates of enums whose variants are named by a member of their own maps.
 ghost use Rattle.std.specs.Prelude.{◌≡◌, map, IfOk};
-ghost use Rattle.schemars_shapes.specs.Shape.{internal_payload_of, internal_variant_of, internal_view};
-ghost use Rattle.schemars_documents.specs.View.{template_view, node_view};
-ghost use Rattle.schemars_documents.specs.OfShape.{content_template, internal_item, internal_template};
+ghost use Rattle.schemars_documents.specs.Words.{internal_payload_of, internal_variant_of, internal_view, template_view, node_view, content_template, internal_item, internal_template};
 
 use crate::shape::maps::struct_template;
-use crate::template::nodes::{bare, noted, one_of, type_alone};
-use crate::template::{Ask, SchemaNode, SchemaTemplate, Tag};
 use schemars_schema::Schema;
+use schemars_templates::template::nodes::{bare, noted, one_of, type_alone};
+use schemars_templates::template::{Ask, SchemaNode, SchemaTemplate, Tag};
 use schemars_types::{Contract, Internal, InternalPayload, InternalVariant};
 use std::alloc::{AllocError, Global};
 

@@ -1,9 +1,6 @@
 //! Whether schemas let further members of an object in.
 ghost use Rattle.std.specs.Prelude.{◌≡◌, false, codes};
-ghost use Rattle.serde_json.specs.Find.{as_str};
-ghost use Rattle.serde_json.specs.View.{view, items_view, members_view};
-ghost use Rattle.schemars_schema.specs.Edits.{is_text};
-ghost use Rattle.schemars_flatten.specs.Opening.{closes, closed_in, closed_in_items, closed_in_keywords, closed_at, closes_inside, has_type, must_be_in_place, opened_inside};
+ghost use Rattle.schemars_flatten.specs.Words.{as_str, view, items_view, members_view, is_text, closes, closed_in, closed_in_items, closed_in_keywords, closed_at, closes_inside, has_type, must_be_in_place, opened_inside};
 
 use crate::part::opening::closes_by;
 use schemars_schema::Schema;

@@ -1,10 +1,6 @@
 //! Schemas that let further members of an object in.
 ghost use Rattle.std.specs.Prelude.{◌≡◌, Some, OnOk};
-ghost use Rattle.serde_json.specs.View.{view};
-ghost use Rattle.schemars_text.specs.OrderedText.{is_listed};
-ghost use Rattle.schemars_walk.specs.Walk.{place_meant};
-ghost use Rattle.schemars_schema.specs.References.{with_same_object, with_same_objects};
-ghost use Rattle.schemars_flatten.specs.Opening.{is_false, closes_by, opened_at, opened_here, same_object_place, opened, opened_inside};
+ghost use Rattle.schemars_flatten.specs.Words.{view, is_listed, place_meant, with_same_object, with_same_objects, is_false, closes_by, opened_at, opened_here, same_object_place, opened, opened_inside};
 
 use schemars_schema::Schema;
 use schemars_schema::keywords::{holds_same, lists_same};

@@ -1,9 +1,6 @@
 //! Documents that are flattened into the object around them.
 ghost use Rattle.std.specs.Prelude.{◌≡◌, codes, IfOk, OnOk};
-ghost use Rattle.serde_json.specs.View.{view, items_view};
-ghost use Rattle.schemars_flatten.specs.Flatten.{alone};
-ghost use Rattle.schemars_schema.specs.Edits.{on_list};
-ghost use Rattle.schemars_flatten.specs.Parts.{list_changed_at, is_empty_object, holds_empty_object, with_empty_object, one_or_anything, choice_or_anything, optional, optional_where, flattened_part};
+ghost use Rattle.schemars_flatten.specs.Words.{view, items_view, alone, on_list, list_changed_at, is_empty_object, holds_empty_object, with_empty_object, one_or_anything, choice_or_anything, optional, optional_where, flattened_part};
 
 use crate::merging::flatten;
 use crate::part::opening::open;

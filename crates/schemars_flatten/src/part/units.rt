@@ -1,12 +1,6 @@
 //! Units of enums as the objects that they are inside another object.
 ghost use Rattle.std.specs.Prelude.{◌≡◌, codes, option_map, IfOk, OnOk};
-ghost use Rattle.serde_json.specs.Data.{array, no_items};
-ghost use Rattle.serde_json.specs.Find.{as_str};
-ghost use Rattle.serde_json.specs.View.{view, items_view, members_view};
-ghost use Rattle.schemars_flatten.specs.Flatten.{appended};
-ghost use Rattle.schemars_schema.specs.Edits.{changed_at, on_list};
-ghost use Rattle.schemars_flatten.specs.Parts.{unit_object, unit_object_first, unit_objects, units_of, with_items, with_units, first_units, first_as_objects, list_changed_at, units_as_objects};
-ghost use Rattle.schemars_builders.specs.AllowNull.{null_schema};
+ghost use Rattle.schemars_flatten.specs.Words.{array, no_items, as_str, view, items_view, members_view, appended, changed_at, on_list, unit_object, unit_object_first, unit_objects, units_of, with_items, with_units, first_units, first_as_objects, list_changed_at, units_as_objects, null_schema};
 
 use crate::part::closing::has_type;
 use crate::union::push_all;

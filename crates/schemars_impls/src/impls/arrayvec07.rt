@@ -1,8 +1,7 @@
 //! Lists and texts of bounded length.
 ghost use Rattle.std.specs.Prelude.{codes, true};
-ghost use Rattle.schemars_shapes.specs.Shape.{Shape as shape, in_place};
-ghost use Rattle.schemars_types.specs.Names.{up_to_id, up_to_name};
-ghost use Rattle.schemars_impls.specs.Dictionary.{alone, of_one};
+ghost use Rattle.schemars_impls.specs.Words.{in_place, up_to_id, up_to_name, alone, of_one};
+ghost use Rattle.schemars_shapes.specs.Shape.{Shape as shape};
 
 use crate::law::{JsonSchema, entry, register};
 use arrayvec::{ArrayString, ArrayVec};

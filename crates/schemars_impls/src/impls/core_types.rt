@@ -1,9 +1,7 @@
 //! Options, results, bounds and ranges.
 ghost use Rattle.std.specs.Prelude.{codes, false, true};
-ghost use Rattle.schemars_shapes.specs.Shape.{Shape as shape, in_place, without_notes};
-ghost use Rattle.schemars_types.specs.Names.{result_id, result_name, bound_id, bound_name, range_id, range_name};
-ghost use Rattle.schemars_impls.specs.Dictionary.{alone, of_one, of_two};
-ghost use Rattle.schemars_impls.specs.Containers.{option_row};
+ghost use Rattle.schemars_impls.specs.Words.{in_place, without_notes, result_id, result_name, bound_id, bound_name, range_id, range_name, alone, of_one, of_two, option_row};
+ghost use Rattle.schemars_shapes.specs.Shape.{Shape as shape};
 
 use crate::impls::tuple::parts::register_two;
 use crate::law::{JsonSchema, entry, register};

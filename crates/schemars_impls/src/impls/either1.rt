@@ -1,8 +1,7 @@
 //! One of two types.
 ghost use Rattle.std.specs.Prelude.{true};
-ghost use Rattle.schemars_shapes.specs.Shape.{Shape as shape, in_place};
-ghost use Rattle.schemars_types.specs.Names.{either_id, either_name};
-ghost use Rattle.schemars_impls.specs.Dictionary.{of_two};
+ghost use Rattle.schemars_impls.specs.Words.{in_place, either_id, either_name, of_two};
+ghost use Rattle.schemars_shapes.specs.Shape.{Shape as shape};
 
 use crate::impls::tuple::parts::register_two;
 use crate::law::{JsonSchema, entry};

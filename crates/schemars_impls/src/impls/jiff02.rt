@@ -1,11 +1,7 @@
 //! Dates, times and spans of time, which are texts.
 ghost use Rattle.std.specs.Prelude.{◌≡◌, None, codes, true, IfErr, IfOk, OnOk};
-ghost use Rattle.std.specs.Cow.{cow_str_bytes};
-ghost use Rattle.schemars_shapes.specs.Shape.{Shape as shape, entry_of, in_place, shape_of};
-ghost use Rattle.schemars_types.specs.Rows.{unknown_in};
-ghost use Rattle.schemars_impls.specs.Keeps.{KeepsRows};
-ghost use Rattle.schemars_impls.specs.Dictionary.{Describes, RefusesPart, alone};
-ghost use Rattle.schemars_impls.specs.Zoned.{zoned_row};
+ghost use Rattle.schemars_impls.specs.Words.{cow_str_bytes, entry_of, in_place, shape_of, unknown_in, KeepsRows, Describes, RefusesPart, alone, zoned_row};
+ghost use Rattle.schemars_shapes.specs.Shape.{Shape as shape};
 
 use crate::law::{JsonSchema, entry};
 use jiff::civil::{Date, DateTime, Time};

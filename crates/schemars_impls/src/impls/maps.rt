@@ -1,13 +1,6 @@
 //! Maps.
 ghost use Rattle.std.specs.Prelude.{◌≡◌, None, IfErr, IfOk, OnOk, string_bytes};
-ghost use Rattle.std.specs.Cow.{cow_str_bytes};
-ghost use Rattle.schemars_shapes.specs.Shape.{entry_of, shape_of};
-ghost use Rattle.schemars_types.specs.Names.{map_id, map_name};
-ghost use Rattle.schemars_types.specs.Rows.{unknown_in};
-ghost use Rattle.schemars_impls.specs.Describes.{IsMade};
-ghost use Rattle.schemars_impls.specs.Keeps.{Keeps};
-ghost use Rattle.schemars_impls.specs.Dictionary.{IsIn, KeepsTo, RefusesAs};
-ghost use Rattle.schemars_impls.specs.Containers.{map_row};
+ghost use Rattle.schemars_impls.specs.Words.{cow_str_bytes, entry_of, shape_of, map_id, map_name, unknown_in, IsMade, Keeps, IsIn, KeepsTo, RefusesAs, map_row};
 
 use crate::impls::tuple::parts::register_two;
 use crate::law::{JsonSchema, entry};

@@ -1,8 +1,7 @@
 //! Versions.
 ghost use Rattle.std.specs.Prelude.{◌≡◌, codes, false, IfOk};
-ghost use Rattle.schemars_shapes.specs.Shape.{Shape as shape, without_notes};
-ghost use Rattle.schemars_types.specs.Version.{version_schema};
-ghost use Rattle.schemars_impls.specs.Dictionary.{alone};
+ghost use Rattle.schemars_impls.specs.Words.{without_notes, version_schema, alone};
+ghost use Rattle.schemars_shapes.specs.Shape.{Shape as shape};
 
 use crate::impls::literals::insert_text;
 use crate::law::{JsonSchema, entry};

@@ -1,13 +1,6 @@
 //! Lists and sets.
-ghost use Rattle.schemars_impls.specs.Containers.{seq_row, set_row};
+ghost use Rattle.schemars_impls.specs.Words.{seq_row, set_row, cow_str_bytes, entry_of, shape_of, set_id, set_name, unknown_in, IsMade, Keeps, IsIn, KeepsTo, RefusesAs};
 ghost use Rattle.std.specs.Prelude.{◌≡◌, None, IfErr, IfOk, OnOk};
-ghost use Rattle.std.specs.Cow.{cow_str_bytes};
-ghost use Rattle.schemars_shapes.specs.Shape.{entry_of, shape_of};
-ghost use Rattle.schemars_types.specs.Names.{set_id, set_name};
-ghost use Rattle.schemars_types.specs.Rows.{unknown_in};
-ghost use Rattle.schemars_impls.specs.Describes.{IsMade};
-ghost use Rattle.schemars_impls.specs.Keeps.{Keeps};
-ghost use Rattle.schemars_impls.specs.Dictionary.{IsIn, KeepsTo, RefusesAs};
 
 use crate::law::{JsonSchema, entry, register};
 use schemars_types::{Shape, TypeEntry, Types, TypesError};

@@ -1,13 +1,7 @@
 //! Times, which are structs of seconds and of nanoseconds.
 ghost use Rattle.std.specs.Prelude.{◌≡◌, [], ◌∷◌, None, codes, false, IfErr, IfOk, OnOk};
 ghost use Rattle.schemars_shapes.specs.declared.shape.IntKind.TheVariants.{U32, U64};
-ghost use Rattle.schemars_shapes.specs.IntKind.{format_of};
-ghost use Rattle.schemars_shapes.specs.Shape.{bare_fields, entry_of, field_of, fields_of, needed, shape_of};
-ghost use Rattle.schemars_types.specs.Rows.{unknown_in};
-ghost use Rattle.schemars_types.specs.Times.{time_entry};
-ghost use Rattle.schemars_impls.specs.Describes.{IsMade, OfTwo};
-ghost use Rattle.schemars_impls.specs.Keeps.{Keeps};
-ghost use Rattle.schemars_impls.specs.Dictionary.{IsIn, KeepsTo, RefusesAs, of_two};
+ghost use Rattle.schemars_impls.specs.Words.{format_of, bare_fields, entry_of, field_of, fields_of, needed, shape_of, unknown_in, time_entry, IsMade, OfTwo, Keeps, IsIn, KeepsTo, RefusesAs, of_two};
 
 use crate::impls::tuple::parts::register_two;
 use crate::law::{JsonSchema, entry};

@@ -1,13 +1,6 @@
 //! Tuples of one part to eight; those of nine to sixteen are in `long`.
 ghost use Rattle.std.specs.Prelude.{◌≡◌, ◌∷◌, None, IfErr, IfOk, OnOk};
-ghost use Rattle.std.specs.Cow.{cow_str_bytes};
-ghost use Rattle.schemars_shapes.specs.Shape.{entry_of, shape_of};
-ghost use Rattle.schemars_types.specs.Names.{tuple_id, tuple_name};
-ghost use Rattle.schemars_types.specs.Rows.{unknown_in};
-ghost use Rattle.schemars_impls.specs.Describes.{IsMade};
-ghost use Rattle.schemars_impls.specs.Keeps.{Keeps};
-ghost use Rattle.schemars_impls.specs.Dictionary.{KeepsTo, RefusesAs};
-ghost use Rattle.schemars_impls.specs.Containers.{tuple_row};
+ghost use Rattle.schemars_impls.specs.Words.{cow_str_bytes, entry_of, shape_of, tuple_id, tuple_name, unknown_in, IsMade, Keeps, KeepsTo, RefusesAs, tuple_row};
 
 mod long;
 pub(crate) mod parts;

@@ -1,10 +1,6 @@
 //! The text of a schema, with its keywords in a fixed order.
 ghost use Rattle.std.specs.Prelude.{◌≡◌, ◌≢◌, Err, false, string_bytes, IfOk, OnOk, IsTrue};
-ghost use Rattle.json.specs.Lex.{tokens};
-ghost use Rattle.json.specs.Print.{print};
-ghost use Rattle.serde_json.specs.Written.{has_float};
-ghost use Rattle.schemars_text.specs.OrderedText.{ordered_text};
-ghost use Rattle.schemars_text.specs.Sent.{IsSent, IsSentInPart};
+ghost use Rattle.schemars_schema.specs.Words.{tokens, print, has_float, ordered_text, IsSent, IsSentInPart};
 
 use crate::schema::Schema;
 use schemars_text::{OrderedError, Sink};

@@ -1,10 +1,6 @@
 //! Members put into a schema at a JSON Pointer.
 ghost use Rattle.std.specs.Prelude.{◌≡◌, if◌then◌else◌, [], Some, None, IsTrue, IfOk, OnOk};
-ghost use Rattle.serde_json.specs.Data.{object};
-ghost use Rattle.serde_json.specs.View.{view, members_view};
-ghost use Rattle.schemars_schema.specs.SchemaData.{put_members};
-ghost use Rattle.schemars_schema.specs.Lookup.{pointed_in};
-ghost use Rattle.schemars_schema.specs.Placing.{placed, placed_at, tokens_below};
+ghost use Rattle.schemars_schema.specs.Words.{object, view, members_view, put_members, pointed_in, placed, placed_at, tokens_below};
 
 use crate::schema::pointer::{split_token, unescaped};
 use crate::schema::{Schema, insert_member, member_mut};

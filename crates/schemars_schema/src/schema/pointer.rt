@@ -1,9 +1,6 @@
 //! JSON Pointers into a schema.
 ghost use Rattle.std.specs.Prelude.{◌≡◌, option_map, string_bytes, IfOk};
-ghost use Rattle.std.specs.Cow.{cow_str_bytes};
-ghost use Rattle.serde_json.specs.Find.{unescape};
-ghost use Rattle.serde_json.specs.View.{view};
-ghost use Rattle.schemars_schema.specs.Lookup.{pointed_in, pointed_inside, pointer_text, IsFirstToken};
+ghost use Rattle.schemars_schema.specs.Words.{cow_str_bytes, unescape, view, pointed_in, pointed_inside, pointer_text, IsFirstToken};
 
 use crate::encoding::percent_decode;
 use crate::schema::Schema;

@@ -1,9 +1,6 @@
 //! What fields refer to, and their names.
 ghost use Rattle.std.specs.Prelude.{◌≡◌, ◌++◌, nat_le, find, map, bytes_eq, string_bytes, IfOk, OnOk, MatchOption};
-ghost use Rattle.std.specs.List.{IsDistinct};
-ghost use Rattle.schemars_shapes.specs.Shape.{field_of, fields_of, fields_numbers, flattened_rows};
-ghost use Rattle.schemars_shapes.specs.Repeated.{IsRepeated};
-ghost use Rattle.schemars_shapes.specs.Rows.{field_rows};
+ghost use Rattle.schemars_shapes.specs.Words.{IsDistinct, field_of, fields_of, fields_numbers, flattened_rows, IsRepeated, field_rows};
 
 use crate::edges::names::first_repeated;
 use crate::edges::rows::Rows;

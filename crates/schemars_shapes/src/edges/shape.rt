@@ -1,9 +1,6 @@
 //! What a shape refers to, and its names.
 ghost use Rattle.std.specs.Prelude.{◌≡◌, nat_le, find, string_bytes, IfOk, MatchOption};
-ghost use Rattle.schemars_shapes.specs.Shape.{shape_of, map_from, numbers_of, names_of};
-ghost use Rattle.schemars_shapes.specs.AnyPayload.{any_payload_of};
-ghost use Rattle.schemars_shapes.specs.Rows.{rows_of, payload_rows};
-ghost use Rattle.schemars_shapes.specs.Repeated.{AreDistinctLists, IsFirstRepeated};
+ghost use Rattle.schemars_shapes.specs.Words.{shape_of, map_from, numbers_of, names_of, any_payload_of, rows_of, payload_rows, AreDistinctLists, IsFirstRepeated};
 
 use crate::any_variant::AnyPayload;
 use crate::edges::rows::Rows;

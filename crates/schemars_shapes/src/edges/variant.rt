@@ -1,10 +1,6 @@
 //! What variants refer to, and their names.
 ghost use Rattle.std.specs.Prelude.{◌≡◌, ◌++◌, nat_le, find, map, bytes_eq, string_bytes, IfOk, OnOk, MatchOption};
-ghost use Rattle.std.specs.List.{IsDistinct};
-ghost use Rattle.schemars_shapes.specs.Shape.{payload_numbers, variant_numbers, of_variants, payload_names, variant_names};
-ghost use Rattle.schemars_shapes.specs.AnyPayload.{any_payload_of};
-ghost use Rattle.schemars_shapes.specs.Repeated.{IsRepeated, AreDistinctLists, IsFirstRepeated};
-ghost use Rattle.schemars_shapes.specs.Rows.{payload_rows};
+ghost use Rattle.schemars_shapes.specs.Words.{IsDistinct, payload_numbers, variant_numbers, of_variants, payload_names, variant_names, any_payload_of, IsRepeated, AreDistinctLists, IsFirstRepeated, payload_rows};
 
 use crate::any_variant::{AnyPayload, AnyVariant};
 use crate::edges::fields;

@@ -1,10 +1,6 @@
 //! Formats that no draft defines, taken out.
 ghost use Rattle.std.specs.Prelude.{◌≡◌, [], Some, OnOk, true, codes, map, option_and_then};
-ghost use Rattle.serde_json.specs.Find.{get, as_str};
-ghost use Rattle.serde_json.specs.View.{view};
-ghost use Rattle.schemars_text.specs.OrderedText.{is_listed};
-ghost use Rattle.schemars_walk.specs.Rewritten.{rewritten};
-ghost use Rattle.schemars_transform.specs.Formats.{draft_named, draft_by, draft_inside, is_defined, format_stays, format_rules};
+ghost use Rattle.schemars_transform.specs.Words.{get, as_str, view, is_listed, rewritten, draft_named, draft_by, draft_inside, is_defined, format_stays, format_rules};
 
 use schemars_schema::Schema;
 use schemars_schema::consts::meta_schemas;

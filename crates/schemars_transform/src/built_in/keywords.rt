@@ -1,8 +1,6 @@
 //! Keywords put into schemas.
 ghost use Rattle.std.specs.Prelude.{◌≡◌, IfOk, OnOk, option_map};
-ghost use Rattle.serde_json.specs.Find.{get_member};
-ghost use Rattle.serde_json.specs.View.{view};
-ghost use Rattle.schemars_schema.specs.SchemaData.{members_in, inserted};
+ghost use Rattle.schemars_transform.specs.Words.{get_member, view, members_in, inserted};
 
 use schemars_schema::Schema;
 use serde_json::Value;

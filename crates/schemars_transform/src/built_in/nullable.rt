@@ -1,11 +1,6 @@
 //! `nullable` for dialects that have no null among their types.
 ghost use Rattle.std.specs.Prelude.{◌≡◌, OnOk, Some, true, codes};
-ghost use Rattle.serde_json.specs.Data.{array, boolean};
-ghost use Rattle.serde_json.specs.Find.{get};
-ghost use Rattle.serde_json.specs.View.{view, items_view};
-ghost use Rattle.schemars_schema.specs.SchemaData.{inserted};
-ghost use Rattle.schemars_schema.specs.Edits.{holds_text};
-ghost use Rattle.schemars_transform.specs.Nullable.{is_null_name, all_null, nulls_in, has_null, without_null, one_or_list, type_without_null, null_taken_out, null_alone, null_among};
+ghost use Rattle.schemars_transform.specs.Words.{array, boolean, get, view, items_view, inserted, holds_text, is_null_name, all_null, nulls_in, has_null, without_null, one_or_list, type_without_null, null_taken_out, null_alone, null_among};
 
 use crate::built_in::keywords::put;
 use schemars_schema::Schema;

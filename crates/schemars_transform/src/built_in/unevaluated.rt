@@ -1,10 +1,6 @@
 //! `additionalProperties` for drafts that have no `unevaluatedProperties`.
 ghost use Rattle.std.specs.Prelude.{◌≡◌, IfOk, OnOk};
-ghost use Rattle.serde_json.specs.Data.{no_members};
-ghost use Rattle.serde_json.specs.View.{view, items_view, members_view};
-ghost use Rattle.schemars_text.specs.OrderedText.{is_listed};
-ghost use Rattle.schemars_schema.specs.References.{with_same_object, with_same_objects};
-ghost use Rattle.schemars_transform.specs.Unevaluated.{keys, keys_in, names_in, names_in_items, names_in_keywords, names_under, property_names, with_names, object_with_names, properties_made, with_properties};
+ghost use Rattle.schemars_transform.specs.Words.{no_members, view, items_view, members_view, is_listed, with_same_object, with_same_objects, keys, keys_in, names_in, names_in_items, names_in_keywords, names_under, property_names, with_names, object_with_names, properties_made, with_properties};
 
 use crate::built_in::keywords::put;
 use schemars_schema::Schema;

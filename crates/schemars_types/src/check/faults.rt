@@ -1,17 +1,10 @@
 //! The faults of a table.
 ghost use Rattle.std.specs.Prelude.{◌≡◌, ◌<◌, ◌≤◌, ◌-◌, ◌++◌, ℕ, [], All, length, map, filter, None, IfOk, OnOk, MatchOption, string_bytes};
-ghost use Rattle.std.specs.Bool.{OnTrue};
-ghost use Rattle.schemars_shapes.specs.Shape.{shape_of, numbers_of};
-ghost use Rattle.schemars_types.specs.Walks.{Leads, OnCycle, IsFree, IsLeast, FaultFrom, EdgeFrom};
-ghost use Rattle.schemars_types.specs.Search.{HasTargets, counted_from};
-ghost use Rattle.schemars_shapes.specs.Repeated.{AreDistinctLists, IsFirstRepeated};
-ghost use Rattle.schemars_types.specs.Edges.{numbers_at, is_inline_at, is_row, asked_in, below, names_at, RefersWithin};
-ghost use Rattle.schemars_types.specs.EdgeKind.{targets_along, targets_from, LeadsOn, Ascends};
-ghost use Rattle.schemars_types.specs.Undefined.{IsUndefined};
+ghost use Rattle.schemars_types.specs.Words.{OnTrue, shape_of, numbers_of, Leads, OnCycle, IsFree, IsLeast, FaultFrom, EdgeFrom, HasTargets, counted_from, AreDistinctLists, IsFirstRepeated, numbers_at, is_inline_at, is_row, asked_in, below, names_at, RefersWithin, targets_along, targets_from, LeadsOn, Ascends, IsUndefined};
 
-use crate::check::cycles::least_on_cycle;
 use crate::optional::row_inside;
 use crate::table::Types;
+use schemars_cycles::least_on_cycle;
 use schemars_shapes::{Rows, Shape, TypeNo, first_unknown, rows};
 use std::alloc::{AllocError, Global};
 

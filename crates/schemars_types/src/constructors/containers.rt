@@ -1,9 +1,7 @@
 //! Rows of optional values, lists, tuples and maps.
 ghost use Rattle.std.specs.Prelude.{◌≡◌, codes, IfOk, OnErr, IfErr, map};
-ghost use Rattle.schemars_shapes.specs.Shape.{Shape as shape, in_place, array_of};
-ghost use Rattle.schemars_types.specs.Names.{option_id, option_name, seq_id, seq_name, set_id, set_name, array_id, array_name, up_to_id, up_to_name, tuple_id, tuple_name, map_id, map_name};
-ghost use Rattle.schemars_types.specs.Refusals.{Registers, Refuses};
-ghost use Rattle.schemars_types.specs.Rows.{id_at, name_at};
+ghost use Rattle.schemars_types.specs.Words.{in_place, array_of, option_id, option_name, seq_id, seq_name, set_id, set_name, array_id, array_name, up_to_id, up_to_name, tuple_id, tuple_name, map_id, map_name, Registers, Refuses, id_at, name_at};
+ghost use Rattle.schemars_shapes.specs.Shape.{Shape as shape};
 
 use crate::error::TypesError;
 use crate::table::Types;

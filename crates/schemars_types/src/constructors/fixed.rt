@@ -1,10 +1,7 @@
 //! Rows of the enums and structs of the standard library.
 ghost use Rattle.std.specs.Prelude.{◌≡◌, codes, false, IfOk, OnErr, IfErr};
-ghost use Rattle.schemars_shapes.specs.Shape.{Shape as shape, in_place, without_notes};
-ghost use Rattle.schemars_types.specs.Names.{result_id, result_name, bound_id, bound_name, range_id, range_name, either_id, either_name};
-ghost use Rattle.schemars_types.specs.Refusals.{Registers, Refuses};
-ghost use Rattle.schemars_types.specs.Rows.{id_at, name_at};
-ghost use Rattle.schemars_types.specs.Times.{RegistersTime, RefusesTime};
+ghost use Rattle.schemars_types.specs.Words.{in_place, without_notes, result_id, result_name, bound_id, bound_name, range_id, range_name, either_id, either_name, Registers, Refuses, id_at, name_at, RegistersTime, RefusesTime};
+ghost use Rattle.schemars_shapes.specs.Shape.{Shape as shape};
 
 use crate::error::TypesError;
 use crate::table::Types;

@@ -1,11 +1,8 @@
 //! How rows of common types are added to a table.
 ghost use Rattle.std.specs.Prelude.{◌≡◌, ◌++◌, [], ◌∷◌, Some, codes, IfOk, OnOk, OnErr, IfErr, string_bytes, find, nat_le, length};
-ghost use Rattle.schemars_shapes.specs.Shape.{shape_of, without_notes, numbers_of};
-ghost use Rattle.schemars_types.specs.Refusals.{Registers, Refuses};
-ghost use Rattle.schemars_types.specs.Rows.{place_of, id_at, name_at, reserved, unknown_in};
-ghost use Rattle.schemars_types.specs.Times.{RegistersTime, RefusesTime};
+ghost use Rattle.schemars_types.specs.Words.{shape_of, without_notes, numbers_of, Registers, Refuses, place_of, id_at, name_at, reserved, unknown_in, RegistersTime, RefusesTime};
 
-use crate::check::fields::two_needed;
+use crate::constructors::fields::two_needed;
 use crate::error::TypesError;
 use crate::table::Types;
 use crate::table::texts::{pair_texts, texts_around};

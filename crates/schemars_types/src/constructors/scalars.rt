@@ -1,12 +1,7 @@
 //! Rows of types that are not made of others.
 ghost use Rattle.std.specs.Prelude.{◌≡◌, codes, false, IfOk, OnOk, OnErr, IfErr, string_bytes};
-ghost use Rattle.schemars_shapes.specs.IntKind.{format_of, non_zero_name};
-ghost use Rattle.schemars_shapes.specs.Shape.{Shape as shape, in_place, without_notes};
-ghost use Rattle.schemars_schema.specs.SchemaData.{inserted};
-ghost use Rattle.schemars_types.specs.Names.{non_zero_id};
-ghost use Rattle.schemars_types.specs.Refusals.{Registers, Refuses};
-ghost use Rattle.schemars_types.specs.Version.{version_schema};
-ghost use Rattle.serde_json.specs.Data.{string};
+ghost use Rattle.schemars_types.specs.Words.{format_of, non_zero_name, in_place, without_notes, inserted, non_zero_id, Registers, Refuses, version_schema, string};
+ghost use Rattle.schemars_shapes.specs.Shape.{Shape as shape};
 
 use crate::error::TypesError;
 use crate::table::Types;

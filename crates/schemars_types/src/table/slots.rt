@@ -1,13 +1,6 @@
 //! What a table holds under each id.
 ghost use Rattle.std.specs.Prelude.{◌≡◌, ◌&&◌, map, bytes_eq, string_bytes, None, Some, option_map, IfOk, OnOk, OnErr, IfErr};
-ghost use Rattle.std.specs.String.{string_eq};
-ghost use Rattle.std.specs.Option.{option_eq};
-ghost use Rattle.indexmap.specs.IndexMap.{insert_entry};
-ghost use Rattle.schemars_shapes.specs.Shape.{entry_of};
-ghost use Rattle.schemars_shapes.specs.Equality.{entry_eq};
-ghost use Rattle.schemars_types.specs.Rows.{entry_at};
-ghost use Rattle.schemars_types.specs.Extends.{begins_with};
-ghost use Rattle.schemars_types.specs.Slots.{row_of};
+ghost use Rattle.schemars_types.specs.Words.{string_eq, option_eq, insert_entry, entry_of, entry_eq, entry_at, begins_with, row_of};
 ghost use Rattle.schemars_types.specs.declared.table.slots.Slot as declared;
 
 use crate::error::TypesError;

@@ -1,8 +1,6 @@
 //! Where schemas are under a keyword.
 ghost use Rattle.std.specs.Prelude.{◌≡◌};
-ghost use Rattle.schemars_schema.specs.References.{with_schema, with_list, keywords_with_names, place_under};
-ghost use Rattle.schemars_text.specs.OrderedText.{is_listed};
-ghost use Rattle.schemars_walk.specs.Walk.{place_meant};
+ghost use Rattle.schemars_walk.specs.Words.{with_schema, with_list, keywords_with_names, place_under, is_listed, place_meant};
 
 /// What holds the schemas under a keyword.
 #[derive(Clone, Copy)]

@@ -1,6 +1,5 @@
 -- The table is what the members of the value say.
-use Rattle.std.proofs.lemmas.Result.{IfOk-weaker, IfErr-weaker}
-use Rattle.schemagen_json.specs.BorrowedValue.{data_of}
+use Rattle.schemagen_input.proofs.Words.{IfOk-weaker, IfErr-weaker, data_of}
 use Rattle.schemagen_input.proofs.TableMembers.{rows_of_table}
 use Rattle.schemagen_input.proofs.Written.{input_back, is_read, is_not_refused}
 use Rattle.schemagen_input.proofs.LibraryShapes.{rows_have_library_shapes}

@@ -1,9 +1,6 @@
 -- Each entry joins the table, unless it refers to no row.
 use Rattle.std.proofs.Common.{◌≡◌, [], ◌∷◌, ◌++◌, ◌+◌, suc, List, length, map, refl, subst, sym, ap, ◌∙◌, append_assoc, append-nil, arith, rules}
-use Rattle.std.proofs.lemmas.List.{length-append, length-map}
-use Rattle.serde_json.specs.Data.{Data}
-use Rattle.schemars_shapes.specs.Shape.{entry_of}
-use Rattle.schemagen_input.specs.Listing.{AreListed, IsNoTable}
+use Rattle.schemagen_input.proofs.Words.{length-append, length-map, Data, entry_of, AreListed, IsNoTable}
 use Rattle.schemagen_input.proofs.RowByRow.{one_more_defined, all_defined, not_defined}
 use Rattle.schemagen_input.proofs.listing.define_rows.Goals as goal
 

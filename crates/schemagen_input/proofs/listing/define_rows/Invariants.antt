@@ -1,6 +1,6 @@
 -- The first entries are in the table, and the others are left.
 use Rattle.std.proofs.Common.{◌≡◌, List, ◌++◌, map, length}
-use Rattle.schemars_shapes.specs.Shape.{Entry, entry_of}
+use Rattle.schemagen_input.proofs.Words.{Entry, entry_of}
 use Rattle.schemagen_input.proofs.RowByRow.{AreDefined}
 use Rattle.schemagen_input.proofs.listing.define_rows.Given as goal
 

@@ -1,7 +1,6 @@
 -- The rows so far are listed.
 use Rattle.std.proofs.Common.{map, take}
-use Rattle.schemagen_json.specs.BorrowedValue.{data_of}
-use Rattle.schemagen_input.specs.Listing.{AreBegun}
+use Rattle.schemagen_input.proofs.Words.{data_of, AreBegun}
 use Rattle.schemagen_input.proofs.listing.list_rows.Given as goal
 
 abbrev pub invariant-loop-value : goal.invariant-loop-value

@@ -1,6 +1,6 @@
 -- A row joins the list, unless the value says none.
 use Rattle.std.proofs.Common.{◌≡◌, None, subst, rules}
-use Rattle.schemagen_input.specs.Listing.{AreBegun, IsRowIn}
+use Rattle.schemagen_input.proofs.Words.{AreBegun, IsRowIn}
 use Rattle.schemagen_input.proofs.RowByRow.{without_row}
 use Rattle.schemagen_input.proofs.listing.with_row.Goals as goal
 

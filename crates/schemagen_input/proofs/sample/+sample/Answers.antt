@@ -1,8 +1,6 @@
 use Rattle.std.proofs.Common.{◌≡◌, ◌∷◌, ◌+◌, [], drop, sym, ap, ◌∙◌, rules, arith}
-use Rattle.std.proofs.lemmas.List.{drop_more}
-use Rattle.std.proofs.Math.ListN.{drop_of_length-le}
+use Rattle.schemagen_input.proofs.Words.{drop_more, drop_of_length-le, example_of}
 use Rattle.serde_json.specs.declared.value.Value.{the_lemmas}
-use Rattle.schemars_sample.specs.Example.{example_of}
 use Rattle.schemars_sample.specs.declared.sample.Sample.{Seq, Map, the_lemmas as sample_lemmas}
 use Rattle.schemagen_input.proofs.Samples.{more_examples, all_examples}
 use Rattle.schemagen_input.proofs.SampleJson.{json_of_input}

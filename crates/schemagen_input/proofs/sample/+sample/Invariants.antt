@@ -1,8 +1,6 @@
 -- What was read and what is left make the whole.
 use Rattle.std.proofs.Common.{◌≡◌, drop}
-use Rattle.std.specs.Prelude.{option_map}
-use Rattle.serde_json.specs.View.{items_view, members_view}
-use Rattle.schemagen_input.specs.SampleInput.{items_input, members_input}
+use Rattle.schemagen_input.proofs.Words.{option_map, items_view, members_view, items_input, members_input}
 use Rattle.schemagen_input.proofs.Samples.{examples_before, entries_before}
 use Rattle.schemagen_input.proofs.sample.+sample.Given as goal
 

@@ -1,8 +1,6 @@
 -- The bounds are the powers of two that the definition names.
 use Rattle.std.proofs.Common.{rules, ◌≡◌, refl, true, false}
-use Rattle.std.specs.Float.{two_to, minus_two_to}
-use Rattle.std.specs.Float.Ieee.{lt}
-use Rattle.schemars_sample.specs.Example.{example_of, decimal}
+use Rattle.schemagen_input.proofs.Words.{two_to, minus_two_to, lt, example_of, decimal}
 use Rattle.schemars_sample.specs.declared.sample.Sample.{Float, the_lemmas}
 use Rattle.schemagen_input.proofs.Bounds.{least_is, greatest_is}
 use Rattle.schemagen_input.proofs.sample.read_float.Goals.{else-x-via-then-x+else-x-2, else-x-via-else-x}

@@ -1,7 +1,6 @@
 -- The rows of a list are those that it says as a member.
 use Rattle.std.proofs.Common.{Some, map, sym}
-use Rattle.std.proofs.lemmas.Result.{IfOk-weaker}
-use Rattle.schemagen_json.specs.BorrowedValue.{data_of}
+use Rattle.schemagen_input.proofs.Words.{IfOk-weaker, data_of}
 use Rattle.schemagen_input.proofs.TableMembers.{list_in}
 use Rattle.schemagen_input.proofs.table_members.listing_in.Goals as goal
 

@@ -1,10 +1,6 @@
 -- An object has what its members have.
 use Rattle.std.proofs.Common.{◌≡◌, [], ◌∷◌, ap, ◌∙◌, arith}
-use Rattle.std.proofs.lemmas.Result.{IfOk-weaker}
-use Rattle.json.specs.Token.{Token}
-use Rattle.json.specs.Json.{parse_map}
-use Rattle.serde_json.specs.Data.{object}
-use Rattle.schemagen_json.proofs.Reading.{nothing_read, object_opened}
+use Rattle.schemagen_input.proofs.Words.{IfOk-weaker, Token, parse_map, object, nothing_read, object_opened}
 use Rattle.schemagen_input.proofs.table_members.read_document.Goals as goal
 
 pub returns-in_err-token-clause-not_json : goal.returns-in_err-token-clause-not_json

@@ -1,7 +1,6 @@
 -- Each item says a row, or the list is not that of a table.
 use Rattle.std.proofs.Common.{◌≡◌, ◌-◌, ◌<◌, [], ◌∷◌, ◌++◌, length, Some, None, ap, ◌∙◌, arith, rules}
-use Rattle.json.specs.Json.{parse_map, after_end_array, value}
-use Rattle.schemagen_json.proofs.Reading.{items_before, items_before-none, one_more_item, item_read, item_refused, items_closed}
+use Rattle.schemagen_input.proofs.Words.{parse_map, after_end_array, value, items_before, items_before-none, one_more_item, item_read, item_refused, items_closed}
 use Rattle.schemagen_input.proofs.table_members.read_items.Goals as goal
 
 pub returns-in_err-row-clause-not_json : goal.returns-in_err-row-clause-not_json

@@ -1,10 +1,6 @@
 -- The items so far go before those that the rest says, and their rows are listed.
 use Rattle.std.proofs.Common.{◌≡◌, ℕ, ◌≤◌, List, length}
-use Rattle.json.specs.Json.{items, value, parse_map}
-use Rattle.serde_json.specs.Data.{Data}
-use Rattle.serde_json.specs.Read.{of_items, converted}
-use Rattle.schemagen_json.proofs.Reading.{items_before}
-use Rattle.schemagen_input.specs.Listing.{AreBegun}
+use Rattle.schemagen_input.proofs.Words.{items, value, parse_map, Data, of_items, converted, items_before, AreBegun}
 use Rattle.schemagen_input.proofs.table_members.read_items.Given as goal
 
 abbrev pub invariant-items : goal.invariant-items

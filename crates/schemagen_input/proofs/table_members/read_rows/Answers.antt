@@ -1,13 +1,6 @@
 -- A list says the rows of its items.
 use Rattle.std.proofs.Common.{◌≡◌, [], ◌∷◌, Some, refl, ap, ◌∙◌, arith, rules}
-use Rattle.std.proofs.lemmas.Result.{IfOk-weaker}
-use Rattle.json.specs.Token.{Token}
-use Rattle.json.specs.Json.{parse_map}
-use Rattle.json.specs.Reads.{token_of}
-use Rattle.serde_json.specs.Data.{array}
-use Rattle.serde_json.specs.View.{items_of}
-use Rattle.schemagen_json.specs.BorrowedValue.{data_of}
-use Rattle.schemagen_json.proofs.Reading.{nothing_read, array_opened, array_too_deep, read_at}
+use Rattle.schemagen_input.proofs.Words.{IfOk-weaker, Token, parse_map, token_of, array, items_of, data_of, nothing_read, array_opened, array_too_deep, read_at}
 use Rattle.schemagen_input.proofs.OtherKinds.{not_array}
 use Rattle.schemagen_input.proofs.TableMembers.{list_in, not_listed}
 use Rattle.schemagen_input.proofs.table_members.read_rows.Goals as goal

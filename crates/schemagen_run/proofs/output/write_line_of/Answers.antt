@@ -1,6 +1,6 @@
 -- The sink has taken the text and its newline, or a beginning of them.
 use Rattle.std.proofs.Common.{ap, Err}
-use Rattle.schemagen_run.specs.Fault.{fault_of_writing}
+use Rattle.schemagen_run.proofs.Vocabulary.{fault_of_writing}
 use Rattle.schemagen_run.proofs.Results.{passed_on}
 use Rattle.schemagen_run.proofs.Writing.{ended, stopped}
 use Rattle.schemagen_run.proofs.output.write_line_of.Goals as goal

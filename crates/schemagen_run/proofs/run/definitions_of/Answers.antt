@@ -1,7 +1,6 @@
 -- The text of the definitions that a fresh generator takes is that of the row.
 use Rattle.std.proofs.Common.{◌∙◌, ap, Err}
-use Rattle.schemars_generate.specs.Generator.{held_transforms, state}
-use Rattle.schemars_transform.specs.Member.{some_own}
+use Rattle.schemagen_run.proofs.Vocabulary.{held_transforms, state, some_own}
 use Rattle.schemagen_run.proofs.Results.{ok_at_err, err_passed}
 use Rattle.schemagen_run.proofs.Tables.{none_own, memory_refusal, definitions_refusal, are_definitions, root_is_within}
 use Rattle.schemagen_run.proofs.Outputs.{definitions_are_output}

@@ -1,7 +1,6 @@
 -- The settings are those that are asked for, and the table is the one that is given.
 use Rattle.std.proofs.Common.{◌∙◌, ap, inl}
-use Rattle.std.proofs.lemmas.Result.{IfOk-weaker, IfErr-weaker}
-use Rattle.schemars_generate.specs.Generator.{transforms_of}
+use Rattle.schemagen_run.proofs.Vocabulary.{IfOk-weaker, IfErr-weaker, transforms_of}
 use Rattle.schemagen_run.proofs.Results.{ok_at_err, err_passed}
 use Rattle.schemagen_run.proofs.Tables.{fresh_of}
 use Rattle.schemagen_run.proofs.run.generator_over.Goals as goal

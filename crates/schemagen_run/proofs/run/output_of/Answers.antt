@@ -1,9 +1,7 @@
 -- The table suits the generator.
 use Rattle.std.proofs.Common.{ap, subst}
 use Rattle.std.proofs.Common.{IfOk, IfErr}
-use Rattle.schemars_headline.specs.State.{State}
-use Rattle.schemagen_run.specs.Run.{IsRefusal}
-use Rattle.schemagen_run.specs.Output.{IsOutputOf}
+use Rattle.schemagen_run.proofs.Vocabulary.{State, IsRefusal, IsOutputOf}
 use Rattle.schemagen_run.proofs.Results.{ok_at_err, err_passed, so_at_ok}
 use Rattle.schemagen_run.proofs.Tables.{faulty_refusal}
 use Rattle.schemagen_run.proofs.Outputs.{is_fresh}

@@ -1,7 +1,6 @@
 -- What is told of a run over a table or an example is told of the words that ask for it.
 use Rattle.std.proofs.Common.{inl, inr, subst, rules}
-use Rattle.std.proofs.lemmas.Result.{IfErr-weaker}
-use Rattle.schemagen_run.specs.Words.{Asks}
+use Rattle.schemagen_run.proofs.Vocabulary.{IfErr-weaker, Asks}
 use Rattle.schemagen_run.proofs.Writing.{line_for}
 use Rattle.schemagen_run.proofs.run.run.Goals as goal
 

@@ -1,7 +1,6 @@
 -- The line is that of the example, and the sink has taken it, or a beginning of it.
 use Rattle.std.proofs.Common.{refl}
-use Rattle.serde_json.specs.View.{view}
-use Rattle.schemagen_input.proofs.AsRead.{is_as_read}
+use Rattle.schemagen_run.proofs.Vocabulary.{view, is_as_read}
 use Rattle.schemagen_run.proofs.Results.{passed_on}
 use Rattle.schemagen_run.proofs.Runs.{value_is_no_write, gives_sample_line}
 use Rattle.schemagen_run.proofs.Writing.{no_line, line_of_given}

@@ -1,6 +1,6 @@
 -- The line is that of the table's root, and the sink has taken it, or a beginning of it.
 use Rattle.std.proofs.Common.{◌≡◌, ℕ, nat_eq, false, ap, refl, inl, Err}
-use Rattle.std.proofs.lemmas.Result.{IfErr-weaker}
+use Rattle.schemagen_run.proofs.Vocabulary.{IfErr-weaker}
 use Rattle.schemagen_run.specs.declared.fault.Fault.TheVariants.{Refused}
 use Rattle.schemars_generate.specs.declared.error.TheConstants.{DEFINITIONS_PATH}
 use Rattle.schemagen_run.specs.declared.fault.TheConstants.{NOT_JSON, BAD_TABLE, READ, WRITE}

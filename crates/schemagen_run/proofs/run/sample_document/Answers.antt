@@ -1,9 +1,6 @@
 -- The generator holds no definitions.
 use Rattle.std.proofs.Common.{◌∙◌, ap}
-use Rattle.std.proofs.lemmas.Result.{IfOk-weaker, IfErr-weaker}
-use Rattle.schemars_generate.specs.Generator.{settings_of, transforms_of}
-use Rattle.schemars_sample.specs.Example.{example_of}
-use Rattle.schemars_transform.specs.Member.{some_own}
+use Rattle.schemagen_run.proofs.Vocabulary.{IfOk-weaker, IfErr-weaker, settings_of, transforms_of, example_of, some_own}
 use Rattle.schemagen_run.proofs.Tables.{none_own}
 use Rattle.schemagen_run.proofs.Samples.{sample_made, sample_wants_memory}
 use Rattle.schemagen_run.proofs.run.sample_document.Goals as goal

@@ -1,8 +1,7 @@
 -- The text of the root document of a fresh generator is that of the row.
 use Rattle.std.proofs.Common.{◌∙◌, ap, Ok, Err}
 use Rattle.schemars_generate.specs.declared.error.GenerateError.{GenerateError}
-use Rattle.schemars_generate.specs.Generator.{state, transforms_of}
-use Rattle.schemars_transform.specs.Member.{some_own}
+use Rattle.schemagen_run.proofs.Vocabulary.{state, transforms_of, some_own}
 use Rattle.schemagen_run.proofs.Results.{ok_at_err, err_passed}
 use Rattle.schemagen_run.proofs.Tables.{none_own, is_document, is_refusal}
 use Rattle.schemagen_run.proofs.Outputs.{text_is_output}

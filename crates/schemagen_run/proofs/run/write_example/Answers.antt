@@ -1,6 +1,6 @@
 -- Memory is all that the document may want, and its line has its text.
 use Rattle.std.proofs.Common.{refl, ap, inr, ◌∙◌, Err}
-use Rattle.schemars_generate.specs.Refusals.{code_of}
+use Rattle.schemagen_run.proofs.Vocabulary.{code_of}
 use Rattle.schemagen_run.specs.declared.fault.Fault.TheVariants.{Refused}
 use Rattle.schemars_generate.specs.declared.error.TheConstants.{OUT_OF_MEMORY}
 use Rattle.schemagen_run.proofs.Results.{passed_on, err_passed}

@@ -1,10 +1,8 @@
 -- The line has the text of what is written, and a refusal of the generator is told by its number.
 use Rattle.std.proofs.Common.{◌≡◌, refl, inl, inr}
-use Rattle.std.proofs.lemmas.Result.{IfErr-weaker}
-use Rattle.schemars_generate.specs.Refusals.{code_of}
+use Rattle.schemagen_run.proofs.Vocabulary.{IfErr-weaker, code_of, IsLineRefusal}
 use Rattle.schemagen_run.specs.declared.fault.Fault.{Fault}
 use Rattle.schemagen_run.specs.declared.fault.Fault.TheVariants.{Refused}
-use Rattle.schemagen_run.specs.Run.{IsLineRefusal}
 use Rattle.schemagen_run.proofs.Results.{passed_on, err_passed}
 use Rattle.schemagen_run.proofs.Runs.{line_refused}
 use Rattle.schemagen_run.proofs.Writing.{weaker, refused_line}

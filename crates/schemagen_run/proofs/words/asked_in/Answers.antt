@@ -1,6 +1,6 @@
 -- The words are compared one by one, and the flags behind them.
 use Rattle.std.proofs.Common.{◌≡◌, ◌∷◌, [], List, ℕ, length, true, arith, codes, string_bytes, subst}
-use Rattle.std.specs.Str.{bytes_eq}
+use Rattle.schemagen_run.proofs.Vocabulary.{bytes_eq}
 use Rattle.schemagen_run.proofs.Runs.{Told, two_words, three_words, four_words}
 use Rattle.schemagen_run.proofs.words.asked_in.Goals as goal
 

@@ -1,8 +1,6 @@
 -- The two words are compared one by one.
 use Rattle.std.proofs.Common.{◌≡◌, true, List, ℕ, length, arith, codes, string_bytes, subst}
-use Rattle.std.specs.Prelude.{MatchOption}
-use Rattle.std.specs.Str.{bytes_eq}
-use Rattle.schemagen_run.specs.Words.{IsDialect, word_for}
+use Rattle.schemagen_run.proofs.Vocabulary.{MatchOption, bytes_eq, IsDialect, word_for}
 use Rattle.schemagen_run.proofs.Runs.{sample_words}
 use Rattle.schemagen_run.proofs.words.example_in.Goals as goal
 

@@ -1,6 +1,6 @@
 -- The verdict on the table is one on the text.
 use Rattle.std.proofs.Common.{rules}
-use Rattle.schemars_types.specs.Faults.{IsAccepted}
+use Rattle.schemalint_run.proofs.Words.{IsAccepted}
 use Rattle.schemalint_run.proofs.Judged.{judged}
 use Rattle.schemalint_run.proofs.judging.judge.Goals as goal
 

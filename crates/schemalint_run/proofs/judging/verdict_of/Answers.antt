@@ -1,6 +1,6 @@
 -- By the tests of the table.
 use Rattle.std.proofs.Common.{rules}
-use Rattle.schemars_documents.specs.PlainTable.{IsPlainTable}
+use Rattle.schemalint_run.proofs.Words.{IsPlainTable}
 use Rattle.schemalint_run.proofs.Judged.{verdict_plain, verdict_under}
 use Rattle.schemalint_run.proofs.judging.verdict_of.Goals as goal
 

@@ -1,7 +1,4 @@
-use Rattle.std.proofs.lemmas.Result.{IfOk-weaker}
-use Rattle.std.proofs.lemmas.Str.{IsUtf8-string_bytes}
-use Rattle.std.specs.Prelude.{string_bytes}
-use Rattle.schemars_written.specs.Readings.{IsAmong}
+use Rattle.schemars_accepted.proofs.Words.{IfOk-weaker, IsUtf8-string_bytes, string_bytes, IsAmong}
 use Rattle.schemars_accepted.proofs.Accepting.{accepted_as_read}
 use Rattle.schemars_accepted.proofs.accepted.to_accepted_string.Goals as goal
 

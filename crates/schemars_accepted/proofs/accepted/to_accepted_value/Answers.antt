@@ -1,5 +1,4 @@
-use Rattle.serde_json.specs.View.{view}
-use Rattle.schemars_written.specs.Readings.{IsAmong}
+use Rattle.schemars_accepted.proofs.Words.{view, IsAmong}
 use Rattle.schemars_accepted.proofs.Accepting.{accepted}
 use Rattle.schemars_accepted.proofs.accepted.to_accepted_value.Goals as goal
 

@@ -1,11 +1,5 @@
 use Rattle.std.proofs.Common.{◌≡◌, ◌∙◌, [], sym, ap, subst}
-use Rattle.std.proofs.lemmas.Result.{IfOk-weaker, IfErr-weaker}
-use Rattle.serde_json.specs.View.{view, members_view}
-use Rattle.schemars_generate.specs.Generator.{Generator, held_transforms, settings_of, state}
-use Rattle.schemars_written.specs.Readings.{IsAmong}
-use Rattle.schemars_described.specs.Laws.{told_in_empty}
-use Rattle.schemars_accepted.specs.Rooted.{RefusesRoot}
-use Rattle.schemars_accepted.specs.Taken.{AreForOpenApi, AreTaken, IsTakenRefusal}
+use Rattle.schemars_accepted.proofs.Words.{IfOk-weaker, IfErr-weaker, view, members_view, Generator, held_transforms, settings_of, state, IsAmong, told_in_empty, RefusesRoot, AreForOpenApi, AreTaken, IsTakenRefusal}
 use Rattle.schemars_accepted.proofs.Taking.{of_both, reference_of_new}
 use Rattle.schemars_accepted.proofs.definitions.to_accepted_components.Goals as goal
 

@@ -1,10 +1,5 @@
 use Rattle.std.proofs.Common.{inr, subst, true, refl}
-use Rattle.serde_json.specs.View.{view, members_view}
-use Rattle.schemars_types.proofs.Registered.{place_of-below}
-use Rattle.schemars_types.specs.Faults.{IsChecked}
-use Rattle.schemars_documents.specs.PlainTable.{IsPlainTable}
-use Rattle.schemars_written.specs.Readings.{IsAmong}
-use Rattle.schemars_written.proofs.Final.{as_read}
+use Rattle.schemars_accepted.proofs.Words.{view, members_view, place_of-below, IsChecked, IsPlainTable, IsAmong, as_read}
 use Rattle.schemars_accepted.proofs.Rooting.{joined_row}
 use Rattle.schemars_accepted.proofs.Taking.{none_taken, none_left, all_taken, take_refused, all_accept}
 use Rattle.schemars_accepted.proofs.definitions.to_accepted_definitions.Goals as goal

@@ -1,12 +1,5 @@
 use Rattle.std.proofs.Common.{◌≡◌, [], sym, ap, subst, IfOk}
-use Rattle.std.proofs.lemmas.Result.{IfErr-weaker}
-use Rattle.serde_json.specs.View.{view}
-use Rattle.schemars_headline.specs.State.{path_of}
-use Rattle.schemars_generate.specs.ByType.{IsJoined, IsRootOfTypeRefusal}
-use Rattle.schemars_generate.specs.Generator.{Generator, held_transforms, state}
-use Rattle.schemars_written.specs.Readings.{IsAmong}
-use Rattle.schemars_described.specs.Laws.{told_in_empty}
-use Rattle.schemars_accepted.specs.Rooted.{AcceptsWritten, AreForWriting, RefusesRoot}
+use Rattle.schemars_accepted.proofs.Words.{IfErr-weaker, view, path_of, IsJoined, IsRootOfTypeRefusal, Generator, held_transforms, state, IsAmong, told_in_empty, AcceptsWritten, AreForWriting, RefusesRoot}
 use Rattle.schemars_accepted.proofs.root.to_accepted_document.Goals as goal
 
 pub to_accepted_root-requires : goal.to_accepted_root-requires

@@ -1,11 +1,5 @@
 use Rattle.std.proofs.Common.{◌≡◌, ◌∙◌, refl, sym, subst, true, false}
-use Rattle.serde_json.specs.View.{view}
-use Rattle.schemars_types.proofs.Registered.{place_of-below}
-use Rattle.schemars_types.specs.Faults.{IsChecked}
-use Rattle.schemars_documents.specs.PlainTable.{IsPlainTable}
-use Rattle.schemars_generate.specs.Generator.{state}
-use Rattle.schemars_written.specs.Readings.{IsAmong}
-use Rattle.schemars_written.proofs.Final.{as_read}
+use Rattle.schemars_accepted.proofs.Words.{view, place_of-below, IsChecked, IsPlainTable, state, IsAmong, as_read}
 use Rattle.schemars_accepted.proofs.Rooting.{joined_row, root_accepts}
 use Rattle.schemars_accepted.proofs.root.to_accepted_root.Goals as goal
 

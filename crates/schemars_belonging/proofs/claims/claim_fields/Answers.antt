@@ -1,9 +1,5 @@
 use Rattle.std.proofs.Common.{◌∙◌, ◌++◌, ap, map, List}
-use Rattle.std.proofs.lemmas.Result.{on_ok_weaker}
-use Rattle.schemars_schema.specs.Json.{Text}
-use Rattle.schemars_shapes.specs.Shape.{fields_of}
-use Rattle.schemars_types.specs.Effective.{effective, flattened_in}
-use Rattle.schemars_belonging.specs.Asked.{Given, given_of}
+use Rattle.schemars_belonging.proofs.Words.{on_ok_weaker, Text, fields_of, effective, flattened_in, Given, given_of}
 use Rattle.schemars_belonging.proofs.FieldMembers.{names_given}
 use Rattle.schemars_belonging.proofs.claims.claim_fields.Goals as goal
 

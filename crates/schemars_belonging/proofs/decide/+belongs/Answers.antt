@@ -1,24 +1,13 @@
 -- Each part answers what its contract says.
 use Rattle.std.proofs.Common.{◌≡◌, ◌∙◌, ◌+◌, ◌-◌, ◌++◌, ◌∷◌, [], suc, drop, get_or, List, Bool, true, false, sym, ap, map, arith, Option}
-use Rattle.std.specs.Prelude.{◌&&◌, not, if◌then◌else◌}
-use Rattle.std.proofs.lemmas.Result.{on_ok_weaker}
-use Rattle.std.proofs.lemmas.List.{drop_more}
-use Rattle.serde_json.specs.Data.{Members}
-use Rattle.serde_json.specs.View.{view, items_view, members_view}
+use Rattle.schemars_belonging.proofs.Words.{◌&&◌, not, if◌then◌else◌, on_ok_weaker, drop_more, Members, view, items_view, members_view, iter_rest, Text, Variant, fields_of, flattened_of, payload_of, variant_of, internal_payload_of, internal_variant_of, internal_view, adjacent_view, effective, flattened_in, flattened_enums, part_enums, VariantMatch, every_member, exactly_one, has_each, must_have, holds, are_members, external_choice, internal_choice, is_tagged_map, tagged_fields, has_member, has_members, is_text, each_of, has_external, has_adjacent, Given, asked, bare, payload_in, variant_in, field_given, tag_given, has_beside_of, has_fields_of, has, offers, has_payload_of, given_of, member_of, member_says, allows, variants_in, claims, all_claims, external_claims, internal_claims, fits_of, one_of_seen, no_items_there}
 use Rattle.serde_json.specs.declared.value.Value.{Value}
-use Rattle.std.specs.Slice.Iter.{iter_rest}
 use Rattle.serde_json.proofs.Views.{Entry}
-use Rattle.schemars_schema.specs.Json.{Text}
-use Rattle.schemars_shapes.specs.Shape.{Variant, fields_of, flattened_of, payload_of, variant_of, internal_payload_of, internal_variant_of, internal_view, adjacent_view}
 use Rattle.schemars_shapes.specs.declared.variant.Variant as src
 use Rattle.schemars_shapes.specs.declared.variant.InternalVariant as inside
-use Rattle.schemars_types.specs.Effective.{effective, flattened_in, flattened_enums, part_enums}
-use Rattle.schemars_types.specs.Meaning.{VariantMatch, every_member, exactly_one, has_each, must_have, holds, are_members, external_choice, internal_choice, is_tagged_map, tagged_fields, has_member, has_members, is_text, each_of, has_external, has_adjacent}
-use Rattle.schemars_belonging.specs.Asked.{Given, asked, bare, payload_in, variant_in, field_given, tag_given, has_beside_of, has_fields_of, has, offers, has_payload_of, given_of, member_of, member_says, allows, variants_in, claims, all_claims, external_claims, internal_claims, fits_of, one_of_seen}
 use Rattle.schemars_belonging.proofs.Rows.{has_none, has_row, has_no_row, offers_none, offers_row, offers_no_row, claims_row, claims_no_row, adds_nothing, answered}
 use Rattle.schemars_belonging.proofs.Members.{says_given, says_other, each_given, beside_given, beside_none, each_beside}
 use Rattle.schemars_belonging.proofs.Variants.{external_unit, external_other, adjacent_unit, adjacent_other}
-use Rattle.schemars_validate.proofs.Stepping.{no_items_there}
 use Rattle.schemars_belonging.proofs.Offers.{next_enum, next_enum_claims, next_claims}
 use Rattle.schemars_belonging.proofs.Fitting.{fields_mean, tagged_mean, alone_mean, fields_fit}
 use Rattle.schemars_belonging.proofs.decide.+belongs.Goals as goal
@@ -43,8 +32,8 @@ row-returns-in-None g t c =
     let one : suc (c.args.left - 1) ≡ c.args.left = omega arith in
     sym (has_no_row a c.args.n v c.args.left (c.args.left - 1) one c.in-None.ensures)
 
-pub one_member-returns-in-Some : goal.one_member-returns-in-Some
-one_member-returns-in-Some g t c =
+pub maps::one_member-returns-in-Some : goal.maps::one_member-returns-in-Some
+maps::one_member-returns-in-Some g t c =
     let a = asked c.args.t.now.types.now c.args.t.now.contract (g.P.Patterns.reading c.args.t.now.patterns.now) in
     let v = view c.args.value.now in
     let gs = map given_of c.args.list.now in
@@ -52,16 +41,16 @@ one_member-returns-in-Some g t c =
     answered c.values.result _ _ (says_given a c.args.left gs others c.args.key.now v (given_of c.in-Some.given.now)
     c.in-Some.ensures) c.values.ensures
 
-pub one_member-returns-in-None : goal.one_member-returns-in-None
-one_member-returns-in-None g t c =
+pub maps::one_member-returns-in-None : goal.maps::one_member-returns-in-None
+maps::one_member-returns-in-None g t c =
     let a = asked c.args.t.now.types.now c.args.t.now.contract (g.P.Patterns.reading c.args.t.now.patterns.now) in
     let v = view c.args.value.now in
     let gs = map given_of c.args.list.now in
     let others = allows c.args.closed (map (λ k. k.now) c.args.claimed.now) in
     c.is_allowed.ensures ∙ says_other a c.args.left gs others c.args.key.now v c.in-None.ensures
 
-pub are_members-returns : goal.are_members-returns
-are_members-returns g t c =
+pub maps::are_members-returns : goal.maps::are_members-returns
+maps::are_members-returns g t c =
     let a = asked c.args.t.now.types.now c.args.t.now.contract (g.P.Patterns.reading c.args.t.now.patterns.now) in
     let gs = map given_of c.args.list.now in
     let says = member_says (map (member_of a c.args.left) gs) (allows c.args.closed (map (λ k. k.now) c.args.claimed.now)) in
@@ -70,8 +59,8 @@ are_members-returns g t c =
     sym (ap (λ (es : List Entry). every_member says (members_view es)) c.in-None.ensures.steps.0) ∙ c.loop-key.invariant in
     c.has_each.ensures ∙ (sym (each_given a c.args.left gs ms) ∙ ap (λ b. b && has_each (map (member_of a c.args.left) gs) ms) all)
 
-pub one_beside-returns-in-Some : goal.one_beside-returns-in-Some
-one_beside-returns-in-Some g t c =
+pub variants::one_beside-returns-in-Some : goal.variants::one_beside-returns-in-Some
+variants::one_beside-returns-in-Some g t c =
     let a = asked c.args.t.now.types.now c.args.t.now.contract (g.P.Patterns.reading c.args.t.now.patterns.now) in
     let v = view c.args.value.now in
     let gs = map given_of c.args.list.now in
@@ -79,8 +68,8 @@ one_beside-returns-in-Some g t c =
     answered c.values.result _ _ (beside_given a c.args.left gs m (λ k. not c.args.closed)
     c.args.key.now v (given_of c.in-Some.given.now) c.in-Some.ensures) c.values.ensures
 
-pub beside-returns : goal.beside-returns
-beside-returns g t c =
+pub variants::beside-returns : goal.variants::beside-returns
+variants::beside-returns g t c =
     let a = asked c.args.t.now.types.now c.args.t.now.contract (g.P.Patterns.reading c.args.t.now.patterns.now) in
     let gs = map given_of c.args.list.now in
     let f = has_payload_of a c.args.left (payload_of c.args.payload.now) in
@@ -93,29 +82,29 @@ beside-returns g t c =
     c.has_each_with.ensures ∙ (sym (each_beside a c.args.left gs c.args.name.now f ms)
     ∙ (ap (λ b. b && has_each list ms) all ∙ ap (λ (o : Option Members). holds o (are_members list others)) c.in-Some.ensures))
 
-pub choices-returns-then-left-eq0-clause-one : goal.choices-returns-then-left-eq0-clause-one
-choices-returns-then-left-eq0-clause-one g t c =
+pub choices::choices-returns-then-left-eq0-clause-one : goal.choices::choices-returns-then-left-eq0-clause-one
+choices::choices-returns-then-left-eq0-clause-one g t c =
     let a = asked c.args.t.now.types.now c.args.t.now.contract (g.P.Patterns.reading c.args.t.now.patterns.now) in
     let v = view c.args.value.now in
     sym (ap (λ k. exactly_one (fits_of (offers a k c.args.n v))) c.if-left-eq0.true
     ∙ ap (λ (cs : List VariantMatch). exactly_one (fits_of cs)) (offers_none a c.args.n v))
 
-pub choices-returns-then-left-eq0-clause-claimed : goal.choices-returns-then-left-eq0-clause-claimed
-choices-returns-then-left-eq0-clause-claimed g t c =
+pub choices::choices-returns-then-left-eq0-clause-claimed : goal.choices::choices-returns-then-left-eq0-clause-claimed
+choices::choices-returns-then-left-eq0-clause-claimed g t c =
     let a = asked c.args.t.now.types.now c.args.t.now.contract (g.P.Patterns.reading c.args.t.now.patterns.now) in
     let v = view c.args.value.now in
     adds_nothing _ (claims a c.args.left c.args.n v) (ap (λ k. claims a k c.args.n v) c.if-left-eq0.true)
 
-pub choices-returns-in-Some-clause-one : goal.choices-returns-in-Some-clause-one
-choices-returns-in-Some-clause-one g t c =
+pub choices::choices-returns-in-Some-clause-one : goal.choices::choices-returns-in-Some-clause-one
+choices::choices-returns-in-Some-clause-one g t c =
     let a = asked c.args.t.now.types.now c.args.t.now.contract (g.P.Patterns.reading c.args.t.now.patterns.now) in
     let v = view c.args.value.now in
     let one : suc (c.args.left - 1) ≡ c.args.left = omega arith in
     answered c.shape_choices.result _ _ (ap (λ (cs : List VariantMatch). exactly_one (fits_of cs))
     (sym (offers_row a c.args.n v c.args.left (c.args.left - 1) _ one c.in-Some.ensures))) c.shape_choices.ensures.one
 
-pub choices-returns-in-Some-clause-claimed : goal.choices-returns-in-Some-clause-claimed
-choices-returns-in-Some-clause-claimed g t c =
+pub choices::choices-returns-in-Some-clause-claimed : goal.choices::choices-returns-in-Some-clause-claimed
+choices::choices-returns-in-Some-clause-claimed g t c =
     let a = asked c.args.t.now.types.now c.args.t.now.contract (g.P.Patterns.reading c.args.t.now.patterns.now) in
     let v = view c.args.value.now in
     let one : suc (c.args.left - 1) ≡ c.args.left = omega arith in
@@ -123,16 +112,16 @@ choices-returns-in-Some-clause-claimed g t c =
     (λ h. h ∙ ap (λ (ts : List Text). map (λ k. k.now) c.args.claimed.now.items ++ ts)
     (sym (claims_row a c.args.n v c.args.left (c.args.left - 1) _ one c.in-Some.ensures))) c.shape_choices.ensures.claimed
 
-pub choices-returns-in-None-clause-one : goal.choices-returns-in-None-clause-one
-choices-returns-in-None-clause-one g t c =
+pub choices::choices-returns-in-None-clause-one : goal.choices::choices-returns-in-None-clause-one
+choices::choices-returns-in-None-clause-one g t c =
     let a = asked c.args.t.now.types.now c.args.t.now.contract (g.P.Patterns.reading c.args.t.now.patterns.now) in
     let v = view c.args.value.now in
     let one : suc (c.args.left - 1) ≡ c.args.left = omega arith in
     sym (ap (λ (cs : List VariantMatch). exactly_one (fits_of cs)) (offers_no_row a c.args.n v c.args.left
     (c.args.left - 1) one c.in-None.ensures))
 
-pub choices-returns-in-None-clause-claimed : goal.choices-returns-in-None-clause-claimed
-choices-returns-in-None-clause-claimed g t c =
+pub choices::choices-returns-in-None-clause-claimed : goal.choices::choices-returns-in-None-clause-claimed
+choices::choices-returns-in-None-clause-claimed g t c =
     let a = asked c.args.t.now.types.now c.args.t.now.contract (g.P.Patterns.reading c.args.t.now.patterns.now) in
     let v = view c.args.value.now in
     let one : suc (c.args.left - 1) ≡ c.args.left = omega arith in
@@ -144,45 +133,45 @@ shape-returns-in-Struct g t c =
     let v = view c.args.value.now in
     rw c.in-Struct.is (answered c.has_fields.result _ _ (fields_mean a c.args.left (fields_of c.in-Struct.fields) v) c.has_fields.ensures)
 
-pub payload-returns-in-Struct : goal.payload-returns-in-Struct
-payload-returns-in-Struct g t c =
+pub variants::payload-returns-in-Struct : goal.variants::payload-returns-in-Struct
+variants::payload-returns-in-Struct g t c =
     let a = asked c.args.t.now.types.now c.args.t.now.contract (g.P.Patterns.reading c.args.t.now.patterns.now) in
     let v = view c.args.value.now in
     rw c.in-Struct.is (answered c.has_fields.result _ _ (fields_mean a c.args.left (fields_of c.in-Struct.fields) v) c.has_fields.ensures)
 
-pub has_member-returns : goal.has_member-returns
-has_member-returns g t c =
+pub maps::has_member-returns : goal.maps::has_member-returns
+maps::has_member-returns g t c =
     let a = asked c.args.t.now.types.now c.args.t.now.contract (g.P.Patterns.reading c.args.t.now.patterns.now) in
     let v = view c.args.value.now in
     answered c.is_map_of.result _ _
     (ap (λ (x : Given). has_members (member_of a c.args.left x ∷ []) (λ k. not c.args.closed) v) c.needed.ensures) c.is_map_of.ensures
 
-pub one_of-returns : goal.one_of-returns
-one_of-returns g t c =
+pub maps::one_of-returns : goal.maps::one_of-returns
+maps::one_of-returns g t c =
     c.one_of_two.ensures ∙ (λ i. exactly_one (c.in_ok-is_first.ensures i ∷ c.in_ok-is_second.ensures i ∷ []))
 
-pub bound-returns : goal.bound-returns
-bound-returns g t c =
+pub maps::bound-returns : goal.maps::bound-returns
+maps::bound-returns g t c =
     c.one_of_three.ensures
     ∙ (λ i. exactly_one (c.in_ok-is_included.ensures i ∷ c.in_ok-is_excluded.ensures i ∷ c.is_text-is_unbounded.ensures i ∷ []))
 
-pub range-returns : goal.range-returns
-range-returns g t c =
+pub maps::range-returns : goal.maps::range-returns
+maps::range-returns g t c =
     let a = asked c.args.t.now.types.now c.args.t.now.contract (g.P.Patterns.reading c.args.t.now.patterns.now) in
     let v = view c.args.value.now in
     answered c.is_map_of.result _ _
     (λ i. has_members (member_of a c.args.left (c.needed.ensures i) ∷ member_of a c.args.left (c.needed-2.ensures i) ∷ []) (λ k. true) v)
     c.is_map_of.ensures
 
-pub tag_alone-returns : goal.tag_alone-returns
-tag_alone-returns g t c =
+pub variants::tag_alone-returns : goal.variants::tag_alone-returns
+variants::tag_alone-returns g t c =
     let a = asked c.args.t.now.types.now c.args.t.now.contract (g.P.Patterns.reading c.args.t.now.patterns.now) in
     let v = view c.args.value.now in
     answered c.is_map_of.result _ _
     (ap (λ (x : Given). has_members (member_of a c.args.left x ∷ []) (λ k. not c.args.closed) v) c.tag_given.ensures) c.is_map_of.ensures
 
-pub tag_beside-returns : goal.tag_beside-returns
-tag_beside-returns g t c =
+pub variants::tag_beside-returns : goal.variants::tag_beside-returns
+variants::tag_beside-returns g t c =
     let a = asked c.args.t.now.types.now c.args.t.now.contract (g.P.Patterns.reading c.args.t.now.patterns.now) in
     let v = view c.args.value.now in
     answered c.beside.result _ _
@@ -190,8 +179,8 @@ tag_beside-returns g t c =
     c.args.closed v) c.tag_given.ensures)
     c.beside.ensures
 
-pub has_tagged-returns : goal.has_tagged-returns
-has_tagged-returns g t c =
+pub internal::has_tagged-returns : goal.internal::has_tagged-returns
+internal::has_tagged-returns g t c =
     let a = asked c.args.t.now.types.now c.args.t.now.contract (g.P.Patterns.reading c.args.t.now.patterns.now) in
     let v = view c.args.value.now in
     let x = fields_of c.args.fields.now in
@@ -199,8 +188,8 @@ has_tagged-returns g t c =
     (ap (λ (y : Given). has_fields_of a c.args.left (y ∷ []) x v) c.tag_given.ensures
     ∙ tagged_mean a c.args.left x v c.args.tag.now c.args.name.now) c.has_fields.ensures
 
-pub tagged_fields-returns : goal.tagged_fields-returns
-tagged_fields-returns g t c =
+pub choices::tagged_fields-returns : goal.choices::tagged_fields-returns
+choices::tagged_fields-returns g t c =
     let a = asked c.args.t.now.types.now c.args.t.now.contract (g.P.Patterns.reading c.args.t.now.patterns.now) in
     let v = view c.args.value.now in
     let x = fields_of c.args.fields.now in
@@ -210,23 +199,23 @@ tagged_fields-returns g t c =
     (ap (λ gs. map given_of gs) c.deref.ensures.value ∙ (c.in_ok-list.ensures ∙ ap (λ (y : Given). y ∷ rest) c.tag_given.ensures)))
     c.is_map_of.ensures
 
-pub external-returns-then-is_unit : goal.external-returns-then-is_unit
-external-returns-then-is_unit g t c =
+pub variants::external-returns-then-is_unit : goal.variants::external-returns-then-is_unit
+variants::external-returns-then-is_unit g t c =
     let a = asked c.args.t.now.types.now c.args.t.now.contract (g.P.Patterns.reading c.args.t.now.patterns.now) in
     let v = view c.args.value.now in
     c.is_text.ensures ∙ external_unit a c.args.left c.args.name.now (payload_of c.args.payload.now) v (sym c.is_unit.ensures
     ∙ c.if-is_unit.true)
 
-pub external-returns : goal.external-returns
-external-returns g t c =
+pub variants::external-returns : goal.variants::external-returns
+variants::external-returns g t c =
     let a = asked c.args.t.now.types.now c.args.t.now.contract (g.P.Patterns.reading c.args.t.now.patterns.now) in
     let v = view c.args.value.now in
     answered c.beside.result _ _ (external_other a c.args.left c.args.name.now (payload_of c.args.payload.now) v
     (sym c.is_unit.ensures ∙ c.if-is_unit.false))
     c.beside.ensures
 
-pub adjacent-returns-then-is_unit : goal.adjacent-returns-then-is_unit
-adjacent-returns-then-is_unit g t c =
+pub variants::adjacent-returns-then-is_unit : goal.variants::adjacent-returns-then-is_unit
+variants::adjacent-returns-then-is_unit g t c =
     let a = asked c.args.t.now.types.now c.args.t.now.contract (g.P.Patterns.reading c.args.t.now.patterns.now) in
     let v = view c.args.value.now in
     let view_of = adjacent_view c.args.x.now in
@@ -236,8 +225,8 @@ adjacent-returns-then-is_unit g t c =
     (ap (λ (k : Text). has_member k (is_text name) view_of.2 v) c.as_str-tag.ensures.value
     ∙ adjacent_unit a c.args.left view_of.0 view_of.1 view_of.2 name p v (sym c.is_unit.ensures ∙ c.if-is_unit.true)) c.tag_alone.ensures
 
-pub adjacent-returns : goal.adjacent-returns
-adjacent-returns g t c =
+pub variants::adjacent-returns : goal.variants::adjacent-returns
+variants::adjacent-returns g t c =
     let a = asked c.args.t.now.types.now c.args.t.now.contract (g.P.Patterns.reading c.args.t.now.patterns.now) in
     let v = view c.args.value.now in
     let view_of = adjacent_view c.args.x.now in
@@ -248,31 +237,31 @@ adjacent-returns g t c =
     (c.as_str-content.ensures.value i) p view_of.2 v)
     ∙ adjacent_other a c.args.left view_of.0 view_of.1 view_of.2 name p v (sym c.is_unit.ensures ∙ c.if-is_unit.false)) c.tag_beside.ensures
 
-pub one_beside-returns-in-None : goal.one_beside-returns-in-None
-one_beside-returns-in-None g t c =
+pub variants::one_beside-returns-in-None : goal.variants::one_beside-returns-in-None
+variants::one_beside-returns-in-None g t c =
     let a = asked c.args.t.now.types.now c.args.t.now.contract (g.P.Patterns.reading c.args.t.now.patterns.now) in
     let v = view c.args.value.now in
     let gs = map given_of c.args.list.now in
     let m = must_have c.args.name.now (has_payload_of a c.args.left (payload_of c.args.payload.now)) in
     answered c.last.result _ _ (beside_none a c.args.left gs m (λ k. not c.args.closed) c.args.key.now v c.in-None.ensures) c.last.ensures
 
-pub last-returns-then-is_same : goal.last-returns-then-is_same
-last-returns-then-is_same g t c =
+pub variants::last-returns-then-is_same : goal.variants::last-returns-then-is_same
+variants::last-returns-then-is_same g t c =
     let a = asked c.args.t.now.types.now c.args.t.now.contract (g.P.Patterns.reading c.args.t.now.patterns.now) in
     let v = view c.args.value.now in
     let p = has_payload_of a c.args.left (payload_of c.args.payload.now) v in
     answered c.payload.result _ _ (sym (ap (λ b. if b then p else not c.args.closed) (sym c.is_same.ensures
     ∙ c.if-is_same.true))) c.payload.ensures
 
-pub last-returns : goal.last-returns
-last-returns g t c =
+pub variants::last-returns : goal.variants::last-returns
+variants::last-returns g t c =
     let a = asked c.args.t.now.types.now c.args.t.now.contract (g.P.Patterns.reading c.args.t.now.patterns.now) in
     let v = view c.args.value.now in
     let p = has_payload_of a c.args.left (payload_of c.args.payload.now) v in
     sym (ap (λ b. if b then p else not c.args.closed) (sym c.is_same.ensures ∙ c.if-is_same.false))
 
-pub has_fields-returns : goal.has_fields-returns
-has_fields-returns g t c =
+pub maps::has_fields-returns : goal.maps::has_fields-returns
+maps::has_fields-returns g t c =
     let a = asked c.args.t.now.types.now c.args.t.now.contract (g.P.Patterns.reading c.args.t.now.patterns.now) in
     let v = view c.args.value.now in
     let x = fields_of c.args.fields.now in
@@ -287,8 +276,8 @@ has_fields-returns g t c =
     ∙ ap (λ ks. map (λ k. k.now) ks ++ all_claims a c.args.left c.in_ok-enums.enums.items v) c.new-claimed.ensures.items))
     (ap (λ gs. map given_of gs) c.deref-2.ensures.value ∙ c.in_ok-list.ensures)) c.are_members.ensures
 
-pub each_of-returns-in_default : goal.each_of-returns-in_default
-each_of-returns-in_default g t c =
+pub lists::each_of-returns-in_default : goal.lists::each_of-returns-in_default
+lists::each_of-returns-in_default g t c =
     let a = asked c.args.t.now.types.now c.args.t.now.contract (g.P.Patterns.reading c.args.t.now.patterns.now) in
     let P = has a c.args.left in
     let ns = c.args.rows.now in
@@ -299,8 +288,8 @@ each_of-returns-in_default g t c =
     sym (ap (λ (xs : List Value). each_of P (get_or ns i 0 ∷ rest) (items_view xs)) none)
     ∙ (sym (ap (λ ms. each_of P ms (items_view (iter_rest c.loop-n.others))) here) ∙ c.loop-n.invariant)
 
-pub variant-returns-in-Name : goal.variant-returns-in-Name
-variant-returns-in-Name g t c =
+pub variants::variant-returns-in-Name : goal.variants::variant-returns-in-Name
+variants::variant-returns-in-Name g t c =
     let a = asked c.args.t.now.types.now c.args.t.now.contract (g.P.Patterns.reading c.args.t.now.patterns.now) in
     let v = view c.args.value.now in
     let p = payload_of c.args.variant.now.payload in
@@ -309,8 +298,8 @@ variant-returns-in-Name g t c =
     c.as_str-name.ensures.value)
     c.external.ensures)
 
-pub variant-returns-in-Content : goal.variant-returns-in-Content
-variant-returns-in-Content g t c =
+pub variants::variant-returns-in-Content : goal.variants::variant-returns-in-Content
+variants::variant-returns-in-Content g t c =
     let a = asked c.args.t.now.types.now c.args.t.now.contract (g.P.Patterns.reading c.args.t.now.patterns.now) in
     let v = view c.args.value.now in
     let p = payload_of c.args.variant.now.payload in
@@ -321,8 +310,8 @@ variant-returns-in-Content g t c =
 
 -- ---- one variant more
 
-pub each_enum-loop-n-preserved : goal.each_enum-loop-n-preserved
-each_enum-loop-n-preserved g t c =
+pub choices::each_enum-loop-n-preserved : goal.choices::each_enum-loop-n-preserved
+choices::each_enum-loop-n-preserved g t c =
     let a = asked c.args.t.now.types.now c.args.t.now.contract (g.P.Patterns.reading c.args.t.now.patterns.now) in
     let v = view c.args.value.now in
     let ns = c.deref-n-items.result.now in
@@ -333,8 +322,8 @@ each_enum-loop-n-preserved g t c =
           c.in_ok-one.ensures.claimed c.loop-n.invariant.claims;
     }
 
-pub external_choices-loop-variant-preserved : goal.external_choices-loop-variant-preserved
-external_choices-loop-variant-preserved g t c =
+pub choices::external_choices-loop-variant-preserved : goal.choices::external_choices-loop-variant-preserved
+choices::external_choices-loop-variant-preserved g t c =
     let a = asked c.args.t.now.types.now c.args.t.now.contract (g.P.Patterns.reading c.args.t.now.patterns.now) in
     let v = view c.args.value.now in
     let xs = c.deref-variant-items.result.now in
@@ -358,8 +347,8 @@ external_choices-loop-variant-preserved g t c =
           (sym (ap (λ (ys : List src.Variant). found ++ external_claims a c.args.left v (left ys)) here) ∙ c.loop-variant.invariant.claims);
     }
 
-pub internal_choices-loop-variant-preserved : goal.internal_choices-loop-variant-preserved
-internal_choices-loop-variant-preserved g t c =
+pub choices::internal_choices-loop-variant-preserved : goal.choices::internal_choices-loop-variant-preserved
+choices::internal_choices-loop-variant-preserved g t c =
     let a = asked c.args.t.now.types.now c.args.t.now.contract (g.P.Patterns.reading c.args.t.now.patterns.now) in
     let v = view c.args.value.now in
     let xs = c.deref-variant-items.result.now in

@@ -1,5 +1,5 @@
 use Rattle.std.proofs.Common.{◌≡◌, ◌∙◌, ◌++◌, ◌-◌, suc, sym, ap, arith}
-use Rattle.std.proofs.lemmas.Result.{on_ok_weaker}
+use Rattle.schemars_belonging.proofs.Words.{on_ok_weaker}
 use Rattle.schemars_belonging.proofs.EnumsWithin.{no_steps, no_row, some_row}
 use Rattle.schemars_belonging.proofs.enums.+enums.Goals as goal
 

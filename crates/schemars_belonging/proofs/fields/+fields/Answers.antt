@@ -1,8 +1,5 @@
 use Rattle.std.proofs.Common.{◌≡◌, ◌∙◌, ◌++◌, ◌-◌, suc, sym, ap, map, arith}
-use Rattle.std.proofs.lemmas.Result.{on_ok_weaker}
-use Rattle.schemars_shapes.specs.Shape.{fields_of}
-use Rattle.schemars_types.specs.Effective.{fields_within}
-use Rattle.schemars_belonging.specs.Asked.{given_of, field_given}
+use Rattle.schemars_belonging.proofs.Words.{on_ok_weaker, fields_of, fields_within, given_of, field_given}
 use Rattle.schemars_belonging.proofs.FieldMembers.{within_none, some_struct, no_struct, adds_none, part_step}
 use Rattle.schemars_belonging.proofs.fields.+fields.Goals as goal
 

@@ -1,8 +1,6 @@
 -- The rows below are asked one step less deep.
 use Rattle.std.proofs.Common.{◌≡◌, ◌+◌, ◌*◌, ◌++◌, map, drop}
-use Rattle.schemars_shapes.specs.Shape.{fields_of, flattened_of}
-use Rattle.schemars_types.specs.Effective.{fields_within, effective, flattened_fields, part_fields}
-use Rattle.schemars_belonging.specs.Asked.{given_of, field_given}
+use Rattle.schemars_belonging.proofs.Words.{fields_of, flattened_of, fields_within, effective, flattened_fields, part_fields, given_of, field_given}
 use Rattle.schemars_belonging.proofs.fields.+fields.Given as goal
 
 abbrev pub decreases-add_fields : goal.decreases-add_fields

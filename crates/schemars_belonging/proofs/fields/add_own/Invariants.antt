@@ -1,7 +1,6 @@
 -- The members so far, and those of the fields that are left.
 use Rattle.std.proofs.Common.{◌≡◌, ◌++◌, map, drop}
-use Rattle.schemars_shapes.specs.Shape.{field_of, fields_of}
-use Rattle.schemars_belonging.specs.Asked.{given_of, field_given}
+use Rattle.schemars_belonging.proofs.Words.{field_of, fields_of, given_of, field_given}
 use Rattle.schemars_belonging.proofs.fields.add_own.Given as goal
 
 abbrev pub invariant-loop-field : goal.invariant-loop-field

@@ -1,7 +1,6 @@
 -- What is left of the list decides.
 use Rattle.std.proofs.Common.{◌≡◌, drop, map}
-use Rattle.serde_json.specs.View.{members_view}
-use Rattle.schemars_belonging.specs.Asked.{given_of, has_each_given}
+use Rattle.schemars_belonging.proofs.Words.{members_view, given_of, has_each_given}
 use Rattle.schemars_belonging.proofs.given.has_each.Given as goal
 
 abbrev pub invariant-loop-given : goal.invariant-loop-given

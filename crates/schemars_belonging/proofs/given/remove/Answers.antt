@@ -1,7 +1,6 @@
 -- What a map's `remove` says, in the words of members.
 use Rattle.std.proofs.Common.{ap, ◌∙◌}
-use Rattle.serde_json.specs.View.{members_view}
-use Rattle.schemars_schema.proofs.MapEdits.{members_view-remove_entry}
+use Rattle.schemars_belonging.proofs.Words.{members_view, members_view-remove_entry}
 use Rattle.schemars_belonging.proofs.given.remove.Goals as goal
 
 pub returns : goal.returns

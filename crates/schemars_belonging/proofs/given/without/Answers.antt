@@ -1,10 +1,7 @@
 -- The copy of a map has copies of its keys and its values.
 use Rattle.std.proofs.Common.{◌≡◌, List, [], ◌∷◌, refl, ap, ◌∙◌, string_bytes}
-use Rattle.std.specs.List.{AllZip}
-use Rattle.serde_json.specs.Data.{Members, object}
-use Rattle.serde_json.specs.View.{view, members_view}
-use Rattle.serde_json.proofs.Views.{Entry, view-Object}
-use Rattle.schemars_schema.specs.Edits.{without}
+use Rattle.schemars_belonging.proofs.Words.{AllZip, Members, object, view, members_view, view-Object, without}
+use Rattle.serde_json.proofs.Views.{Entry}
 use Rattle.schemars_belonging.proofs.given.without.Goals as goal
 
 same_members : (es fs : List Entry) → AllZip (λ e f. (string_bytes f.0 ≡ string_bytes e.0) × (view f.1 ≡ view e.1)) es fs

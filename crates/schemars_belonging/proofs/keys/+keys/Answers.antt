@@ -1,9 +1,6 @@
 use Rattle.std.proofs.Common.{◌≡◌, ◌∙◌, ◌+◌, ◌-◌, ◌∷◌, List, Some, suc, sym, ap, map, drop, arith}
-use Rattle.std.proofs.lemmas.List.{drop_more}
-use Rattle.schemars_shapes.specs.Shape.{variant_of, payload_of}
+use Rattle.schemars_belonging.proofs.Words.{drop_more, variant_of, payload_of, options_within, members_options, member_options, external_options, Said, said_of, said_by}
 use Rattle.schemars_shapes.specs.declared.variant.Variant as src
-use Rattle.schemars_types.specs.KeyOptions.{options_within, members_options, member_options, external_options}
-use Rattle.schemars_belonging.specs.Keys.{Said, said_of, said_by}
 use Rattle.schemars_belonging.proofs.KeyOptions.{none_within, some_row, no_row, joined, one_joined}
 use Rattle.schemars_belonging.proofs.keys.+keys.Goals as goal
 

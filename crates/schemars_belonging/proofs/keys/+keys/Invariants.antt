@@ -1,8 +1,6 @@
 -- The members that are left say what is not yet said. The rows below are asked one step less deep.
 use Rattle.std.proofs.Common.{◌≡◌, ◌+◌, ◌*◌, map, drop}
-use Rattle.schemars_shapes.specs.Shape.{variant_of}
-use Rattle.schemars_types.specs.KeyOptions.{options_within, members_options}
-use Rattle.schemars_belonging.specs.Keys.{said_of, said_by}
+use Rattle.schemars_belonging.proofs.Words.{variant_of, options_within, members_options, said_of, said_by}
 use Rattle.schemars_belonging.proofs.KeyOptions.{joined}
 use Rattle.schemars_belonging.proofs.keys.+keys.Given as goal
 

@@ -1,8 +1,6 @@
 -- The variants that are left decide.
 use Rattle.std.proofs.Common.{◌≡◌, drop, map}
-use Rattle.std.specs.List.{list_all}
-use Rattle.schemars_shapes.specs.Shape.{variant_of}
-use Rattle.schemars_shapes.specs.Units.{is_bare_unit}
+use Rattle.schemars_belonging.proofs.Words.{list_all, variant_of, is_bare_unit}
 use Rattle.schemars_belonging.proofs.keys.are_bare_units.Given as goal
 
 abbrev pub invariant-loop-variant : goal.invariant-loop-variant

@@ -1,6 +1,5 @@
 use Rattle.std.proofs.Common.{◌∙◌, ap}
-use Rattle.schemars_types.specs.KeyOptions.{options_within}
-use Rattle.schemars_belonging.specs.Keys.{said_of, said_by}
+use Rattle.schemars_belonging.proofs.Words.{options_within, said_of, said_by}
 use Rattle.schemars_belonging.proofs.KeyOptions.{allowed_key}
 use Rattle.schemars_belonging.proofs.keys.is_key_allowed.Goals as goal
 

@@ -1,7 +1,6 @@
 -- The variants that are left decide.
 use Rattle.std.proofs.Common.{◌≡◌, drop, map}
-use Rattle.schemars_text.specs.OrderedText.{is_listed}
-use Rattle.schemars_shapes.specs.Shape.{variant_of}
+use Rattle.schemars_belonging.proofs.Words.{is_listed, variant_of}
 use Rattle.schemars_belonging.proofs.keys.is_name.Given as goal
 
 abbrev pub invariant-loop-variant : goal.invariant-loop-variant

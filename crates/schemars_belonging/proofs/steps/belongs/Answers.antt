@@ -1,7 +1,6 @@
 -- The row is asked so many steps deep as the meaning asks for.
 use Rattle.std.proofs.Common.{ap}
-use Rattle.serde_json.specs.View.{view}
-use Rattle.schemars_belonging.specs.Asked.{asked, has}
+use Rattle.schemars_belonging.proofs.Words.{view, asked, has}
 use Rattle.schemars_belonging.proofs.Rows.{answered}
 use Rattle.schemars_belonging.proofs.steps.belongs.Goals as goal
 

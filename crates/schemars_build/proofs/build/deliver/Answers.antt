@@ -1,6 +1,5 @@
 use Rattle.std.proofs.Common.{◌≡◌, ◌-◌, ◌<◌, ℕ, List, [], ◌∷◌, length, reverse, Some, None, rules, refl, sym, ◌∙◌, subst, slice_set, slice_index_or, arith}
-use Rattle.std.specs.Vec.{vec_len}
-use Rattle.schemars_build.proofs.Words.{Data, IsTaken, HasAnswered}
+use Rattle.schemars_build.proofs.Words.{vec_len, Data, IsTaken, HasAnswered}
 use Rattle.schemars_build.specs.declared.build.Document.{Document}
 use Rattle.schemars_build.proofs.Innermost.{last_got, last_set, none_reversed}
 use Rattle.schemars_build.proofs.build.deliver.Goals as goal

@@ -1,10 +1,6 @@
 use Rattle.std.proofs.Common.{◌≡◌, ◌<◌, ◌≤◌, false, Some, refl, ap, sym, ◌∙◌, subst, arith, rules, string_bytes, reverse}
-use Rattle.schemars_build.proofs.Words.{◌||◌, boolean, get_member, reference, is_inline_at, part, reference_to, plan_of, IsBegun, IfOk-weaker, get_member-put, missing, document_rank, measure_of_part}
-use Rattle.schemars_documents.specs.Template.{filled}
-use Rattle.schemars_documents.specs.View.{template_view}
-use Rattle.schemars_build.specs.Making.{asked}
+use Rattle.schemars_build.proofs.Words.{◌||◌, boolean, get_member, reference, is_inline_at, part, reference_to, plan_of, IsBegun, IfOk-weaker, get_member-put, missing, document_rank, measure_of_part, filled, template_view, asked, IsUtf8-string_bytes}
 use Rattle.schemars_build.specs.declared.build.Purpose.TheVariants as purpose
-use Rattle.std.proofs.lemmas.Str.{IsUtf8-string_bytes}
 use Rattle.schemars_build.proofs.Making.{filled_made, closes_own, closes_members, closes_content, closes_referred, closes_definition}
 use Rattle.schemars_build.proofs.Steps.{finished_with}
 use Rattle.schemars_build.proofs.Descending.{content_to_part}

@@ -1,5 +1,5 @@
 use Rattle.std.proofs.Common.{reverse, refl, ap, ◌∙◌}
-use Rattle.schemars_build.specs.Plans.{plan_of}
+use Rattle.schemars_build.proofs.Words.{plan_of}
 use Rattle.schemars_build.specs.declared.build.Document.{Document}
 use Rattle.schemars_build.proofs.Innermost.{reverse_added}
 use Rattle.schemars_build.proofs.Making.{opened_now}

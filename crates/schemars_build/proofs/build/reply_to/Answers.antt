@@ -1,11 +1,8 @@
 use Rattle.std.proofs.Common.{◌≡◌, ◌<◌, ◌≤◌, ℕ, Bool, length, reverse, Option, refl, sym, subst, arith, rules}
-use Rattle.std.specs.Result.{IfOk}
-use Rattle.schemars_build.proofs.Words.{Data, IfOk-weaker, Ask, members_of, content, ask_of, are_optional, plan_of, ComesFrom, document, HasReplied, row_asked, measure_of_asked, measure_of_filled, IsWithin}
-use Rattle.schemars_build.specs.Making.{flattened, asked}
+use Rattle.schemars_build.proofs.Words.{IfOk, Data, IfOk-weaker, Ask, members_of, content, ask_of, are_optional, plan_of, ComesFrom, document, HasReplied, row_asked, measure_of_asked, measure_of_filled, IsWithin, flattened, asked, measure_of_members, measure_of_content}
 use Rattle.schemars_build.specs.declared.build.Purpose.TheVariants as purpose
 use Rattle.schemars_build.proofs.Asked.{inner_known}
 use Rattle.schemars_build.proofs.Making.{leads_at_once, opened_reply, leads_members}
-use Rattle.schemars_build.specs.Measure.{measure_of_members, measure_of_content}
 use Rattle.schemars_build.proofs.Descending.{members_to_filled}
 use Rattle.schemars_build.proofs.Ending.{opened_within}
 use Rattle.schemars_build.proofs.build.reply_to.Goals as goal

@@ -1,8 +1,6 @@
 use Rattle.std.proofs.Common.{◌≡◌, ◌<◌, [], List, reverse, None, Some, refl, ap, sym, ◌∙◌, subst}
-use Rattle.schemars_build.proofs.Words.{plan_of, wanted, IsTaken, Step, measure_of_turn, IfOk-weaker}
-use Rattle.schemars_build.specs.Making.{AreWaiting, AreMaking, IsReply}
+use Rattle.schemars_build.proofs.Words.{plan_of, wanted, IsTaken, Step, measure_of_turn, IfOk-weaker, AreWaiting, AreMaking, IsReply, measure_of_making}
 use Rattle.schemars_build.specs.declared.build.Document.{Document}
-use Rattle.schemars_build.specs.Measure.{measure_of_making}
 use Rattle.schemars_build.proofs.Making.{taken_goes, taken_home, taken_left, goes_on_undone, making_first}
 use Rattle.schemars_build.proofs.build.run.Goals as goal
 

@@ -1,6 +1,5 @@
 use Rattle.std.proofs.Common.{reverse}
-use Rattle.schemars_build.proofs.Words.{wanted, measure_of_turn, plan_of}
-use Rattle.schemars_build.specs.Making.{GoesOn}
+use Rattle.schemars_build.proofs.Words.{wanted, measure_of_turn, plan_of, GoesOn}
 use Rattle.schemars_build.proofs.build.run.Given as goal
 
 abbrev pub invariant-going : goal.invariant-going

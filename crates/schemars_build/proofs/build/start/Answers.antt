@@ -1,7 +1,5 @@
 use Rattle.std.proofs.Common.{Option, reverse, sym, subst}
-use Rattle.std.specs.Result.{IfOk}
-use Rattle.schemars_build.proofs.Words.{IfOk-weaker, Data, ask_of, plan_of, Wanted, own, wanted, HasReplied}
-use Rattle.schemars_build.specs.Making.{asked}
+use Rattle.schemars_build.proofs.Words.{IfOk, IfOk-weaker, Data, ask_of, plan_of, Wanted, own, wanted, HasReplied, asked}
 use Rattle.schemars_build.proofs.Making.{leads_at_once, replied_through}
 use Rattle.schemars_build.proofs.build.start.Goals as goal
 

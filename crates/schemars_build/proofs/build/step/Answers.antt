@@ -1,8 +1,5 @@
 use Rattle.std.proofs.Common.{◌≡◌, ◌<◌, ◌≤◌, ◌+◌, ◌-◌, ◌++◌, ◌∷◌, [], map, length, take, reverse, refl, ap, ◌∙◌, subst, arith, rules, get_or, slice_index_or}
-use Rattle.schemars_build.proofs.Words.{IfOk-weaker, ask_of, plan_of, IsTemplate, row_asked, document_rank, measure_of_asked}
-use Rattle.schemars_build.specs.Making.{asked, IsNext, HasFirst}
-use Rattle.std.proofs.lemmas.List.{map_more}
-use Rattle.std.proofs.lemmas.Grind.{common_steps}
+use Rattle.schemars_build.proofs.Words.{IfOk-weaker, ask_of, plan_of, IsTemplate, row_asked, document_rank, measure_of_asked, asked, IsNext, HasFirst, map_more, common_steps}
 use Rattle.schemars_build.proofs.Innermost.{last_got, reverse_added}
 use Rattle.schemars_build.proofs.Making.{asks_known, last_is_first, asking_goes_on, asking_goes_less, closing_goes_on, closing_goes_less}
 use Rattle.schemars_build.proofs.Ending.{asks_lower}

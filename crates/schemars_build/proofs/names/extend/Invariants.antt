@@ -1,6 +1,6 @@
 use Rattle.std.proofs.Common.{◌≡◌, ◌-◌, ℕ, suc, length}
 use Rattle.schemars_types.specs.declared.contract.Contract.{Contract}
-use Rattle.schemars_build.specs.Owners.{place_of_owner}
+use Rattle.schemars_build.proofs.Words.{place_of_owner}
 use Rattle.schemars_build.proofs.names.extend.Given as goal
 
 abbrev pub invariant-growing : goal.invariant-growing

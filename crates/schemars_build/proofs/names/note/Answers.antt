@@ -1,7 +1,5 @@
 use Rattle.std.proofs.Common.{string_bytes, Result, Ok, Err, subst}
-use Rattle.std.specs.Result.{OnOk, OnErr}
-use Rattle.schemars_schema.specs.Json.{Text}
-use Rattle.schemars_build.specs.Owners.{IsNoted}
+use Rattle.schemars_build.proofs.Words.{OnOk, OnErr, Text, IsNoted}
 use Rattle.schemars_build.proofs.TriedLemmas.{noted_unchanged, noted_updates}
 use Rattle.schemars_build.proofs.names.note.Goals as goal
 

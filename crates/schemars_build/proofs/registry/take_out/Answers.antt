@@ -1,7 +1,5 @@
 use Rattle.std.proofs.Common.{◌≡◌, ◌++◌, ◌∷◌, [], map, ap, sym, ◌∙◌, string_bytes, rules}
-use Rattle.std.proofs.lemmas.List.{map-append}
-use Rattle.schemars_schema.specs.Edits.{without}
-use Rattle.schemars_build.specs.Registry.{without_all}
+use Rattle.schemars_build.proofs.Words.{map-append, without, without_all}
 use Rattle.schemars_build.proofs.Members.{without_all-joined}
 use Rattle.schemars_build.proofs.registry.take_out.Goals as goal
 

@@ -1,6 +1,6 @@
 -- The parts of the trimmed text.
 use Rattle.std.proofs.Common.{[], true, false, Some, None, refl, arith}
-use Rattle.std.proofs.lemmas.Str.Pattern.{split_once_first}
+use Rattle.schemars_builders.proofs.Words.{split_once_first}
 use Rattle.schemars_builders.proofs.Headings.{ends_trimmed, headed-test, no_title, whole_description, heading_title, rest_description, only_line, nothing_after}
 use Rattle.schemars_builders.proofs.documentation.get_title_and_description.Goals as goal
 

@@ -1,5 +1,5 @@
 use Rattle.std.proofs.Common.{ap, ◌∙◌}
-use Rattle.schemars_builders.specs.Documentation.{trimmed}
+use Rattle.schemars_builders.proofs.Words.{trimmed}
 use Rattle.schemars_builders.proofs.Headings.{marks_trimmed, ends_trimmed}
 use Rattle.schemars_builders.proofs.documentation.title.Goals as goal
 

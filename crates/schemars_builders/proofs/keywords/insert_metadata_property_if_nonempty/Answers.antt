@@ -1,12 +1,6 @@
 -- An empty text changes nothing, and another is put in.
 use Rattle.std.proofs.Common.{◌≡◌, true, false, [], ◌∷◌, length, refl, sym, ap, ◌∙◌, true≢false, eqb-true, arith}
-use Rattle.std.specs.Prelude.{◌==◌}
-use Rattle.std.proofs.lemmas.Result.{on_ok_weaker}
-use Rattle.serde_json.specs.Data.{Data, string}
-use Rattle.serde_json.specs.View.{view}
-use Rattle.schemars_schema.specs.Json.{Text}
-use Rattle.schemars_schema.specs.SchemaData.{inserted}
-use Rattle.schemars_builders.specs.Keywords.{with_metadata}
+use Rattle.schemars_builders.proofs.Words.{◌==◌, on_ok_weaker, Data, string, view, Text, inserted, with_metadata}
 use Rattle.schemars_builders.proofs.keywords.insert_metadata_property_if_nonempty.Goals as goal
 
 empty_stays : (k text : Text) (schema : Data) → (length text == 0) ≡ true → schema ≡ with_metadata k text schema

@@ -1,8 +1,6 @@
 use Rattle.std.proofs.Common.{◌≡◌, string_bytes, ap, ◌∙◌, rules}
-use Rattle.serde_json.specs.Data.{string}
-use Rattle.serde_json.specs.View.{view}
+use Rattle.schemars_builders.proofs.Words.{string, view, escaped}
 use Rattle.serde_json.specs.declared.value.Value.{String, the_lemmas}
-use Rattle.schemars_builders.specs.Pattern.{escaped}
 use Rattle.schemars_builders.proofs.keywords.must_contain.Goals as goal
 
 pub returns-clause-ok : goal.returns-clause-ok

@@ -1,7 +1,5 @@
 use Rattle.std.proofs.Common.{ap, ◌∙◌}
-use Rattle.std.proofs.lemmas.Result.{err_from_is_err_and}
-use Rattle.serde_json.specs.View.{view}
-use Rattle.schemars_schema.specs.SchemaData.{inserted}
+use Rattle.schemars_builders.proofs.Words.{err_from_is_err_and, view, inserted}
 use Rattle.schemars_builders.proofs.keywords.set_keyword.Goals as goal
 
 pub returns-in_err-insert-clause-err : goal.returns-in_err-insert-clause-err

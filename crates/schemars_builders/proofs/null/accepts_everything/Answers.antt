@@ -1,7 +1,5 @@
 use Rattle.std.proofs.Common.{Some, ap, ◌∙◌, sym}
-use Rattle.serde_json.specs.View.{view}
-use Rattle.serde_json.proofs.Views.{view-Object}
-use Rattle.schemars_builders.specs.AllowNull.{accepts_everything}
+use Rattle.schemars_builders.proofs.Words.{view, view-Object, accepts_everything}
 use Rattle.schemars_builders.proofs.Nulls.{empty_accepts}
 use Rattle.schemars_builders.proofs.null.accepts_everything.Goals as goal
 

@@ -1,6 +1,5 @@
 use Rattle.std.proofs.Common.{◌≡◌, drop}
-use Rattle.serde_json.specs.View.{items_view}
-use Rattle.schemars_builders.specs.AllowNull.{holds_null_schema}
+use Rattle.schemars_builders.proofs.Words.{items_view, holds_null_schema}
 use Rattle.schemars_builders.proofs.null.holds_null_schema.Given as goal
 
 abbrev pub invariant-loop-schema : goal.invariant-loop-schema

@@ -1,9 +1,5 @@
 use Rattle.std.proofs.Common.{◌≡◌, false, ap, ◌∙◌, codes, rules}
-use Rattle.serde_json.specs.Data.{array}
-use Rattle.serde_json.specs.View.{items_view, view}
-use Rattle.serde_json.proofs.Views.{view-Array}
-use Rattle.schemars_schema.specs.Edits.{holds_text, with_item}
-use Rattle.schemars_schema.proofs.Lists.{items_view-push}
+use Rattle.schemars_builders.proofs.Words.{array, items_view, view, view-Array, holds_text, with_item, items_view-push}
 use Rattle.schemars_builders.proofs.null.names_with_null.Goals as goal
 
 pub returns : goal.returns

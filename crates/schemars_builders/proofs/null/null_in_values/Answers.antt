@@ -1,11 +1,7 @@
 -- A null `const` stays.
 use Rattle.std.proofs.Common.{◌≡◌, Some, sym, ap, ◌∙◌, codes, rules}
-use Rattle.serde_json.specs.Data.{Data, null, boolean, number, string, array, object}
-use Rattle.serde_json.specs.Find.{get}
-use Rattle.serde_json.specs.View.{view}
+use Rattle.schemars_builders.proofs.Words.{Data, null, boolean, number, string, array, object, get, view, members_in, null_in_values, null_in_const}
 use Rattle.serde_json.specs.declared.value.Value.{Value, Null, the_lemmas}
-use Rattle.schemars_schema.specs.SchemaData.{members_in}
-use Rattle.schemars_builders.specs.AllowNull.{null_in_values, null_in_const}
 use Rattle.schemars_builders.proofs.null.null_in_values.Goals as goal
 
 null_stays : (s : Data) (v : Value) → s ≡ object (members_in s) → Some (view v) ≡ get (codes "const") s → v ≡ Null

@@ -1,11 +1,6 @@
 use Rattle.std.proofs.Common.{◌≡◌, false, ap, ◌∙◌, rules}
-use Rattle.serde_json.specs.Data.{array, null}
-use Rattle.serde_json.specs.View.{items_view, view}
+use Rattle.schemars_builders.proofs.Words.{array, null, items_view, view, view-Array, with_item, items_view-push, holds_null}
 use Rattle.serde_json.specs.declared.value.Value.{Null, the_lemmas}
-use Rattle.serde_json.proofs.Views.{view-Array}
-use Rattle.schemars_schema.specs.Edits.{with_item}
-use Rattle.schemars_schema.proofs.Lists.{items_view-push}
-use Rattle.schemars_builders.specs.AllowNull.{holds_null}
 use Rattle.schemars_builders.proofs.null.values_with_null.Goals as goal
 
 pub returns : goal.returns

@@ -1,11 +1,6 @@
 -- One character more, and no character more.
 use Rattle.std.proofs.Common.{◌≡◌, List, ℕ, encode_utf8_all, chars, sym, ap, ◌∙◌, map-id, append-nil}
-use Rattle.std.specs.Prelude.{IsUtf8, map}
-use Rattle.std.proofs.lemmas.Iterator.{YieldsList-from_chars}
-use Rattle.std.proofs.lemmas.Iterator.Consumers.{YieldsList-end}
-use Rattle.std.proofs.lemmas.Str.{encodes-append, encodes-chars}
-use Rattle.schemars_schema.specs.Json.{Text}
-use Rattle.schemars_builders.specs.Pattern.{escaped, unescaped}
+use Rattle.schemars_builders.proofs.Words.{IsUtf8, map, YieldsList-from_chars, YieldsList-end, encodes-append, encodes-chars, Text, escaped, unescaped}
 use Rattle.schemars_builders.proofs.Escapes.{escaped-append, unescaped-escaped}
 use Rattle.schemars_builders.proofs.pattern.escape.Goals as goal
 

@@ -1,6 +1,6 @@
 -- The characters of the list are the special ones.
 use Rattle.std.proofs.Common.{◌∙◌}
-use Rattle.std.specs.Prelude.{codes}
+use Rattle.schemars_builders.proofs.Words.{codes}
 use Rattle.schemars_builders.proofs.Escapes.{list_any-either_way}
 use Rattle.schemars_builders.proofs.pattern.is_special.Goals as goal
 

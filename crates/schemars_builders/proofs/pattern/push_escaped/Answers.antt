@@ -1,8 +1,6 @@
 -- A special character is a backslash and itself, and another is itself.
 use Rattle.std.proofs.Common.{◌≡◌, ◌++◌, [], ◌∷◌, string_bytes, append_assoc, arith, sym, ap, ◌∙◌}
-use Rattle.std.proofs.lemmas.Str.{encode_ascii}
-use Rattle.std.specs.Char.{encode_utf8}
-use Rattle.schemars_builders.specs.Pattern.{escaped}
+use Rattle.schemars_builders.proofs.Words.{encode_ascii, encode_utf8, escaped}
 use Rattle.schemars_builders.proofs.Escapes.{escaped-special, escaped-plain, pushed}
 use Rattle.schemars_builders.proofs.pattern.push_escaped.Goals as goal
 use Rattle.schemars_builders.proofs.pattern.push_escaped.Goals.{then-is_special+in_ok-push, else-is_special}

@@ -1,9 +1,6 @@
 -- The property goes in, and then the name to those that are required.
 use Rattle.std.proofs.Common.{ap, ◌∙◌}
-use Rattle.std.proofs.lemmas.Result.{on_ok_weaker}
-use Rattle.serde_json.specs.Data.{object}
-use Rattle.serde_json.specs.View.{members_view}
-use Rattle.schemars_builders.specs.Properties.{with_property, required_unless}
+use Rattle.schemars_builders.proofs.Words.{on_ok_weaker, object, members_view, with_property, required_unless}
 use Rattle.schemars_builders.proofs.properties.insert_object_property.Goals as goal
 
 pub returns : goal.returns

@@ -1,13 +1,7 @@
 -- A property among those that are there, or the first.
 use Rattle.std.proofs.Common.{◌≡◌, Some, None, option_map, codes, ap, ◌∙◌}
-use Rattle.std.proofs.lemmas.Result.{on_ok_weaker}
-use Rattle.serde_json.specs.Data.{object, no_members, put}
-use Rattle.serde_json.specs.Find.{get_member}
-use Rattle.serde_json.specs.View.{view, members_view}
+use Rattle.schemars_builders.proofs.Words.{on_ok_weaker, object, no_members, put, get_member, view, members_view, view-Object, view-lookup, with_member, changed_there, changed_missing}
 use Rattle.serde_json.specs.declared.value.Value.{Object}
-use Rattle.serde_json.proofs.Views.{view-Object, view-lookup}
-use Rattle.schemars_schema.specs.Edits.{with_member}
-use Rattle.schemars_schema.proofs.Changes.{changed_there, changed_missing}
 use Rattle.schemars_builders.proofs.properties.put_property.Goals as goal
 
 pub returns-in-Some : goal.returns-in-Some

@@ -1,12 +1,6 @@
 -- A name among those that are required, or the only one.
 use Rattle.std.proofs.Common.{◌≡◌, Some, None, option_map, codes, ap, ◌∙◌}
-use Rattle.std.proofs.lemmas.Result.{on_ok_weaker}
-use Rattle.serde_json.specs.Data.{string, array, no_items, item, put}
-use Rattle.serde_json.specs.Find.{get_member}
-use Rattle.serde_json.specs.View.{view, members_view}
-use Rattle.serde_json.proofs.Views.{view-lookup}
-use Rattle.schemars_schema.specs.Edits.{with_first}
-use Rattle.schemars_schema.proofs.Changes.{changed_there, changed_missing}
+use Rattle.schemars_builders.proofs.Words.{on_ok_weaker, string, array, no_items, item, put, get_member, view, members_view, view-lookup, with_first, changed_there, changed_missing}
 use Rattle.schemars_builders.proofs.properties.require_first.Goals as goal
 
 pub returns-in-Some : goal.returns-in-Some

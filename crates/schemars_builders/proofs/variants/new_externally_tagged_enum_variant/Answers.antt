@@ -1,9 +1,7 @@
 -- Four members, put in one after another.
 use Rattle.std.proofs.Common.{◌≡◌, ◌++◌, [], ◌∷◌, false, ap, ◌∙◌, codes, rules}
-use Rattle.serde_json.specs.Data.{boolean, string, array, object, no_items, item, no_members, put}
-use Rattle.serde_json.specs.View.{view, items_view, members_view}
+use Rattle.schemars_builders.proofs.Words.{boolean, string, array, object, no_items, item, no_members, put, view, items_view, members_view, view-Array, view-Object}
 use Rattle.serde_json.specs.declared.value.Value.{Bool, Array, Object, the_lemmas}
-use Rattle.serde_json.proofs.Views.{view-Array, view-Object}
 use Rattle.schemars_builders.proofs.variants.new_externally_tagged_enum_variant.Goals as goal
 
 pub returns : goal.returns

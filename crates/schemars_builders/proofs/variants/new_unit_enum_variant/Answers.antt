@@ -1,7 +1,6 @@
 -- Two members, put in one after the other.
 use Rattle.std.proofs.Common.{ap, ◌∙◌, codes}
-use Rattle.serde_json.specs.Data.{string, object, put}
-use Rattle.serde_json.specs.View.{members_view}
+use Rattle.schemars_builders.proofs.Words.{string, object, put, members_view}
 use Rattle.schemars_builders.proofs.variants.new_unit_enum_variant.Goals as goal
 
 pub returns : goal.returns

@@ -2,8 +2,7 @@
 use Rattle.std.proofs.Common.{◌≡◌, Err, ap, sym, subst, ◌∙◌, inl, arith, map, string_bytes}
 use Rattle.schemagen_run.specs.declared.fault.Fault.{Fault}
 use Rattle.schemars_generate.specs.declared.error.TheConstants.{DEFINITIONS_PATH}
-use Rattle.schemagen_run.specs.Run.{IsFaultyTable}
-use Rattle.schemagen_run.specs.Fault.{IsTableFault}
+use Rattle.schemars_c.proofs.Vocabulary.{IsFaultyTable, IsTableFault}
 use Rattle.schemars_c.specs.declared.handing.TheConstants.{USAGE}
 use Rattle.schemars_c.proofs.Numbers.{table_words_ask, is_usage, of_table_number, of_path_number, wants_memory, wants_memory_or}
 use Rattle.schemars_c.proofs.exports.table_line.Goals as goal

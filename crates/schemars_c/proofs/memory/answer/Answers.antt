@@ -3,7 +3,7 @@ use Rattle.std.proofs.Common.{◌≡◌, ◌++◌, Some, Err, refl, ap, ◌∙�
 use Rattle.schemagen_run.specs.declared.fault.Fault.TheVariants.{Refused}
 use Rattle.schemars_generate.specs.declared.error.TheConstants.{DEFINITIONS_PATH}
 use Rattle.schemagen_run.specs.declared.fault.TheConstants.{NOT_WHOLE}
-use Rattle.schemagen_run.proofs.Runs.{gave}
+use Rattle.schemars_c.proofs.Vocabulary.{gave}
 use Rattle.schemars_c.proofs.Lines.{line_weaker}
 use Rattle.schemars_c.proofs.memory.answer.Goals as goal
 

@@ -1,7 +1,5 @@
 use Rattle.std.proofs.Common.{false, Some, refl, sym, subst, ap, ◌∙◌, string_bytes}
-use Rattle.std.proofs.lemmas.Map.Text.{hash_map_updates_text}
-use Rattle.serde_json.specs.Data.{boolean, put}
-use Rattle.schemars_definitions.specs.Kept.{definition_in, definitions_by_name, AreOrdered}
+use Rattle.schemars_definitions.proofs.Words.{hash_map_updates_text, boolean, put, definition_in, definitions_by_name, AreOrdered}
 use Rattle.schemars_definitions.specs.declared.kept.Kept.TheVariants.{Begun}
 use Rattle.schemars_definitions.proofs.ByName.{added-by_name}
 use Rattle.schemars_definitions.proofs.EntryEdits.{ordered-put}

@@ -1,5 +1,5 @@
 use Rattle.std.proofs.Common.{◌∙◌}
-use Rattle.schemars_definitions.specs.Kept.{definition_in}
+use Rattle.schemars_definitions.proofs.Words.{definition_in}
 use Rattle.schemars_definitions.proofs.ByName.{has_name-by_name}
 use Rattle.schemars_definitions.proofs.by_name.has_name.Goals as goal
 

@@ -1,6 +1,5 @@
 use Rattle.std.proofs.Common.{None, refl, sym, subst}
-use Rattle.std.proofs.lemmas.Map.Text.{hash_map_updates_text}
-use Rattle.schemars_definitions.specs.Kept.{definition_in, AreOrdered}
+use Rattle.schemars_definitions.proofs.Words.{hash_map_updates_text, definition_in, AreOrdered}
 use Rattle.schemars_definitions.proofs.ByName.{removed-by_name}
 use Rattle.schemars_definitions.proofs.EntryEdits.{ordered-remove}
 use Rattle.schemars_definitions.proofs.by_name.remove.Goals as goal

@@ -1,7 +1,5 @@
 use Rattle.std.proofs.Common.{Some, is_some, refl, sym, subst, ap, ◌∙◌}
-use Rattle.std.specs.Prelude.{option_map}
-use Rattle.std.proofs.lemmas.Map.Text.{hash_map_updates_text, is_text}
-use Rattle.schemars_definitions.specs.Kept.{definition_in, definitions_by_name, AreOrdered}
+use Rattle.schemars_definitions.proofs.Words.{option_map, hash_map_updates_text, is_text, definition_in, definitions_by_name, AreOrdered}
 use Rattle.schemars_definitions.proofs.ByName.{lookup-by_name, replaced-by_name, replaced-missing}
 use Rattle.schemars_definitions.proofs.EntryEdits.{ordered-set}
 use Rattle.schemars_definitions.proofs.by_name.replace.Goals as goal

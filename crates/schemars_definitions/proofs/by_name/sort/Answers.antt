@@ -1,6 +1,4 @@
-use Rattle.std.proofs.lemmas.List.Sorted.{All-permutation}
-use Rattle.std.proofs.lemmas.Result.{on_ok_weaker}
-use Rattle.schemars_definitions.specs.Kept.{IsOrdered, definition_in}
+use Rattle.schemars_definitions.proofs.Words.{All-permutation, on_ok_weaker, IsOrdered, definition_in}
 use Rattle.schemars_definitions.proofs.ByName.{sorted_by_name}
 use Rattle.schemars_definitions.proofs.EntryEdits.{all_ordered, each_ordered}
 use Rattle.schemars_definitions.proofs.by_name.sort.Goals as goal

@@ -1,7 +1,6 @@
 -- Where there is none of the name, nothing changes.
 use Rattle.std.proofs.Common.{◌∙◌, sym, ap}
-use Rattle.std.specs.Prelude.{option_map}
-use Rattle.schemars_definitions.specs.Entries.{has_name}
+use Rattle.schemars_definitions.proofs.Words.{option_map, has_name}
 use Rattle.schemars_definitions.proofs.EntryEdits.{set_value-absent}
 use Rattle.schemars_definitions.proofs.entries.replace.Goals as goal
 

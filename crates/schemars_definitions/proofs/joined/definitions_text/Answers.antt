@@ -1,5 +1,4 @@
-use Rattle.schemars_definitions.specs.Kept.{definitions_in}
-use Rattle.schemars_definitions.specs.Whole.{each_made}
+use Rattle.schemars_definitions.proofs.Words.{definitions_in, each_made}
 use Rattle.schemars_definitions.proofs.JoinedTexts.{braced_text}
 use Rattle.schemars_definitions.proofs.joined.definitions_text.Goals as goal
 

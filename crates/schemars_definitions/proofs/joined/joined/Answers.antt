@@ -1,6 +1,5 @@
 use Rattle.std.proofs.Common.{string_bytes, arith}
-use Rattle.schemars_definitions.specs.Kept.{definitions_in}
-use Rattle.schemars_definitions.specs.Whole.{each_made}
+use Rattle.schemars_definitions.proofs.Words.{definitions_in, each_made}
 use Rattle.schemars_definitions.proofs.Floats.{place_whole}
 use Rattle.schemars_definitions.proofs.JoinedTexts.{joined_text}
 use Rattle.schemars_definitions.proofs.joined.joined.Goals as goal

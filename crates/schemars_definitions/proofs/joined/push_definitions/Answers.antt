@@ -1,11 +1,5 @@
 use Rattle.std.proofs.Common.{◌≡◌, ◌∷◌, ◌++◌, false, sym, ap, ◌∙◌, subst, rules, true, string_bytes, List, String, Global}
-use Rattle.std.proofs.lemmas.Bool.{or_parts}
-use Rattle.json.specs.Print.{quoted}
-use Rattle.serde_json.specs.Data.{Members}
-use Rattle.serde_json.specs.Written.{has_float, members_have_float}
-use Rattle.schemars_text.specs.OrderedText.{with_commas, ordered_text}
-use Rattle.schemars_definitions.specs.Kept.{AreOrdered, definition_in, definitions_in}
-use Rattle.schemars_definitions.specs.Whole.{each_made}
+use Rattle.schemars_definitions.proofs.Words.{or_parts, quoted, Members, has_float, members_have_float, with_commas, ordered_text, AreOrdered, definition_in, definitions_in, each_made}
 use Rattle.schemars_definitions.specs.declared.kept.Kept.{Kept}
 use Rattle.schemars_definitions.proofs.JoinedTexts.{definition_texts, one_definition, one_more, no_more}
 use Rattle.schemars_definitions.proofs.joined.push_definitions.Goals as goal

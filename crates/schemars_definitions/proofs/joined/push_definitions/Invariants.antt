@@ -1,9 +1,6 @@
 -- What is left goes behind what is written, as all of it does behind the text at the start.
 use Rattle.std.proofs.Common.{◌≡◌, ◌++◌, false, string_bytes}
-use Rattle.serde_json.specs.Written.{members_have_float}
-use Rattle.schemars_text.specs.OrderedText.{with_commas}
-use Rattle.schemars_definitions.specs.Kept.{AreOrdered, definitions_in}
-use Rattle.schemars_definitions.specs.Whole.{each_made}
+use Rattle.schemars_definitions.proofs.Words.{members_have_float, with_commas, AreOrdered, definitions_in, each_made}
 use Rattle.schemars_definitions.proofs.JoinedTexts.{definition_texts}
 use Rattle.schemars_definitions.proofs.joined.push_definitions.Given as goal
 

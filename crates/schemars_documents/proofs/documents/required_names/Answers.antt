@@ -1,7 +1,5 @@
 use Rattle.std.proofs.Common.{map, refl}
-use Rattle.schemars_shapes.specs.Shape.{field_of}
-use Rattle.schemars_documents.specs.Documents.{required_names}
-use Rattle.schemars_documents.proofs.Items.{no_more}
+use Rattle.schemars_documents.proofs.Words.{field_of, required_names, no_more}
 use Rattle.schemars_documents.proofs.documents.required_names.Goals as goal
 
 pub returns : goal.returns

@@ -1,6 +1,5 @@
 use Rattle.std.proofs.Common.{◌≡◌, ◌++◌, map, drop}
-use Rattle.schemars_shapes.specs.Shape.{field_of}
-use Rattle.schemars_documents.specs.Documents.{required_names}
+use Rattle.schemars_documents.proofs.Words.{field_of, required_names}
 use Rattle.schemars_documents.proofs.documents.required_names.Given as goal
 
 abbrev pub invariant-loop-field : goal.invariant-loop-field

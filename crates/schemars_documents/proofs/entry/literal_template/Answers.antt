@@ -1,7 +1,6 @@
 use Rattle.std.proofs.Common.{ap, sym, ◌∙◌}
-use Rattle.schemars_documents.specs.Template.{finished}
+use Rattle.schemars_documents.proofs.Words.{finished, seen_finished}
 use Rattle.schemars_documents.proofs.Literals.{literal_document-schema}
-use Rattle.schemars_documents.proofs.Templates.{seen_finished}
 use Rattle.schemars_documents.proofs.entry.literal_template.Goals as goal
 
 pub returns : goal.returns

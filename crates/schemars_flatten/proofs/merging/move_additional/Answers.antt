@@ -1,8 +1,6 @@
 -- What is taken out goes in under the other name.
 use Rattle.std.proofs.Common.{◌≡◌, codes}
-use Rattle.std.proofs.lemmas.Result.{on_ok_weaker}
-use Rattle.serde_json.specs.Data.{put}
-use Rattle.serde_json.specs.View.{view, members_view}
+use Rattle.schemars_flatten.proofs.Words.{on_ok_weaker, put, view, members_view}
 use Rattle.schemars_flatten.proofs.Parts.{moved_there, moved_missing}
 use Rattle.schemars_flatten.proofs.merging.move_additional.Goals as goal
 

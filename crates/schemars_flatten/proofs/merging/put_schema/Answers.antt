@@ -1,11 +1,7 @@
 -- What the parts put in is what the whole has.
 use Rattle.std.proofs.Common.{◌≡◌, refl, sym, ap, ◌∙◌, rules}
-use Rattle.std.proofs.lemmas.Result.{on_ok_weaker}
-use Rattle.serde_json.specs.Data.{object, boolean}
-use Rattle.serde_json.specs.View.{view, members_view}
+use Rattle.schemars_flatten.proofs.Words.{on_ok_weaker, object, boolean, view, members_view, view-Object, united_all, opened_keywords}
 use Rattle.serde_json.specs.declared.value.Value.{Bool, the_lemmas}
-use Rattle.serde_json.proofs.Views.{view-Object}
-use Rattle.schemars_flatten.specs.Flatten.{united_all, opened_keywords}
 use Rattle.schemars_flatten.proofs.Parts.{flattened_object, flattened_opened, flattened_kept}
 use Rattle.schemars_flatten.proofs.merging.put_schema.Goals as goal
 

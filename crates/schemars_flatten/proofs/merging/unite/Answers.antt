@@ -1,8 +1,6 @@
 -- Each side is moved beside the other, and the second is put into the first.
 use Rattle.std.proofs.Common.{◌≡◌, ap, ◌∙◌}
-use Rattle.std.proofs.lemmas.Result.{on_ok_weaker}
-use Rattle.serde_json.specs.View.{members_view}
-use Rattle.schemars_flatten.specs.Flatten.{moved_beside, with_keywords}
+use Rattle.schemars_flatten.proofs.Words.{on_ok_weaker, members_view, moved_beside, with_keywords}
 use Rattle.schemars_flatten.proofs.merging.unite.Goals as goal
 
 pub returns : goal.returns

@@ -1,8 +1,6 @@
 -- A list of the two.
 use Rattle.std.proofs.Common.{ap, ◌∙◌}
-use Rattle.serde_json.specs.Data.{array, no_items, item}
-use Rattle.serde_json.specs.View.{items_view}
-use Rattle.serde_json.proofs.Views.{view-Array}
+use Rattle.schemars_flatten.proofs.Words.{array, no_items, item, items_view, view-Array}
 use Rattle.schemars_flatten.proofs.union.both_choices.Goals as goal
 
 pub returns : goal.returns

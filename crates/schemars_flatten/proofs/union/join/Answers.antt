@@ -1,11 +1,6 @@
 -- Two lists are one behind the other; of what is no list the first stays.
 use Rattle.std.proofs.Common.{◌≡◌, ap, ◌∙◌}
-use Rattle.std.proofs.lemmas.Result.{on_ok_weaker}
-use Rattle.serde_json.specs.Data.{array}
-use Rattle.serde_json.specs.View.{view, items_view}
-use Rattle.serde_json.proofs.Views.{view-Array}
-use Rattle.schemars_schema.proofs.Containers.{array-as_array}
-use Rattle.schemars_flatten.specs.Flatten.{appended}
+use Rattle.schemars_flatten.proofs.Words.{on_ok_weaker, array, view, items_view, view-Array, array-as_array, appended}
 use Rattle.schemars_flatten.proofs.Parts.{lists_joined, no_list_joined}
 use Rattle.schemars_flatten.proofs.union.join.Goals as goal
 

@@ -1,11 +1,6 @@
 -- Two objects are one, with the second's values put in; of what is no object the first stays.
 use Rattle.std.proofs.Common.{◌≡◌, ap, ◌∙◌}
-use Rattle.std.proofs.lemmas.Result.{on_ok_weaker}
-use Rattle.serde_json.specs.Data.{object}
-use Rattle.serde_json.specs.View.{view, members_view}
-use Rattle.serde_json.proofs.Views.{view-Object}
-use Rattle.schemars_schema.specs.SchemaData.{put_members}
-use Rattle.schemars_schema.proofs.Containers.{object-as_object}
+use Rattle.schemars_flatten.proofs.Words.{on_ok_weaker, object, view, members_view, view-Object, put_members, object-as_object}
 use Rattle.schemars_flatten.proofs.Parts.{objects_merged, no_object_merged}
 use Rattle.schemars_flatten.proofs.union.merge.Goals as goal
 

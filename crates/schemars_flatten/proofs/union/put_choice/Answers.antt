@@ -1,11 +1,6 @@
 -- A second choice goes with the first into `allOf`.
 use Rattle.std.proofs.Common.{◌≡◌, Some, None, codes, string_bytes, ap, ◌∙◌}
-use Rattle.std.proofs.lemmas.Result.{on_ok_weaker}
-use Rattle.serde_json.specs.Data.{put}
-use Rattle.serde_json.specs.Find.{get_member}
-use Rattle.serde_json.specs.View.{view, members_view}
-use Rattle.schemars_schema.specs.Edits.{without}
-use Rattle.schemars_flatten.specs.Flatten.{both_choices, with_united}
+use Rattle.schemars_flatten.proofs.Words.{on_ok_weaker, put, get_member, view, members_view, without, both_choices, with_united}
 use Rattle.schemars_flatten.proofs.Parts.{choice_there, choice_missing}
 use Rattle.schemars_flatten.proofs.union.put_choice.Goals as goal
 

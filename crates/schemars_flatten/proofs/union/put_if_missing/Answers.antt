@@ -1,9 +1,6 @@
 -- The entry has the value that was there, or else the new one.
 use Rattle.std.proofs.Common.{◌≡◌, string_cmp, string_bytes, ap, ◌∙◌, rules}
-use Rattle.std.specs.BTreeMap.{insert_entry}
-use Rattle.serde_json.specs.Data.{put}
-use Rattle.serde_json.specs.View.{members_view}
-use Rattle.serde_json.proofs.Views.{members_view-insert_entry}
+use Rattle.schemars_flatten.proofs.Words.{insert_entry, put, members_view, members_view-insert_entry}
 use Rattle.schemars_flatten.proofs.PutIn.{view-entry_or}
 use Rattle.schemars_flatten.proofs.union.put_if_missing.Goals as goal
 

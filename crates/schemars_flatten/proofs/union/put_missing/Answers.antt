@@ -1,8 +1,6 @@
 -- Each member goes in, unless its name is there.
 use Rattle.std.proofs.Common.{◌≡◌, ◌∷◌, [], ap, rules}
-use Rattle.serde_json.specs.View.{members_view}
-use Rattle.schemars_schema.specs.SchemaData.{put_members}
-use Rattle.schemars_schema.proofs.SortedMembers.{IsSorted}
+use Rattle.schemars_flatten.proofs.Words.{members_view, put_members, IsSorted}
 use Rattle.schemars_flatten.proofs.PutIn.{sorted_entries, put_each_missing, put_whole}
 use Rattle.schemars_flatten.proofs.union.put_missing.Goals as goal
 

@@ -1,8 +1,6 @@
 -- The members so far, put into what is left, are the members at the start, put into the whole. Both are sorted.
 use Rattle.std.proofs.Common.{◌≡◌}
-use Rattle.serde_json.specs.View.{members_view}
-use Rattle.schemars_schema.specs.SchemaData.{put_members}
-use Rattle.schemars_schema.proofs.SortedMembers.{IsSorted}
+use Rattle.schemars_flatten.proofs.Words.{members_view, put_members, IsSorted}
 use Rattle.schemars_flatten.proofs.union.put_missing.Given as goal
 
 abbrev pub invariant-loop-name : goal.invariant-loop-name

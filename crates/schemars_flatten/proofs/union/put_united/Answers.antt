@@ -1,11 +1,6 @@
 -- A value joins the one under its key, or is the first there.
 use Rattle.std.proofs.Common.{◌≡◌, Some, None, option_map, string_bytes, sym, ap, ◌∙◌}
-use Rattle.std.proofs.lemmas.Result.{on_ok_weaker}
-use Rattle.serde_json.specs.Data.{put}
-use Rattle.serde_json.specs.Find.{get_member}
-use Rattle.serde_json.specs.View.{view, members_view}
-use Rattle.serde_json.proofs.Views.{view-lookup}
-use Rattle.schemars_flatten.specs.Flatten.{united, with_united}
+use Rattle.schemars_flatten.proofs.Words.{on_ok_weaker, put, get_member, view, members_view, view-lookup, united, with_united}
 use Rattle.schemars_flatten.proofs.Parts.{united_there, united_missing}
 use Rattle.schemars_flatten.proofs.union.put_united.Goals as goal
 

@@ -1,8 +1,6 @@
 -- What a map's `remove` says, in the words of members.
 use Rattle.std.proofs.Common.{ap, ◌∙◌, option_map}
-use Rattle.serde_json.specs.View.{view, members_view}
-use Rattle.serde_json.proofs.Views.{view-lookup}
-use Rattle.schemars_schema.proofs.MapEdits.{members_view-remove_entry}
+use Rattle.schemars_flatten.proofs.Words.{view, members_view, view-lookup, members_view-remove_entry}
 use Rattle.schemars_flatten.proofs.union.remove.Goals as goal
 
 pub returns-clause-value : goal.returns-clause-value

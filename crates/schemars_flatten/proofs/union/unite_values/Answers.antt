@@ -1,6 +1,6 @@
 -- Under a keyword that is neither joined nor merged the first stays.
 use Rattle.std.proofs.Common.{sym, ◌∙◌}
-use Rattle.serde_json.specs.View.{view}
+use Rattle.schemars_flatten.proofs.Words.{view}
 use Rattle.schemars_flatten.proofs.Parts.{united_other}
 use Rattle.schemars_flatten.proofs.union.unite_values.Goals as goal
 

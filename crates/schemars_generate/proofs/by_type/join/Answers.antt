@@ -1,6 +1,5 @@
 use Rattle.std.proofs.Common.{◌∙◌, ap, sym, subst, take}
-use Rattle.schemars_generate.proofs.Words.{IsChecked, err_told, IsTypeRefusal}
-use Rattle.schemars_types.proofs.Registered.{place_of-below}
+use Rattle.schemars_generate.proofs.Words.{IsChecked, err_told, IsTypeRefusal, place_of-below}
 use Rattle.schemars_generate.proofs.ByType.{begins, registered, type_refusal, check_refusal}
 use Rattle.schemars_generate.proofs.by_type.join.Goals as goal
 

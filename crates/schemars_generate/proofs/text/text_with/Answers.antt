@@ -1,14 +1,7 @@
 -- The transforms went through the document with an empty object where its definitions go, and these were put there.
 use Rattle.std.proofs.Common.{◌≡◌, sym, ap, ◌∙◌, subst, string_bytes}
-use Rattle.serde_json.specs.View.{view}
+use Rattle.schemars_generate.proofs.Words.{view, view-Object, Data, made_by, HasPlaceAt, each_made, with_defs_at, with_names, IfOk-weaker, Members, members_view, no_members, object, IsTextOf, key_for}
 use Rattle.serde_json.specs.declared.value.Value.{Object}
-use Rattle.serde_json.proofs.Views.{view-Object}
-use Rattle.serde_json.specs.Data.{Data}
-use Rattle.schemars_transform.specs.BuiltIn.{made_by}
-use Rattle.schemars_definitions.specs.Joined.{HasPlaceAt}
-use Rattle.schemars_definitions.specs.Whole.{each_made, with_defs_at, with_names}
-use Rattle.schemars_generate.proofs.Words.{IfOk-weaker, Members, members_view, no_members, object}
-use Rattle.schemars_generate.specs.RootText.{IsTextOf, key_for}
 use Rattle.schemars_generate.proofs.EarlyTexts.{place_put, own_has_place, own_whole}
 use Rattle.schemars_generate.proofs.text.text_with.Goals as goal
 

@@ -1,8 +1,5 @@
 use Rattle.std.proofs.Common.{◌≡◌, None, Some, is_some, refl, string_bytes, sym, ◌∙◌, ap, rules}
-use Rattle.schemars_shapes.specs.Shape.{Entry, entry_of}
-use Rattle.schemars_types.specs.Rows.{place_of, reserved}
-use Rattle.schemars_impls.specs.Describes.{entry_under}
-use Rattle.schemars_impls.specs.Dictionary.{RefusesType}
+use Rattle.schemars_impls.proofs.Words.{Entry, entry_of, place_of, reserved, entry_under, RefusesType}
 use Rattle.schemars_impls.proofs.Keeping.{keeps-refl, keeps-same, keeps-trans, reserved-then, place_of-kept, define-keeps, undefined-reserved, defined-there}
 use Rattle.schemars_impls.proofs.Following.{made-kept}
 use Rattle.schemars_impls.proofs.Registering.{part-refused, never-refused, registered-follows, registered-completes, nothing-under, never-under, present-completes, reserved-name}

@@ -1,9 +1,6 @@
 use Rattle.std.proofs.Common.{◌≡◌, ◌-◌, ◌<◌, length, ap, arith, rules}
-use Rattle.std.specs.Vec.{vec_len}
-use Rattle.serde_json.specs.View.{view, members_view}
-use Rattle.schemars_shapes.specs.Shape.{variant_of}
+use Rattle.schemars_impls.proofs.Words.{vec_len, view, members_view, variant_of, noted_variant}
 use Rattle.schemars_shapes.specs.declared.variant.Variant.{Variant}
-use Rattle.schemars_impls.specs.Notes.{noted_variant}
 use Rattle.schemars_impls.proofs.Noting.{last-changed, same-shown, if-ok, if-err, variants_noted}
 use Rattle.schemars_impls.proofs.notes.note_variant.Goals as goal
 

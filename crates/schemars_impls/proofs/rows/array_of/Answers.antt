@@ -1,10 +1,8 @@
 use Rattle.std.proofs.Common.{◌≡◌, Some, None, ◌∙◌, arith, rules}
-use Rattle.schemars_shapes.specs.Shape.{in_place, array_of}
+use Rattle.schemars_impls.proofs.Words.{in_place, array_of, array_id, array_name, HasArrayOf}
 use Rattle.schemars_types.specs.declared.error.TypesError.TheVariants.{OutOfMemory}
-use Rattle.schemars_types.specs.Names.{array_id, array_name}
 use Rattle.schemars_impls.proofs.Keeping.{keeps-same, keeps-trans, reserved_keeps}
 use Rattle.schemars_impls.proofs.OwnRows.{row-present, found_at, row-added, added-memory, array-known, row_of_keeps, placed_number, array_follows}
-use Rattle.schemars_impls.specs.OwnRows.{HasArrayOf}
 use Rattle.schemars_impls.proofs.rows.array_of.Goals as goal
 
 pub returns-clause-has : goal.returns-clause-has

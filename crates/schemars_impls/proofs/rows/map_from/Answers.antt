@@ -1,9 +1,6 @@
 use Rattle.std.proofs.Common.{◌≡◌, Some, None, sym, ap, ◌∙◌, subst, arith, rules}
-use Rattle.schemars_shapes.specs.Shape.{in_place, map_from}
+use Rattle.schemars_impls.proofs.Words.{in_place, map_from, map_id, map_name, Refuses, Registers, place_of, id_at, name_at, reserved}
 use Rattle.schemars_types.specs.declared.error.TypesError.TheVariants.{OutOfMemory}
-use Rattle.schemars_types.specs.Names.{map_id, map_name}
-use Rattle.schemars_types.specs.Refusals.{Refuses, Registers}
-use Rattle.schemars_types.specs.Rows.{place_of, id_at, name_at, reserved}
 use Rattle.schemars_impls.proofs.Keeping.{keeps-same, keeps-trans, reserved_keeps, place_of-kept, known-two}
 use Rattle.schemars_impls.proofs.Following.{id-there}
 use Rattle.schemars_impls.proofs.OwnRows.{row-made, row-present, made-memory, row_of_keeps}

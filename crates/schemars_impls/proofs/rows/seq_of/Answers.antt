@@ -1,7 +1,6 @@
 use Rattle.std.proofs.Common.{◌≡◌, Some, None, ◌∙◌, arith, rules}
-use Rattle.schemars_shapes.specs.Shape.{in_place, seq}
+use Rattle.schemars_impls.proofs.Words.{in_place, seq, seq_id, seq_name}
 use Rattle.schemars_types.specs.declared.error.TypesError.TheVariants.{OutOfMemory}
-use Rattle.schemars_types.specs.Names.{seq_id, seq_name}
 use Rattle.schemars_impls.proofs.Keeping.{keeps-same, keeps-trans, reserved_keeps}
 use Rattle.schemars_impls.proofs.OwnRows.{row-present, found_at, row-added, added-memory, known-alone, row_of_keeps, placed_number, seq_follows}
 use Rattle.schemars_impls.proofs.rows.seq_of.Goals as goal

@@ -1,7 +1,6 @@
 use Rattle.std.proofs.Common.{◌≡◌, Some, None, ◌∙◌, arith, rules}
-use Rattle.schemars_shapes.specs.Shape.{in_place, set}
+use Rattle.schemars_impls.proofs.Words.{in_place, set, set_id, set_name}
 use Rattle.schemars_types.specs.declared.error.TypesError.TheVariants.{OutOfMemory}
-use Rattle.schemars_types.specs.Names.{set_id, set_name}
 use Rattle.schemars_impls.proofs.Keeping.{keeps-same, keeps-trans, reserved_keeps}
 use Rattle.schemars_impls.proofs.OwnRows.{row-present, found_at, row-added, added-memory, known-alone, row_of_keeps, placed_number, set_follows}
 use Rattle.schemars_impls.proofs.rows.set_of.Goals as goal

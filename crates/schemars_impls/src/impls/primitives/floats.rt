@@ -1,8 +1,7 @@
 //! Floats.
 ghost use Rattle.std.specs.Prelude.{◌≡◌, codes, IfOk, true};
-ghost use Rattle.schemars_shapes.specs.Shape.{Shape as shape, in_place};
-ghost use Rattle.schemars_impls.specs.Dictionary.{alone};
-ghost use Rattle.schemars_impls.specs.Floats.{float_schema};
+ghost use Rattle.schemars_impls.specs.Words.{in_place, alone, float_schema};
+ghost use Rattle.schemars_shapes.specs.Shape.{Shape as shape};
 
 use crate::impls::literals::insert_text;
 use crate::law::{JsonSchema, entry};

@@ -1,9 +1,8 @@
 //! Integers, also those whose operations wrap around.
 ghost use Rattle.std.specs.Prelude.{true};
 ghost use Rattle.schemars_shapes.specs.declared.shape.IntKind.TheVariants.{I8, I16, I32, I64, I128, Isize, U8, U16, U32, U64, U128, Usize};
-ghost use Rattle.schemars_shapes.specs.IntKind.{format_of};
-ghost use Rattle.schemars_shapes.specs.Shape.{Shape as shape, in_place};
-ghost use Rattle.schemars_impls.specs.Dictionary.{alone};
+ghost use Rattle.schemars_impls.specs.Words.{format_of, in_place, alone};
+ghost use Rattle.schemars_shapes.specs.Shape.{Shape as shape};
 
 use crate::law::{JsonSchema, entry};
 use schemars_types::{IntKind, Shape, TypeEntry, Types, TypesError};

@@ -1,13 +1,6 @@
 //! Types of several parts, and how the parts are added to a table, one after another.
 ghost use Rattle.std.specs.Prelude.{◌≡◌, ◌++◌, [], ◌∷◌, Some, IfErr, IfOk, OnErr, OnOk, codes, string_bytes};
-ghost use Rattle.std.specs.List.{flat_map};
-ghost use Rattle.schemars_types.specs.Rows.{place_of};
-ghost use Rattle.schemars_impls.specs.Describes.{Adds, AreKnown};
-ghost use Rattle.schemars_impls.specs.Keeps.{Keeps};
-ghost use Rattle.schemars_impls.specs.Dictionary.{IsIn, KeepsTo, RefusesAs};
-ghost use Rattle.schemars_impls.specs.Fields.{NumbersAreKnown};
-ghost use Rattle.schemars_impls.specs.OwnRows.{RefusesNumbers};
-ghost use Rattle.schemars_impls.specs.Containers.{PartRows, and_parts, no_parts};
+ghost use Rattle.schemars_impls.specs.Words.{flat_map, place_of, Adds, AreKnown, Keeps, IsIn, KeepsTo, RefusesAs, NumbersAreKnown, RefusesNumbers, PartRows, and_parts, no_parts};
 
 use crate::law::{JsonSchema, register};
 use schemars_types::{TypeNo, Types, TypesError};

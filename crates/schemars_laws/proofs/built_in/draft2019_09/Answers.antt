@@ -1,5 +1,5 @@
 use Rattle.std.proofs.Common.{codes, refl}
-use Rattle.schemars_text.proofs.Members.{differ}
+use Rattle.schemars_laws.proofs.Words.{differ}
 use Rattle.schemars_laws.proofs.Drafts.{draft2019_09-law}
 use Rattle.schemars_laws.proofs.built_in.draft2019_09.Goals as goal
 

@@ -1,10 +1,6 @@
 -- The validator of the row's document decides, or it is undecided why.
 use Rattle.std.proofs.Common.{sym, subst}
-use Rattle.std.specs.Prelude.{codes}
-use Rattle.std.proofs.lemmas.Result.{err_from_is_err_and}
-use Rattle.serde_json.specs.View.{view}
-use Rattle.schemars_schema.specs.Acceptance.{draft2020_12}
-use Rattle.schemars_headline.specs.Headline.{Headline, MeansItsType}
+use Rattle.schemars_membership.proofs.Words.{codes, err_from_is_err_and, view, draft2020_12, Headline, MeansItsType}
 use Rattle.schemars_membership.proofs.Deciding.{is_member}
 use Rattle.schemars_membership.proofs.membership.belongs.Goals as goal
 

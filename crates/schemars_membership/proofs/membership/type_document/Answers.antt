@@ -1,8 +1,6 @@
 -- The headline of the generator that was made, and why there is none.
 use Rattle.std.proofs.Common.{rules, inl, Err, ap}
-use Rattle.std.proofs.lemmas.Result.{err_from_is_err_and}
-use Rattle.schemars_headline.specs.Drafts.{Draft2020_12}
-use Rattle.schemars_generate.specs.Generator.{state}
+use Rattle.schemars_membership.proofs.Words.{err_from_is_err_and, Draft2020_12, state}
 use Rattle.schemars_membership.proofs.Deciding.{headline_over, row_refused}
 use Rattle.schemars_membership.proofs.membership.type_document.Goals as goal
 

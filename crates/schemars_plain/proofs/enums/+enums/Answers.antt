@@ -1,5 +1,5 @@
 use Rattle.std.proofs.Common.{◌≡◌, ◌∙◌, ◌++◌, ◌-◌, suc, sym, ap, arith}
-use Rattle.std.proofs.lemmas.Result.{on_ok_weaker}
+use Rattle.schemars_plain.proofs.Words.{on_ok_weaker}
 use Rattle.schemars_plain.proofs.EnumsWithin.{no_steps, no_row, some_row}
 use Rattle.schemars_plain.proofs.enums.+enums.Goals as goal
 

@@ -1,7 +1,6 @@
 -- The rows below are asked one step less deep.
 use Rattle.std.proofs.Common.{◌≡◌, ◌+◌, ◌*◌, ◌++◌, map, drop}
-use Rattle.schemars_shapes.specs.Shape.{flattened_of}
-use Rattle.schemars_types.specs.Effective.{flattened_enums, enums_within, without_options}
+use Rattle.schemars_plain.proofs.Words.{flattened_of, flattened_enums, enums_within, without_options}
 use Rattle.schemars_plain.proofs.enums.+enums.Given as goal
 
 abbrev pub decreases-add_enums : goal.decreases-add_enums

@@ -1,8 +1,6 @@
 -- The names so far, and those of the variants that are left.
 use Rattle.std.proofs.Common.{◌≡◌, ◌++◌, drop, map}
-use Rattle.schemars_shapes.specs.Shape.{internal_variant_of}
-use Rattle.schemars_types.specs.Effective.{flattened_in, part_enums, expanded_variant}
-use Rattle.schemars_documents.specs.PlainTable.{all_payload_names}
+use Rattle.schemars_plain.proofs.Words.{internal_variant_of, flattened_in, part_enums, expanded_variant, all_payload_names}
 use Rattle.schemars_plain.proofs.enums.add_variant_fields.Given as goal
 
 abbrev pub invariant-loop-variant : goal.invariant-loop-variant

@@ -1,8 +1,5 @@
 use Rattle.std.proofs.Common.{◌∙◌, ◌++◌, ap, map, sym, subst}
-use Rattle.std.specs.Prelude.{option_map}
-use Rattle.schemars_shapes.specs.Shape.{field_of, fields_of, flattened_of}
-use Rattle.schemars_types.specs.Effective.{effective, flattened_in, flattened_enums, part_enums}
-use Rattle.schemars_documents.specs.PlainTable.{enum_names_at, tag_names, AreApart}
+use Rattle.schemars_plain.proofs.Words.{option_map, field_of, fields_of, flattened_of, effective, flattened_in, flattened_enums, part_enums, enum_names_at, tag_names, AreApart}
 use Rattle.schemars_plain.proofs.Said.{apart_said}
 use Rattle.schemars_plain.proofs.Named.{enums_said}
 use Rattle.schemars_plain.proofs.enums.fields_apart.Goals as goal

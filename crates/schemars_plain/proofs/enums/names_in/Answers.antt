@@ -1,6 +1,5 @@
 use Rattle.std.proofs.Common.{◌∙◌, map}
-use Rattle.std.proofs.lemmas.Result.{IfOk-weaker}
-use Rattle.schemars_shapes.specs.Shape.{variant_of}
+use Rattle.schemars_plain.proofs.Words.{IfOk-weaker, variant_of}
 use Rattle.schemars_plain.proofs.Named.{variants_said}
 use Rattle.schemars_plain.proofs.enums.names_in.Goals as goal
 

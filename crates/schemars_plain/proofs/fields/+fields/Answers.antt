@@ -1,8 +1,5 @@
 use Rattle.std.proofs.Common.{◌≡◌, ◌∙◌, ◌++◌, ◌-◌, suc, sym, ap, map, arith}
-use Rattle.std.proofs.lemmas.Result.{on_ok_weaker}
-use Rattle.schemars_shapes.specs.Shape.{field_of}
-use Rattle.schemars_types.specs.Effective.{fields_within}
-use Rattle.schemars_plain.specs.Said.{as_said}
+use Rattle.schemars_plain.proofs.Words.{on_ok_weaker, field_of, fields_within, as_said}
 use Rattle.schemars_plain.proofs.Said.{no_steps, no_row, some_row, part_step}
 use Rattle.schemars_plain.proofs.fields.+fields.Goals as goal
 

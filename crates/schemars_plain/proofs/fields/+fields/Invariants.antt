@@ -1,8 +1,6 @@
 -- The rows below are asked one step less deep.
 use Rattle.std.proofs.Common.{◌≡◌, ◌+◌, ◌*◌, ◌++◌, map, drop}
-use Rattle.schemars_shapes.specs.Shape.{field_of, fields_of, flattened_of}
-use Rattle.schemars_types.specs.Effective.{fields_within, effective, flattened_fields, part_fields}
-use Rattle.schemars_plain.specs.Said.{as_said}
+use Rattle.schemars_plain.proofs.Words.{field_of, fields_of, flattened_of, fields_within, effective, flattened_fields, part_fields, as_said}
 use Rattle.schemars_plain.proofs.fields.+fields.Given as goal
 
 abbrev pub decreases-add_fields : goal.decreases-add_fields

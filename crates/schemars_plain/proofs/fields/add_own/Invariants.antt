@@ -1,7 +1,6 @@
 -- The fields so far, and those that are left.
 use Rattle.std.proofs.Common.{◌≡◌, ◌++◌, map, drop}
-use Rattle.schemars_shapes.specs.Shape.{field_of, fields_of}
-use Rattle.schemars_plain.specs.Said.{as_said}
+use Rattle.schemars_plain.proofs.Words.{field_of, fields_of, as_said}
 use Rattle.schemars_plain.proofs.fields.add_own.Given as goal
 
 abbrev pub invariant-loop-field : goal.invariant-loop-field

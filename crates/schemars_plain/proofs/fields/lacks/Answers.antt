@@ -1,5 +1,5 @@
 use Rattle.std.proofs.Common.{arith}
-use Rattle.std.proofs.lemmas.Grind.{common_steps}
+use Rattle.schemars_plain.proofs.Words.{common_steps}
 use Rattle.schemars_plain.proofs.Said.{no_name_said}
 use Rattle.schemars_plain.proofs.fields.lacks.Goals as goal
 

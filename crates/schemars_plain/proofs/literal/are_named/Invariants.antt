@@ -1,9 +1,6 @@
 -- The names that are left decide.
 use Rattle.std.proofs.Common.{◌≡◌, drop}
-use Rattle.std.specs.Prelude.{is_some}
-use Rattle.serde_json.specs.Data.{array}
-use Rattle.serde_json.specs.View.{items_view}
-use Rattle.schemars_schema.specs.Acceptance.{types_in}
+use Rattle.schemars_plain.proofs.Words.{is_some, array, items_view, types_in}
 use Rattle.schemars_plain.proofs.literal.are_named.Given as goal
 
 abbrev pub invariant-loop-name : goal.invariant-loop-name

@@ -1,8 +1,6 @@
 -- The names that are left decide.
 use Rattle.std.proofs.Common.{◌≡◌, drop}
-use Rattle.serde_json.specs.Data.{array}
-use Rattle.serde_json.specs.View.{items_view}
-use Rattle.schemars_schema.specs.Literal.{is_null_type}
+use Rattle.schemars_plain.proofs.Words.{array, items_view, is_null_type}
 use Rattle.schemars_plain.proofs.literal.are_null_types.Given as goal
 
 abbrev pub invariant-loop-name : goal.invariant-loop-name

@@ -1,6 +1,6 @@
 -- A map has each key once.
 use Rattle.std.proofs.Common.{sym}
-use Rattle.schemars_schema.proofs.SortedMembers.{get_member-above}
+use Rattle.schemars_plain.proofs.Words.{get_member-above}
 use Rattle.schemars_plain.proofs.Literals.{sorted_view}
 use Rattle.schemars_plain.proofs.literal.are_plain_members.Goals as goal
 

@@ -1,8 +1,5 @@
 -- The members that are left decide, and stand in order.
-use Rattle.std.specs.Prelude.{◌↔◌}
-use Rattle.serde_json.specs.View.{members_view}
-use Rattle.schemars_schema.specs.Literal.{ArePlainMembers}
-use Rattle.schemars_schema.proofs.SortedMembers.{IsSorted}
+use Rattle.schemars_plain.proofs.Words.{◌↔◌, members_view, ArePlainMembers, IsSorted}
 use Rattle.schemars_plain.proofs.literal.are_plain_members.Given as goal
 
 abbrev pub invariant-loop-key : goal.invariant-loop-key

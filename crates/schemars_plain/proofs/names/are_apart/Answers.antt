@@ -1,6 +1,6 @@
 -- A list is asked for itself, and for those after it.
 use Rattle.std.proofs.Common.{map, refl}
-use Rattle.schemars_shapes.specs.Shape.{field_of}
+use Rattle.schemars_plain.proofs.Words.{field_of}
 use Rattle.schemars_plain.proofs.Named.{next_apart}
 use Rattle.schemars_plain.proofs.names.are_apart.Goals as goal
 

@@ -1,8 +1,6 @@
 -- The lists that are left decide.
 use Rattle.std.proofs.Common.{drop, map}
-use Rattle.std.specs.Prelude.{◌↔◌}
-use Rattle.schemars_shapes.specs.Shape.{field_of}
-use Rattle.schemars_documents.specs.PlainTable.{AreApart}
+use Rattle.schemars_plain.proofs.Words.{◌↔◌, field_of, AreApart}
 use Rattle.schemars_plain.proofs.names.are_apart.Given as goal
 
 abbrev pub invariant-loop-n : goal.invariant-loop-n

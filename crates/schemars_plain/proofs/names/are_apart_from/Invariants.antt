@@ -1,7 +1,6 @@
 -- The lists that are left decide.
 use Rattle.std.proofs.Common.{drop, map}
-use Rattle.std.specs.Prelude.{◌↔◌}
-use Rattle.schemars_documents.specs.PlainTable.{AreApartFrom}
+use Rattle.schemars_plain.proofs.Words.{◌↔◌, AreApartFrom}
 use Rattle.schemars_plain.proofs.names.are_apart_from.Given as goal
 
 abbrev pub invariant-loop-list : goal.invariant-loop-list

@@ -1,8 +1,6 @@
 -- The names that are left decide.
 use Rattle.std.proofs.Common.{drop, map}
-use Rattle.std.specs.Prelude.{◌↔◌}
-use Rattle.schemars_shapes.specs.Shape.{field_of}
-use Rattle.schemars_documents.specs.PlainTable.{AreNoNames}
+use Rattle.schemars_plain.proofs.Words.{◌↔◌, field_of, AreNoNames}
 use Rattle.schemars_plain.proofs.names.are_no_names.Given as goal
 
 abbrev pub invariant-loop-name : goal.invariant-loop-name

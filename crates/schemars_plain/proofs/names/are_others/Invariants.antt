@@ -1,7 +1,6 @@
 -- The names that are left decide.
 use Rattle.std.proofs.Common.{drop, map}
-use Rattle.std.specs.Prelude.{◌↔◌}
-use Rattle.schemars_documents.specs.PlainTable.{AreOthers}
+use Rattle.schemars_plain.proofs.Words.{◌↔◌, AreOthers}
 use Rattle.schemars_plain.proofs.names.are_others.Given as goal
 
 abbrev pub invariant-loop-other : goal.invariant-loop-other

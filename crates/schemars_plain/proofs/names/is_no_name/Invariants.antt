@@ -1,8 +1,6 @@
 -- The fields that are left decide.
 use Rattle.std.proofs.Common.{drop, map}
-use Rattle.std.specs.Prelude.{◌↔◌}
-use Rattle.schemars_shapes.specs.Shape.{field_of}
-use Rattle.schemars_documents.specs.PlainTable.{IsNoName}
+use Rattle.schemars_plain.proofs.Words.{◌↔◌, field_of, IsNoName}
 use Rattle.schemars_plain.proofs.names.is_no_name.Given as goal
 
 abbrev pub invariant-loop-field : goal.invariant-loop-field

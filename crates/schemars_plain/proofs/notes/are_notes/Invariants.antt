@@ -1,7 +1,5 @@
 -- The members that are left decide.
-use Rattle.std.specs.Prelude.{◌↔◌}
-use Rattle.serde_json.specs.View.{members_view}
-use Rattle.schemars_schema.specs.Annotations.{AreNotes}
+use Rattle.schemars_plain.proofs.Words.{◌↔◌, members_view, AreNotes}
 use Rattle.schemars_plain.proofs.notes.are_notes.Given as goal
 
 abbrev pub invariant-loop-key : goal.invariant-loop-key

@@ -1,8 +1,6 @@
 -- The rows that are left decide.
 use Rattle.std.proofs.Common.{drop, map}
-use Rattle.std.specs.Prelude.{◌↔◌}
-use Rattle.schemars_shapes.specs.Shape.{flattened_of}
-use Rattle.schemars_documents.specs.PlainTable.{ArePlainParts}
+use Rattle.schemars_plain.proofs.Words.{◌↔◌, flattened_of, ArePlainParts}
 use Rattle.schemars_plain.proofs.parts.are_plain_parts.Given as goal
 
 abbrev pub invariant-loop-part : goal.invariant-loop-part

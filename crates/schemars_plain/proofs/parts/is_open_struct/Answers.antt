@@ -1,5 +1,5 @@
 use Rattle.std.proofs.Common.{ap}
-use Rattle.schemars_shapes.specs.Shape.{fields_of, shape_of, entry_of}
+use Rattle.schemars_plain.proofs.Words.{fields_of, shape_of, entry_of}
 use Rattle.schemars_plain.proofs.Flattened.{open_struct}
 use Rattle.schemars_plain.proofs.parts.is_open_struct.Goals as goal
 

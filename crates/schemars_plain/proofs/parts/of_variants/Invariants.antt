@@ -1,7 +1,6 @@
 -- The variants that are left decide.
 use Rattle.std.proofs.Common.{drop, map}
-use Rattle.std.specs.Prelude.{◌↔◌}
-use Rattle.schemars_documents.specs.PlainTable.{variant_parts, ArePlainParts}
+use Rattle.schemars_plain.proofs.Words.{◌↔◌, variant_parts, ArePlainParts}
 use Rattle.schemars_plain.proofs.parts.of_variants.Given as goal
 
 abbrev pub invariant-loop-variant : goal.invariant-loop-variant

@@ -1,5 +1,5 @@
 use Rattle.std.proofs.Common.{refl, map}
-use Rattle.std.proofs.lemmas.Result.{IfOk-weaker}
+use Rattle.schemars_plain.proofs.Words.{IfOk-weaker}
 use Rattle.schemars_plain.proofs.Named.{distinct_spread}
 use Rattle.schemars_plain.proofs.table.are_named_and_plain.Goals as goal
 

@@ -1,7 +1,6 @@
 -- The rows before are plain.
 use Rattle.std.proofs.Common.{ℕ, ◌<◌}
-use Rattle.schemars_types.specs.Rows.{entry_at}
-use Rattle.schemars_documents.specs.PlainTable.{IsPlainEntry}
+use Rattle.schemars_plain.proofs.Words.{entry_at, IsPlainEntry}
 use Rattle.schemars_plain.proofs.table.is_plain.Given as goal
 
 abbrev pub invariant-loop-n : goal.invariant-loop-n

@@ -1,7 +1,6 @@
 -- The variants that are left decide.
 use Rattle.std.proofs.Common.{drop, map}
-use Rattle.std.specs.Prelude.{◌↔◌}
-use Rattle.schemars_documents.specs.PlainTable.{HasBareUnits}
+use Rattle.schemars_plain.proofs.Words.{◌↔◌, HasBareUnits}
 use Rattle.schemars_plain.proofs.under.has_bare_units.Given as goal
 
 abbrev pub invariant-loop-variant : goal.invariant-loop-variant

@@ -1,7 +1,6 @@
 -- The rows before are plain under the contract.
 use Rattle.std.proofs.Common.{ℕ, ◌<◌}
-use Rattle.schemars_types.specs.Rows.{entry_at}
-use Rattle.schemars_documents.specs.PlainTable.{IsEntryUnder}
+use Rattle.schemars_plain.proofs.Words.{entry_at, IsEntryUnder}
 use Rattle.schemars_plain.proofs.under.is_plain_under.Given as goal
 
 abbrev pub invariant-loop-n : goal.invariant-loop-n

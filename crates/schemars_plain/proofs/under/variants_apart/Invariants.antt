@@ -1,8 +1,6 @@
 -- The variants that are left decide.
 use Rattle.std.proofs.Common.{drop, map}
-use Rattle.std.specs.Prelude.{◌↔◌, option_map}
-use Rattle.schemars_types.specs.Effective.{flattened_in, part_enums, expanded_variant}
-use Rattle.schemars_documents.specs.PlainTable.{enum_names_at, tag_names, VariantsHaveNamesApart}
+use Rattle.schemars_plain.proofs.Words.{◌↔◌, option_map, flattened_in, part_enums, expanded_variant, enum_names_at, tag_names, VariantsHaveNamesApart}
 use Rattle.schemars_plain.proofs.under.variants_apart.Given as goal
 
 abbrev pub invariant-loop-variant : goal.invariant-loop-variant

@@ -1,5 +1,5 @@
 use Rattle.std.proofs.Common.{arith}
-use Rattle.std.proofs.lemmas.Grind.{common_steps}
+use Rattle.schemars_plain.proofs.Words.{common_steps}
 use Rattle.schemars_plain.proofs.Flattened.{all_append, all_first, all_rest}
 use Rattle.schemars_plain.proofs.under.variants_under.Goals as goal
 

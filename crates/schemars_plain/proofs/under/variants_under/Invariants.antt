@@ -1,7 +1,6 @@
 -- The variants that are left decide.
 use Rattle.std.proofs.Common.{drop, map}
-use Rattle.std.specs.Prelude.{◌↔◌}
-use Rattle.schemars_documents.specs.PlainTable.{variant_parts, ArePartsUnder}
+use Rattle.schemars_plain.proofs.Words.{◌↔◌, variant_parts, ArePartsUnder}
 use Rattle.schemars_plain.proofs.under.variants_under.Given as goal
 
 abbrev pub invariant-loop-variant : goal.invariant-loop-variant

@@ -1,7 +1,6 @@
 -- The variants that are left decide.
 use Rattle.std.proofs.Common.{drop, map}
-use Rattle.std.specs.Prelude.{◌↔◌}
-use Rattle.schemars_documents.specs.PlainTable.{AreDistinctVariants}
+use Rattle.schemars_plain.proofs.Words.{◌↔◌, AreDistinctVariants}
 use Rattle.schemars_plain.proofs.variants.are_distinct_variants.Given as goal
 
 abbrev pub invariant-loop-n : goal.invariant-loop-n

@@ -1,8 +1,6 @@
 -- The variants that are left decide.
 use Rattle.std.proofs.Common.{drop, map}
-use Rattle.std.specs.Prelude.{◌↔◌}
-use Rattle.schemars_types.specs.Effective.{flattened_in, part_enums, expanded_variant}
-use Rattle.schemars_documents.specs.PlainTable.{ArePlainVariants}
+use Rattle.schemars_plain.proofs.Words.{◌↔◌, flattened_in, part_enums, expanded_variant, ArePlainVariants}
 use Rattle.schemars_plain.proofs.variants.are_plain_variants.Given as goal
 
 abbrev pub invariant-loop-variant : goal.invariant-loop-variant

@@ -1,7 +1,6 @@
 -- The variants that are left decide.
 use Rattle.std.proofs.Common.{drop, map}
-use Rattle.std.specs.Prelude.{◌↔◌}
-use Rattle.schemars_documents.specs.PlainTable.{IsNoVariant}
+use Rattle.schemars_plain.proofs.Words.{◌↔◌, IsNoVariant}
 use Rattle.schemars_plain.proofs.variants.is_no_variant.Given as goal
 
 abbrev pub invariant-loop-variant : goal.invariant-loop-variant

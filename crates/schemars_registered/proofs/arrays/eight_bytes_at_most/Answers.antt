@@ -1,6 +1,5 @@
 use Rattle.std.proofs.Common.{refl}
-use Rattle.schemars_impls.specs.Dictionary.{alone}
-use Rattle.std.specs.Fmt.{digits}
+use Rattle.schemars_registered.proofs.Words.{alone, digits}
 use Rattle.schemars_registered.proofs.Containers.{one_holds}
 use Rattle.schemars_registered.proofs.arrays.eight_bytes_at_most.Goals as goal
 

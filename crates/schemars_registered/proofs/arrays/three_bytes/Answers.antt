@@ -1,6 +1,5 @@
 use Rattle.std.proofs.Common.{refl}
-use Rattle.schemars_impls.specs.Dictionary.{alone}
-use Rattle.std.specs.Fmt.{digits}
+use Rattle.schemars_registered.proofs.Words.{alone, digits}
 use Rattle.schemars_registered.proofs.Containers.{array_holds}
 use Rattle.schemars_registered.proofs.arrays.three_bytes.Goals as goal
 

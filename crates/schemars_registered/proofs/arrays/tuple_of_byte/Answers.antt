@@ -1,5 +1,5 @@
 use Rattle.std.proofs.Common.{refl}
-use Rattle.schemars_impls.specs.Dictionary.{alone}
+use Rattle.schemars_registered.proofs.Words.{alone}
 use Rattle.schemars_registered.proofs.Containers.{single_holds}
 use Rattle.schemars_registered.proofs.arrays.tuple_of_byte.Goals as goal
 

@@ -1,5 +1,5 @@
 use Rattle.std.proofs.Common.{refl}
-use Rattle.schemars_impls.specs.Dictionary.{alone}
+use Rattle.schemars_registered.proofs.Words.{alone}
 use Rattle.schemars_registered.proofs.Containers.{pair_holds}
 use Rattle.schemars_registered.proofs.arrays.tuple_of_byte_and_truth.Goals as goal
 

@@ -1,5 +1,5 @@
 use Rattle.std.proofs.Common.{refl}
-use Rattle.schemars_impls.specs.Dictionary.{alone}
+use Rattle.schemars_registered.proofs.Words.{alone}
 use Rattle.schemars_registered.proofs.Containers.{pair_twice_holds}
 use Rattle.schemars_registered.proofs.arrays.tuple_of_bytes.Goals as goal
 

@@ -1,5 +1,5 @@
 use Rattle.std.proofs.Common.{refl}
-use Rattle.schemars_impls.specs.Dictionary.{alone}
+use Rattle.schemars_registered.proofs.Words.{alone}
 use Rattle.schemars_registered.proofs.Containers.{one_holds}
 use Rattle.schemars_registered.proofs.choices.closed_range_of_bytes.Goals as goal
 

@@ -1,6 +1,5 @@
 use Rattle.std.proofs.Common.{refl}
-use Rattle.schemars_impls.specs.Dictionary.{alone}
-use Rattle.schemars_impls.specs.Containers.{map_row}
+use Rattle.schemars_registered.proofs.Words.{alone, map_row}
 use Rattle.schemars_registered.proofs.Containers.{two_holds}
 use Rattle.schemars_registered.proofs.maps.tree_map_from_bytes.Goals as goal
 

@@ -1,6 +1,5 @@
 use Rattle.std.proofs.Common.{refl}
-use Rattle.schemars_impls.specs.Dictionary.{alone}
-use Rattle.schemars_impls.specs.Containers.{seq_row}
+use Rattle.schemars_registered.proofs.Words.{alone, seq_row}
 use Rattle.schemars_registered.proofs.Containers.{one_holds}
 use Rattle.schemars_registered.proofs.sequences.deque_of_bytes.Goals as goal
 

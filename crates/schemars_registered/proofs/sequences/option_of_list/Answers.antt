@@ -1,6 +1,5 @@
 use Rattle.std.proofs.Common.{refl}
-use Rattle.schemars_impls.specs.Dictionary.{alone, of_one}
-use Rattle.schemars_impls.specs.Containers.{option_row, seq_row}
+use Rattle.schemars_registered.proofs.Words.{alone, of_one, option_row, seq_row}
 use Rattle.schemars_registered.proofs.Containers.{chain_holds}
 use Rattle.schemars_registered.proofs.sequences.option_of_list.Goals as goal
 

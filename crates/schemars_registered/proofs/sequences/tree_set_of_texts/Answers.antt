@@ -1,6 +1,5 @@
 use Rattle.std.proofs.Common.{refl}
-use Rattle.schemars_impls.specs.Dictionary.{alone}
-use Rattle.schemars_impls.specs.Containers.{set_row}
+use Rattle.schemars_registered.proofs.Words.{alone, set_row}
 use Rattle.schemars_registered.proofs.Containers.{one_holds}
 use Rattle.schemars_registered.proofs.sequences.tree_set_of_texts.Goals as goal
 

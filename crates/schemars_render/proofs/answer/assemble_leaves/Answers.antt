@@ -1,7 +1,5 @@
 use Rattle.std.proofs.Common.{map, refl, ap, ◌∙◌}
-use Rattle.schemars_documents.proofs.Items.{no_more}
-use Rattle.schemars_render.specs.Answer.{leaf_view}
-use Rattle.schemars_render.specs.Assembled.{assembled_view}
+use Rattle.schemars_render.proofs.Words.{no_more, leaf_view, assembled_view}
 use Rattle.schemars_render.proofs.answer.assemble_leaves.Goals as goal
 
 pub returns : goal.returns

@@ -1,7 +1,6 @@
 -- The parts so far, and the leaves that are left.
 use Rattle.std.proofs.Common.{◌≡◌, ◌++◌, map, drop}
-use Rattle.schemars_render.specs.Answer.{leaf_view}
-use Rattle.schemars_render.specs.Assembled.{assembled_view}
+use Rattle.schemars_render.proofs.Words.{leaf_view, assembled_view}
 use Rattle.schemars_render.proofs.answer.assemble_leaves.Given as goal
 
 abbrev pub invariant-loop-leaf : goal.invariant-loop-leaf

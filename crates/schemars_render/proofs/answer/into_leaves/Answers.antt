@@ -1,6 +1,5 @@
 use Rattle.std.proofs.Common.{◌≡◌, ◌++◌, length, map, sym, ap, ◌∙◌, append-nil, rules}
-use Rattle.std.proofs.lemmas.List.{nil_from_length}
-use Rattle.schemars_render.specs.Answer.{leaf_view}
+use Rattle.schemars_render.proofs.Words.{nil_from_length, leaf_view}
 use Rattle.schemars_render.proofs.answer.into_leaves.Goals as goal
 
 pub returns : goal.returns

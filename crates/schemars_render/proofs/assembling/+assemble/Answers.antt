@@ -1,10 +1,6 @@
 use Rattle.std.proofs.Common.{map, refl, ap, ◌∙◌}
-use Rattle.schemars_schema.specs.SchemaData.{object_of}
-use Rattle.schemars_documents.proofs.Items.{no_more}
+use Rattle.schemars_render.proofs.Words.{object_of, no_more, IfOk-weaker, keyword_view, property_view, assembled_view, named_view}
 use Rattle.schemars_render.proofs.FilledMembers.{filled_keywords}
-use Rattle.std.proofs.lemmas.Result.{IfOk-weaker}
-use Rattle.schemars_documents.specs.View.{keyword_view, property_view}
-use Rattle.schemars_render.specs.Assembled.{assembled_view, named_view}
 use Rattle.schemars_render.proofs.assembling.+assemble.Goals as goal
 
 pub assemble_object-returns-clause-value : goal.assemble_object-returns-clause-value

@@ -1,9 +1,6 @@
 -- What is filled and what the rest becomes is what the whole becomes.
 use Rattle.std.proofs.Common.{◌≡◌, ◌++◌, map, drop}
-use Rattle.schemars_documents.specs.Template.{filled_in, left_in}
-use Rattle.schemars_documents.specs.OfShape.{templates_of}
-use Rattle.schemars_documents.specs.View.{template_view, keyword_view, property_view}
-use Rattle.schemars_render.specs.Assembled.{assembled_view, named_view}
+use Rattle.schemars_render.proofs.Words.{filled_in, left_in, templates_of, template_view, keyword_view, property_view, assembled_view, named_view}
 use Rattle.schemars_render.proofs.FilledMembers.{GoesOn}
 use Rattle.schemars_render.proofs.assembling.+assemble.Given as goal
 

@@ -1,9 +1,5 @@
 use Rattle.std.proofs.Common.{◌≤◌, length, map, refl, ap, subst, ◌∙◌}
-use Rattle.std.proofs.lemmas.Result.{IfOk-weaker}
-use Rattle.schemars_schema.specs.SchemaData.{object_of}
-use Rattle.schemars_documents.specs.View.{scalar_keyword}
-use Rattle.schemars_documents.proofs.Items.{no_more}
-use Rattle.schemars_render.specs.Assembled.{named_view}
+use Rattle.schemars_render.proofs.Words.{IfOk-weaker, object_of, scalar_keyword, no_more, named_view}
 use Rattle.schemars_render.proofs.assembling.assemble_keywords.Goals as goal
 
 pub returns : goal.returns

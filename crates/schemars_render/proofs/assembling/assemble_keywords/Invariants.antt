@@ -1,7 +1,6 @@
 -- The members so far, and then the keywords that are left, are all.
 use Rattle.std.proofs.Common.{◌≡◌, ◌++◌, map, drop}
-use Rattle.schemars_documents.specs.View.{scalar_keyword}
-use Rattle.schemars_render.specs.Assembled.{named_view}
+use Rattle.schemars_render.proofs.Words.{scalar_keyword, named_view}
 use Rattle.schemars_render.proofs.assembling.assemble_keywords.Given as goal
 
 abbrev pub invariant-loop-keyword : goal.invariant-loop-keyword

@@ -1,7 +1,6 @@
 -- The texts so far, and those that are left.
 use Rattle.std.proofs.Common.{◌≡◌, ◌++◌, map, drop}
-use Rattle.serde_json.specs.Data.{string}
-use Rattle.schemars_render.specs.Assembled.{assembled_view}
+use Rattle.schemars_render.proofs.Words.{string, assembled_view}
 use Rattle.schemars_render.proofs.assembling.assemble_texts.Given as goal
 
 abbrev pub invariant-loop-text : goal.invariant-loop-text

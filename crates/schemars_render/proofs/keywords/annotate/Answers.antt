@@ -1,9 +1,5 @@
 use Rattle.std.proofs.Common.{◌∙◌, ap}
-use Rattle.serde_json.specs.Data.{object}
-use Rattle.serde_json.specs.View.{members_view}
-use Rattle.schemars_schema.specs.SchemaData.{put_members}
-use Rattle.schemars_documents.proofs.Annotating.{annotated-some}
-use Rattle.schemars_render.specs.Assembled.{assembled_view}
+use Rattle.schemars_render.proofs.Words.{object, members_view, put_members, annotated-some, assembled_view}
 use Rattle.schemars_render.proofs.keywords.annotate.Goals as goal
 
 pub returns : goal.returns

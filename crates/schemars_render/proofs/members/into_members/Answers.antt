@@ -1,8 +1,6 @@
 use Rattle.std.proofs.Common.{sym, ap, ◌∙◌}
-use Rattle.std.proofs.lemmas.Result.{IfOk-weaker}
-use Rattle.serde_json.specs.Data.{object}
-use Rattle.schemars_render.specs.Assembled.{assembled_view, members_assembled}
-use Rattle.schemars_render.proofs.Parts.{seen_object}
+use Rattle.schemars_render.proofs.Words.{IfOk-weaker, object, assembled_view, members_assembled}
+use Rattle.schemars_render.proofs.PartViews.{seen_object}
 use Rattle.schemars_render.proofs.members.into_members.Goals as goal
 
 pub returns-in-Object : goal.returns-in-Object

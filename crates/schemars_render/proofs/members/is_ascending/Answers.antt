@@ -1,6 +1,5 @@
 use Rattle.std.proofs.Common.{◌+◌, ◌-◌, drop, subst, sym, ◌∙◌, arith}
-use Rattle.schemars_schema.proofs.SortedMembers.{IsSorted}
-use Rattle.schemars_render.specs.Assembled.{members_assembled}
+use Rattle.schemars_render.proofs.Words.{IsSorted, members_assembled}
 use Rattle.schemars_render.proofs.Lists.{sorted_from, sorted_last}
 use Rattle.schemars_render.proofs.members.is_ascending.Goals as goal
 

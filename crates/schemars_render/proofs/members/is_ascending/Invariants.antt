@@ -1,7 +1,6 @@
 -- Where the members from the last one on are sorted, all are.
 use Rattle.std.proofs.Common.{◌-◌, drop}
-use Rattle.schemars_schema.proofs.SortedMembers.{IsSorted}
-use Rattle.schemars_render.specs.Assembled.{members_assembled}
+use Rattle.schemars_render.proofs.Words.{IsSorted, members_assembled}
 use Rattle.schemars_render.proofs.members.is_ascending.Given as goal
 
 abbrev pub invariant-loop-next : goal.invariant-loop-next

@@ -1,7 +1,6 @@
 -- The parts so far, and then the values that are left, are all.
 use Rattle.std.proofs.Common.{◌≡◌, ◌++◌, map, drop}
-use Rattle.serde_json.specs.View.{view}
-use Rattle.schemars_render.specs.Assembled.{assembled_view}
+use Rattle.schemars_render.proofs.Words.{view, assembled_view}
 use Rattle.schemars_render.proofs.members.items_of.Given as goal
 
 abbrev pub invariant-loop-value : goal.invariant-loop-value

@@ -1,9 +1,7 @@
 use Rattle.std.proofs.Common.{ap, ◌∙◌, rules}
-use Rattle.serde_json.specs.Data.{object}
-use Rattle.schemars_schema.proofs.SortedMembers.{IsSorted}
-use Rattle.schemars_render.specs.Assembled.{members_assembled}
+use Rattle.schemars_render.proofs.Words.{object, IsSorted, members_assembled}
 use Rattle.schemars_render.proofs.Lists.{sorted_members}
-use Rattle.schemars_render.proofs.Parts.{seen_object}
+use Rattle.schemars_render.proofs.PartViews.{seen_object}
 use Rattle.schemars_render.proofs.members.object_of.Goals as goal
 
 pub returns-then-sort_by_name : goal.returns-then-sort_by_name

@@ -1,5 +1,5 @@
 use Rattle.std.proofs.Common.{◌≡◌, List, nat_cmp, Greater, get_or, sym, ap, ◌∙◌, arith}
-use Rattle.std.specs.Cmp.Lexicographic.{slice_cmp}
+use Rattle.schemars_render.proofs.Words.{slice_cmp}
 use Rattle.schemars_render.proofs.Entries.{Entry}
 use Rattle.schemars_render.proofs.Searched.{found_at, belongs_before, belongs_last, found_further, belongs_further}
 use Rattle.schemars_render.proofs.members.search.Goals as goal

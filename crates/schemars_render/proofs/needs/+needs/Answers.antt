@@ -1,20 +1,9 @@
 -- An object needs what its keywords need.
-use Rattle.std.proofs.Common.{◌≡◌, ◌+◌, List, [], ◌∷◌, drop, length, suc, refl, sym, ap, ◌∙◌, arith}
-use Rattle.std.proofs.lemmas.List.{drop_all}
-use Rattle.std.specs.Prelude.{◌==◌}
-use Rattle.serde_json.specs.Data.{members_depth}
-use Rattle.serde_json.specs.Events.{members_len}
-use Rattle.schemars_transform.specs.Needs.{needed, needed_by_names, needed_by_keywords}
-use Rattle.schemars_transform.proofs.Asking.{keyword_done, nothing_left, name_done, no_names_left}
-use Rattle.schemars_render.specs.Assembled.{assembled_view, members_assembled}
-use Rattle.schemars_render.proofs.Entries.{Entry}
-use Rattle.schemars_render.proofs.Lists.{next_member}
-use Rattle.schemars_render.proofs.Parts.{seen_object}
+use Rattle.std.proofs.Common.{◌≡◌, ◌+◌, ◌∷◌, drop, length, sym, ap, ◌∙◌, arith}
+use Rattle.schemars_render.proofs.Words.{drop_all, ◌==◌, members_depth, needed, needed_by_names, needed_by_keywords, keyword_done, nothing_left, name_done, no_names_left, assembled_view, members_assembled}
+use Rattle.schemars_render.proofs.Lists.{counted, next_member}
+use Rattle.schemars_render.proofs.PartViews.{seen_object}
 use Rattle.schemars_render.proofs.needs.+needs.Goals as goal
-
-counted : (es : List Entry) → members_len (members_assembled es) ≡ length es
-counted [] = refl
-counted (e ∷ es) = ap suc (counted es)
 
 pub add_schema-returns-in-Object : goal.add_schema-returns-in-Object
 unfolding needed

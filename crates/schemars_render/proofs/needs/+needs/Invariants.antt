@@ -1,8 +1,6 @@
 -- What is needed by what is left, and by what was before it, is what the whole needs.
 use Rattle.std.proofs.Common.{◌≡◌, ◌+◌, ◌*◌, ◌≤◌, drop}
-use Rattle.serde_json.specs.Data.{depth, items_depth, members_depth}
-use Rattle.schemars_transform.specs.Needs.{needed_by_items, needed_by_names, needed_by_keywords}
-use Rattle.schemars_render.specs.Assembled.{assembled_view, items_assembled, members_assembled}
+use Rattle.schemars_render.proofs.Words.{depth, items_depth, members_depth, needed_by_items, needed_by_names, needed_by_keywords, assembled_view, items_assembled, members_assembled}
 use Rattle.schemars_render.proofs.needs.+needs.Given as goal
 
 abbrev pub decreases-add_schema : goal.decreases-add_schema

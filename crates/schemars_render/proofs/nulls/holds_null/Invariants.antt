@@ -1,6 +1,5 @@
 use Rattle.std.proofs.Common.{◌≡◌, drop}
-use Rattle.schemars_builders.specs.AllowNull.{holds_null}
-use Rattle.schemars_render.specs.Assembled.{items_assembled}
+use Rattle.schemars_render.proofs.Words.{holds_null, items_assembled}
 use Rattle.schemars_render.proofs.nulls.holds_null.Given as goal
 
 abbrev pub invariant-loop-value : goal.invariant-loop-value

@@ -1,6 +1,5 @@
 use Rattle.std.proofs.Common.{◌≡◌, drop}
-use Rattle.schemars_schema.specs.Edits.{holds_text}
-use Rattle.schemars_render.specs.Assembled.{items_assembled}
+use Rattle.schemars_render.proofs.Words.{holds_text, items_assembled}
 use Rattle.schemars_render.proofs.nulls.holds_text.Given as goal
 
 abbrev pub invariant-loop-part : goal.invariant-loop-part

@@ -1,10 +1,8 @@
 -- Null goes behind the others.
 use Rattle.std.proofs.Common.{◌≡◌, false, ap, ◌∙◌, codes, rules}
-use Rattle.serde_json.specs.Data.{string, array}
-use Rattle.schemars_schema.specs.Edits.{holds_text, with_item}
-use Rattle.schemars_render.specs.Assembled.{items_assembled}
+use Rattle.schemars_render.proofs.Words.{string, array, holds_text, with_item, items_assembled}
 use Rattle.schemars_render.proofs.Items.{pushed}
-use Rattle.schemars_render.proofs.Parts.{seen_list, seen_text}
+use Rattle.schemars_render.proofs.PartViews.{seen_list, seen_text}
 use Rattle.schemars_render.proofs.nulls.names_with_null.Goals as goal
 
 pub returns : goal.returns

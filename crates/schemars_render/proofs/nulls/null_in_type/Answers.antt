@@ -1,8 +1,6 @@
 -- What is there is taken out, and goes in again with null.
 use Rattle.std.proofs.Common.{codes, ap, ◌∙◌}
-use Rattle.std.proofs.lemmas.Result.{on_ok_weaker}
-use Rattle.schemars_builders.specs.AllowNull.{null_in_type, type_with_null}
-use Rattle.schemars_render.specs.Assembled.{assembled_view}
+use Rattle.schemars_render.proofs.Words.{on_ok_weaker, null_in_type, type_with_null, assembled_view}
 use Rattle.schemars_render.proofs.Changed.{retaken, without-missing}
 use Rattle.schemars_render.proofs.nulls.null_in_type.Goals as goal
 

@@ -1,8 +1,6 @@
 -- Without a `const`, the `enum` decides.
 use Rattle.std.proofs.Common.{◌≡◌, codes, ap, ◌∙◌}
-use Rattle.std.proofs.lemmas.Result.{on_ok_weaker}
-use Rattle.serde_json.specs.Find.{get_member}
-use Rattle.schemars_builders.specs.AllowNull.{null_in_enum, null_in_const}
+use Rattle.schemars_render.proofs.Words.{on_ok_weaker, get_member, null_in_enum, null_in_const}
 use Rattle.schemars_render.proofs.Changed.{without-missing}
 use Rattle.schemars_render.proofs.nulls.null_in_values.Goals as goal
 

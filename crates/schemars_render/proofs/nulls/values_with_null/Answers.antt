@@ -1,11 +1,8 @@
 -- Null goes behind the others.
 use Rattle.std.proofs.Common.{◌≡◌, false, ap, ◌∙◌, rules}
-use Rattle.serde_json.specs.Data.{null, array}
-use Rattle.schemars_schema.specs.Edits.{with_item}
-use Rattle.schemars_builders.specs.AllowNull.{holds_null}
-use Rattle.schemars_render.specs.Assembled.{items_assembled}
+use Rattle.schemars_render.proofs.Words.{null, array, with_item, holds_null, items_assembled}
 use Rattle.schemars_render.proofs.Items.{pushed}
-use Rattle.schemars_render.proofs.Parts.{seen_list, seen_null}
+use Rattle.schemars_render.proofs.PartViews.{seen_list, seen_null}
 use Rattle.schemars_render.proofs.nulls.values_with_null.Goals as goal
 
 pub returns : goal.returns

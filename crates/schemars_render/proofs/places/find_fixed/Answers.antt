@@ -1,11 +1,6 @@
 -- One member more.
 use Rattle.std.proofs.Common.{◌++◌, ◌+◌, ◌∷◌, drop, ap, sym, subst, ◌∙◌, is_some, Some, ◌≡◌, false, arith}
-use Rattle.std.proofs.lemmas.List.{drop_all}
-use Rattle.serde_json.specs.Data.{member}
-use Rattle.schemars_text.specs.OrderedText.{first_keywords, last_keywords, is_listed}
-use Rattle.schemars_text.specs.Places.{place_in}
-use Rattle.schemars_text.proofs.FixedMembers.{Fills, filled, passed_over, all_found, keywords_apart, is_some-place_in}
-use Rattle.schemars_render.specs.Assembled.{assembled_view, members_assembled}
+use Rattle.schemars_render.proofs.Words.{drop_all, member, first_keywords, last_keywords, is_listed, place_in, Fills, filled, passed_over, all_found, keywords_apart, is_some-place_in, assembled_view, members_assembled}
 use Rattle.schemars_render.proofs.Lists.{next_member}
 use Rattle.schemars_render.proofs.places.find_fixed.Goals as goal
 use Rattle.schemars_render.proofs.places.find_fixed.Goals.{in-Some, in_default}

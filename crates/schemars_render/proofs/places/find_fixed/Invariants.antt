@@ -1,8 +1,6 @@
 -- What all members have under each keyword was found, or is in the members that are left.
 use Rattle.std.proofs.Common.{◌++◌, drop}
-use Rattle.schemars_text.specs.OrderedText.{first_keywords, last_keywords}
-use Rattle.schemars_text.proofs.FixedMembers.{Fills}
-use Rattle.schemars_render.specs.Assembled.{assembled_view, members_assembled}
+use Rattle.schemars_render.proofs.Words.{first_keywords, last_keywords, Fills, assembled_view, members_assembled}
 use Rattle.schemars_render.proofs.places.find_fixed.Given as goal
 
 abbrev pub invariant-loop-key : goal.invariant-loop-key

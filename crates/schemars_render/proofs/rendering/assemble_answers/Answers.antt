@@ -1,6 +1,5 @@
 use Rattle.std.proofs.Common.{map, refl}
-use Rattle.schemars_documents.proofs.Items.{no_more}
-use Rattle.schemars_render.specs.Assembled.{assembled_view}
+use Rattle.schemars_render.proofs.Words.{no_more, assembled_view}
 use Rattle.schemars_render.proofs.rendering.assemble_answers.Goals as goal
 
 pub returns : goal.returns

@@ -1,9 +1,6 @@
 -- The properties are taken out, and go in again with one more.
 use Rattle.std.proofs.Common.{◌≡◌, codes, ap, ◌∙◌}
-use Rattle.std.proofs.lemmas.Result.{on_ok_weaker}
-use Rattle.serde_json.specs.Data.{object, no_members, put}
-use Rattle.schemars_schema.specs.Edits.{with_member}
-use Rattle.schemars_render.specs.Assembled.{assembled_view}
+use Rattle.schemars_render.proofs.Words.{on_ok_weaker, object, no_members, put, with_member, assembled_view}
 use Rattle.schemars_render.proofs.Changed.{changed_again}
 use Rattle.schemars_render.proofs.tagging.put_property.Goals as goal
 

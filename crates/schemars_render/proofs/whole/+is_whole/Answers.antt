@@ -1,11 +1,8 @@
 -- Where the keys ascend, the members decide.
 use Rattle.std.proofs.Common.{rules, subst, sym, ap, ◌∙◌, arith}
-use Rattle.std.proofs.lemmas.List.{drop_all}
-use Rattle.schemars_schema.specs.Json.{IsWholeJson}
-use Rattle.schemars_render.proofs.Parts.{seen_reference}
+use Rattle.schemars_render.proofs.Words.{drop_all, IsWholeJson, IsSorted, assembled_view, members_assembled}
+use Rattle.schemars_render.proofs.PartViews.{seen_reference}
 use Rattle.schemars_render.proofs.Wholes.{AreWholeEntries, whole_reference, whole_members}
-use Rattle.schemars_schema.proofs.SortedMembers.{IsSorted}
-use Rattle.schemars_render.specs.Assembled.{assembled_view, members_assembled}
 use Rattle.schemars_render.proofs.whole.+is_whole.Goals as goal
 
 pub is_whole-returns-in-Reference : goal.is_whole-returns-in-Reference

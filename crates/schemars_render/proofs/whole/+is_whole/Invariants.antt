@@ -1,7 +1,6 @@
 -- Where what is left is JSON, so is the whole.
 use Rattle.std.proofs.Common.{drop}
-use Rattle.schemars_schema.specs.Json.{AreWholeJson}
-use Rattle.schemars_render.specs.Assembled.{items_assembled}
+use Rattle.schemars_render.proofs.Words.{AreWholeJson, items_assembled}
 use Rattle.schemars_render.proofs.Wholes.{AreWholeEntries}
 use Rattle.schemars_render.proofs.whole.+is_whole.Given as goal
 

@@ -1,13 +1,7 @@
 -- A list or an object is its parts between brackets.
 use Rattle.std.proofs.Common.{◌≡◌, ◌≤◌, length, take, drop, map, sym, ap, ◌∙◌, rules}
-use Rattle.std.proofs.lemmas.List.{length-map}
-use Rattle.std.proofs.lemmas.Result.{on_ok_weaker}
-use Rattle.serde_json.specs.Data.{depth, members_depth}
-use Rattle.schemars_text.specs.OrderedText.{SchemaLayout, first_keywords, last_keywords, member_texts, others, each_written_at}
-use Rattle.schemars_text.proofs.FixedMembers.{held, found_depth, first_found, all_shallow, slot_shallow, slot_at}
-use Rattle.schemars_text.proofs.OrderedTexts.{array_written, object_written, with_groups, keyword_found, keyword_missing}
-use Rattle.schemars_render.specs.Assembled.{assembled_view, members_assembled}
-use Rattle.schemars_render.proofs.Parts.{seen_list, seen_object}
+use Rattle.schemars_render.proofs.Words.{length-map, on_ok_weaker, depth, members_depth, SchemaLayout, first_keywords, last_keywords, member_texts, others, each_written_at, held, found_depth, first_found, all_shallow, slot_shallow, slot_at, array_written, object_written, with_groups, keyword_found, keyword_missing, assembled_view, members_assembled}
+use Rattle.schemars_render.proofs.PartViews.{seen_list, seen_object}
 use Rattle.schemars_render.proofs.Written.{last_found}
 use Rattle.schemars_render.proofs.writing.+write.Goals as goal
 use Rattle.schemars_render.proofs.writing.+write.Goals.{write_found-in-Some+in_ok-write_member, write_found-in_default}

@@ -1,12 +1,6 @@
 -- What is left, after the output so far, leads to what the whole leads to after the output at the start.
 use Rattle.std.proofs.Common.{◌≡◌, ◌≤◌, ◌+◌, ◌*◌, drop, map, false}
-use Rattle.serde_json.specs.Data.{Members, depth, items_depth, members_depth}
-use Rattle.serde_json.specs.Find.{get_member}
-use Rattle.serde_json.specs.Written.{items_have_float, members_have_float}
-use Rattle.schemars_text.specs.Output.{with_values, layout_meant}
-use Rattle.schemars_text.specs.OrderedText.{SchemaLayout, item_texts, member_texts, texts, others, each_written_at}
-use Rattle.schemars_text.proofs.FixedMembers.{held, found_depth}
-use Rattle.schemars_render.specs.Assembled.{assembled_view, items_assembled, members_assembled}
+use Rattle.schemars_render.proofs.Words.{Members, depth, items_depth, members_depth, get_member, items_have_float, members_have_float, with_values, layout_meant, SchemaLayout, item_texts, member_texts, texts, others, each_written_at, held, found_depth, assembled_view, items_assembled, members_assembled}
 use Rattle.schemars_render.proofs.writing.+write.Given as goal
 
 abbrev pub decreases-write_part : goal.decreases-write_part

@@ -1,15 +1,9 @@
 -- Each step of a loop takes one example more; what is left of them stays to be written.
 use Rattle.std.proofs.Common.{◌≡◌, ◌∷◌, ◌++◌, ◌+◌, ◌∙◌, [], Some, map, option_map, drop, ap, sym, append-nil, rules}
-use Rattle.std.proofs.lemmas.List.{at_drop_more, at_drop_all, map-append}
-use Rattle.std.specs.Prelude.{string_bytes, option_and_then}
-use Rattle.serde_json.specs.Data.{object, put}
-use Rattle.serde_json.specs.View.{view, members_view}
-use Rattle.schemars_sample.specs.Example.{example_of, examples_view, entries_view, struct, collected_map, struct_variant}
-use Rattle.schemars_sample.specs.SampleJson.{sample_json, items_json, entries_json, json_array}
+use Rattle.schemars_sample.proofs.Words.{at_drop_more, at_drop_all, map-append, string_bytes, option_and_then, object, put, view, members_view, example_of, examples_view, entries_view, struct, collected_map, struct_variant, sample_json, items_json, entries_json, json_array, view-Object}
 use Rattle.schemars_sample.proofs.Parts.{seen_array, one_part}
 use Rattle.schemars_sample.proofs.Views.{example_of-Map, example_of-CollectMap, example_of-Struct, example_of-StructVariant}
 use Rattle.schemars_sample.proofs.json.+json.Goals as goal
-use Rattle.serde_json.proofs.Views.{view-Object}
 
 pub json_of-returns-in-Map : goal.json_of-returns-in-Map
 json_of-returns-in-Map t c =

@@ -1,9 +1,6 @@
 -- What is left is still to be added.
 use Rattle.std.proofs.Common.{◌≡◌, ◌++◌, option_map, map, drop}
-use Rattle.serde_json.specs.Data.{no_members}
-use Rattle.serde_json.specs.View.{view, members_view}
-use Rattle.schemars_sample.specs.Example.{examples_view, entries_view}
-use Rattle.schemars_sample.specs.SampleJson.{items_json, entries_json}
+use Rattle.schemars_sample.proofs.Words.{no_members, view, members_view, examples_view, entries_view, items_json, entries_json}
 use Rattle.schemars_sample.proofs.json.+json.Given as goal
 
 abbrev pub invariant-array_of-loop-item : goal.invariant-array_of-loop-item

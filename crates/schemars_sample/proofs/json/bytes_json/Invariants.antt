@@ -1,8 +1,6 @@
 -- What is left is still to be added.
 use Rattle.std.proofs.Common.{◌≡◌, ◌++◌, map, drop}
-use Rattle.serde_json.specs.Data.{number, unsigned}
-use Rattle.serde_json.specs.View.{view}
-use Rattle.schemars_sample.specs.SampleJson.{are_bytes}
+use Rattle.schemars_sample.proofs.Words.{number, unsigned, view, are_bytes}
 use Rattle.schemars_sample.proofs.json.bytes_json.Given as goal
 
 abbrev pub invariant-loop-byte : goal.invariant-loop-byte

@@ -1,11 +1,6 @@
 -- Each step of a loop takes one example more; what is left of them stays to be seen.
 use Rattle.std.proofs.Common.{◌≡◌, ◌∷◌, ◌++◌, ◌+◌, ◌∙◌, [], map, drop, ap, sym, append_assoc, option_map, subst, IfOk, rules}
-use Rattle.std.proofs.lemmas.List.{at_drop_more, at_drop_all, map-append}
-use Rattle.std.specs.Prelude.{string_bytes}
-use Rattle.serde_json.specs.Data.{put}
-use Rattle.serde_json.specs.View.{view, members_view}
-use Rattle.schemars_sample.specs.Example.{example_of, examples_view, entries_view, struct, collected_map}
-use Rattle.schemars_sample.specs.SampleSchema.{sample_schema, item_schemas, entry_schemas, value_schemas, one_beside}
+use Rattle.schemars_sample.proofs.Words.{at_drop_more, at_drop_all, map-append, string_bytes, put, view, members_view, example_of, examples_view, entries_view, struct, collected_map, sample_schema, item_schemas, entry_schemas, value_schemas, one_beside}
 use Rattle.schemars_sample.proofs.Seen.{seen_true, once_more, all_at_once, with_seen, one_shared, none_shared, kept_alone}
 use Rattle.schemars_sample.proofs.Views.{example_of-Map, example_of-CollectMap, example_of-Struct}
 use Rattle.schemars_sample.proofs.schema.+schemas.Goals as goal

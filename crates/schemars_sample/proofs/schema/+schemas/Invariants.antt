@@ -1,9 +1,6 @@
 -- What is left is still to be added, or to be compared.
 use Rattle.std.proofs.Common.{◌≡◌, ◌++◌, [], option_map, map, drop}
-use Rattle.serde_json.specs.Data.{no_members}
-use Rattle.serde_json.specs.View.{view, members_view}
-use Rattle.schemars_sample.specs.Example.{examples_view, entries_view}
-use Rattle.schemars_sample.specs.SampleSchema.{item_schemas, entry_schemas, value_schemas, one_beside, shared_by}
+use Rattle.schemars_sample.proofs.Words.{no_members, view, members_view, examples_view, entries_view, item_schemas, entry_schemas, value_schemas, one_beside, shared_by}
 use Rattle.schemars_sample.proofs.Seen.{with_seen}
 use Rattle.schemars_sample.proofs.schema.+schemas.Given as goal
 

@@ -1,7 +1,6 @@
 -- Those that are left decide.
 use Rattle.std.proofs.Common.{◌≡◌, drop}
-use Rattle.serde_json.specs.View.{view, items_view}
-use Rattle.schemars_sample.specs.SampleSchema.{is_seen}
+use Rattle.schemars_sample.proofs.Words.{view, items_view, is_seen}
 use Rattle.schemars_sample.proofs.schema.is_seen.Given as goal
 
 abbrev pub invariant-loop-other : goal.invariant-loop-other

@@ -1,7 +1,6 @@
 use Rattle.std.proofs.Common.{rules, subst, sym}
 use Rattle.serde_json.specs.declared.value.Value.{the_lemmas}
-use Rattle.schemars_sample.specs.Accepted.{AcceptsExample}
-use Rattle.schemars_sample.specs.Example.{example_of}
+use Rattle.schemars_sample.proofs.Words.{AcceptsExample, example_of}
 use Rattle.schemars_sample.proofs.Accepting.{root_accepts}
 use Rattle.schemars_sample.proofs.schema.root_document.Goals as goal
 

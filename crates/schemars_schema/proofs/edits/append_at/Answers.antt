@@ -1,12 +1,7 @@
 -- A value among those of a list, or the only one.
 use Rattle.std.proofs.Common.{◌≡◌, Some, None, option_map, ap, ◌∙◌}
-use Rattle.std.proofs.lemmas.Result.{on_ok_weaker}
-use Rattle.serde_json.specs.Data.{array, no_items, item, put}
-use Rattle.serde_json.specs.Find.{get_member}
-use Rattle.serde_json.specs.View.{view, items_view, members_view}
+use Rattle.schemars_schema.proofs.Words.{on_ok_weaker, array, no_items, item, put, get_member, view, items_view, members_view, view-lookup, view-Array, with_last}
 use Rattle.serde_json.specs.declared.value.Value.TheVariants.{Array}
-use Rattle.serde_json.proofs.Views.{view-lookup, view-Array}
-use Rattle.schemars_schema.specs.Edits.{with_last}
 use Rattle.schemars_schema.proofs.Changes.{changed_there, changed_missing}
 use Rattle.schemars_schema.proofs.edits.append_at.Goals as goal
 

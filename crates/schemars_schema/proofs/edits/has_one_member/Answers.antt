@@ -1,6 +1,5 @@
 use Rattle.std.proofs.Common.{option_map, sym, ap, ◌∙◌, rules}
-use Rattle.serde_json.specs.View.{members_view}
-use Rattle.serde_json.proofs.Views.{members_len-members_view}
+use Rattle.schemars_schema.proofs.Words.{members_view, members_len-members_view}
 use Rattle.schemars_schema.proofs.Containers.{object-as_object}
 use Rattle.schemars_schema.proofs.edits.has_one_member.Goals as goal
 

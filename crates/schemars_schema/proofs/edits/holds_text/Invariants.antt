@@ -1,6 +1,5 @@
 use Rattle.std.proofs.Common.{◌≡◌, drop}
-use Rattle.serde_json.specs.View.{items_view}
-use Rattle.schemars_schema.specs.Edits.{holds_text}
+use Rattle.schemars_schema.proofs.Words.{items_view, holds_text}
 use Rattle.schemars_schema.proofs.edits.holds_text.Given as goal
 
 abbrev pub invariant-loop-value : goal.invariant-loop-value

@@ -1,10 +1,6 @@
 -- A list's items with one more.
 use Rattle.std.proofs.Common.{◌≡◌, ◌++◌, [], ◌∷◌, ap, sym, ◌∙◌}
-use Rattle.std.proofs.lemmas.Result.{on_ok_weaker}
-use Rattle.serde_json.specs.Data.{array}
-use Rattle.serde_json.specs.View.{view, items_view}
-use Rattle.serde_json.proofs.Views.{view-Array}
-use Rattle.schemars_schema.specs.Edits.{with_last}
+use Rattle.schemars_schema.proofs.Words.{on_ok_weaker, array, view, items_view, view-Array, with_last}
 use Rattle.schemars_schema.proofs.Containers.{array-as_array}
 use Rattle.schemars_schema.proofs.Lists.{items_view-push}
 use Rattle.schemars_schema.proofs.edits.push_to.Goals as goal

@@ -1,7 +1,6 @@
 -- Whether a map has a key, in the words of members.
 use Rattle.std.proofs.Common.{◌≡◌, true, false, is_some, sym, ◌∙◌}
-use Rattle.serde_json.specs.Find.{get_member}
-use Rattle.serde_json.specs.View.{members_view}
+use Rattle.schemars_schema.proofs.Words.{get_member, members_view}
 use Rattle.schemars_schema.proofs.Changes.{is_there}
 use Rattle.schemars_schema.proofs.edits.put_missing.Goals as goal
 

@@ -1,6 +1,6 @@
 -- The laws of a token, at the name itself and at the token that is made.
 use Rattle.std.proofs.Common.{sym, ap, ◌∙◌}
-use Rattle.schemars_schema.specs.Encoding.{encoded}
+use Rattle.schemars_schema.proofs.Words.{encoded}
 use Rattle.schemars_schema.proofs.Encodings.{all_stay, some_change, token_decodes, token_leads, token_is_one}
 use Rattle.schemars_schema.proofs.encoding.encode_ref_name.Goals as goal
 

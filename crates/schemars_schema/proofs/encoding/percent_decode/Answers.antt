@@ -1,7 +1,6 @@
 -- A text without an escape is its own decoding, and no other is.
 use Rattle.std.proofs.Common.{sym, ap, ◌∙◌, true≢false}
-use Rattle.std.proofs.lemmas.Str.{IsUtf8-string_bytes}
-use Rattle.schemars_schema.specs.Encoding.{percent_decoded_bytes}
+use Rattle.schemars_schema.proofs.Words.{IsUtf8-string_bytes, percent_decoded_bytes}
 use Rattle.schemars_schema.proofs.Encodings.{percent_decoded-plain, percent_decoded-changed, decoded_text, decoded_none}
 use Rattle.schemars_schema.proofs.encoding.percent_decode.Goals as goal
 

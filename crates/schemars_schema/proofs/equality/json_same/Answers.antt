@@ -1,7 +1,6 @@
 -- Sameness of JSON values is identity, and a float is the same as nothing.
 use Rattle.std.proofs.Common.{sym, ap, ◌∙◌}
-use Rattle.serde_json.specs.View.{view}
-use Rattle.schemars_schema.specs.Json.{json_same}
+use Rattle.schemars_schema.proofs.Words.{view, json_same}
 use Rattle.schemars_schema.proofs.Equalities.{json_same-is, json_same-refl, json_same-float, json_same-float_right}
 use Rattle.schemars_schema.proofs.equality.json_same.Goals as goal
 

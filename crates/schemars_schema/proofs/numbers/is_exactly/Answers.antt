@@ -1,7 +1,6 @@
 -- The float's whole part tells.
 use Rattle.std.proofs.Common.{arith, ◌∙◌, ap, nat_eq}
-use Rattle.std.specs.Float.Ieee.{eq}
-use Rattle.std.proofs.lemmas.Float.{T_from_true}
+use Rattle.schemars_schema.proofs.Words.{eq, T_from_true}
 use Rattle.schemars_schema.proofs.Compared.{middle_is, top_is, small, below_middle, from_top, middle, above_minus_one}
 use Rattle.schemars_schema.proofs.numbers.is_exactly.Goals as goal
 

@@ -1,5 +1,5 @@
 use Rattle.std.proofs.Common.{rules, ◌∙◌}
-use Rattle.serde_json.specs.View.{number_view}
+use Rattle.schemars_schema.proofs.Words.{number_view}
 use Rattle.schemars_schema.proofs.Compared.{float_side}
 use Rattle.schemars_schema.proofs.numbers.numbers_eq.Goals as goal
 

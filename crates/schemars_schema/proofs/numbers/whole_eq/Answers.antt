@@ -1,5 +1,5 @@
 use Rattle.std.proofs.Common.{rules}
-use Rattle.serde_json.specs.View.{number_view}
+use Rattle.schemars_schema.proofs.Words.{number_view}
 use Rattle.schemars_schema.proofs.Compared.{whole_equal}
 use Rattle.schemars_schema.proofs.numbers.whole_eq.Goals as goal
 

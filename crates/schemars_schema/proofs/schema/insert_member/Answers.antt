@@ -1,7 +1,6 @@
 -- What a map's `insert` says, in the words of members.
 use Rattle.std.proofs.Common.{ap, ◌∙◌, option_map, string_bytes}
-use Rattle.serde_json.specs.View.{view, members_view}
-use Rattle.serde_json.proofs.Views.{members_view-insert_entry, view-lookup}
+use Rattle.schemars_schema.proofs.Words.{view, members_view, members_view-insert_entry, view-lookup}
 use Rattle.schemars_schema.proofs.schema.insert_member.Goals as goal
 
 pub returns-clause-ok : goal.returns-clause-ok

@@ -1,7 +1,6 @@
 -- What a map's `get_mut` says, in the words of members.
 use Rattle.std.proofs.Common.{refl, ap, ◌∙◌, option_map}
-use Rattle.serde_json.specs.View.{view, members_view}
-use Rattle.serde_json.proofs.Views.{view-lookup, view_of_mut}
+use Rattle.schemars_schema.proofs.Words.{view, members_view, view-lookup, view_of_mut}
 use Rattle.schemars_schema.proofs.MapEdits.{members_view-set_value}
 use Rattle.schemars_schema.proofs.schema.member_mut.Goals as goal
 

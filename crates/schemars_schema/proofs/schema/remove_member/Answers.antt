@@ -1,7 +1,6 @@
 -- What a map's `remove` says, in the words of members.
 use Rattle.std.proofs.Common.{ap, ◌∙◌, option_map}
-use Rattle.serde_json.specs.View.{view, members_view}
-use Rattle.serde_json.proofs.Views.{view-lookup}
+use Rattle.schemars_schema.proofs.Words.{view, members_view, view-lookup}
 use Rattle.schemars_schema.proofs.MapEdits.{members_view-remove_entry}
 use Rattle.schemars_schema.proofs.schema.remove_member.Goals as goal
 

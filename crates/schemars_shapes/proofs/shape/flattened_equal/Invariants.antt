@@ -1,9 +1,6 @@
 -- How far two lists of flattened rows have been compared.
 use Rattle.std.proofs.Common.{◌≡◌, drop, map}
-use Rattle.std.specs.Slice.Iter.{iter_rest}
-use Rattle.std.specs.Cmp.Lexicographic.{pointwise}
-use Rattle.schemars_shapes.specs.Shape.{flattened_of}
-use Rattle.schemars_shapes.specs.Equality.{flattened_eq}
+use Rattle.schemars_shapes.proofs.Words.{iter_rest, pointwise, flattened_of, flattened_eq}
 use Rattle.schemars_shapes.proofs.shape.flattened_equal.Given as goal
 
 abbrev pub invariant-loop-flattened : goal.invariant-loop-flattened

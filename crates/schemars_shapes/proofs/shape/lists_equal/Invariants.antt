@@ -1,8 +1,6 @@
 -- How far two lists of fields have been compared.
 use Rattle.std.proofs.Common.{◌≡◌, drop, map}
-use Rattle.std.specs.Slice.Iter.{iter_rest}
-use Rattle.schemars_shapes.specs.Shape.{field_of}
-use Rattle.schemars_shapes.specs.Equality.{list_eq}
+use Rattle.schemars_shapes.proofs.Words.{iter_rest, field_of, list_eq}
 use Rattle.schemars_shapes.proofs.shape.lists_equal.Given as goal
 
 abbrev pub invariant-loop-field : goal.invariant-loop-field

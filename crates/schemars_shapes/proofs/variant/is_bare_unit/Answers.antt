@@ -1,7 +1,5 @@
 use Rattle.std.proofs.Common.{ap, ◌∙◌, sym, string_bytes}
-use Rattle.serde_json.specs.View.{members_view}
-use Rattle.schemars_shapes.specs.Shape.{payload_of}
-use Rattle.schemars_shapes.specs.Units.{is_bare_unit}
+use Rattle.schemars_shapes.proofs.Words.{members_view, payload_of, is_bare_unit}
 use Rattle.schemars_shapes.proofs.Units.{none_view}
 use Rattle.schemars_shapes.proofs.variant.is_bare_unit.Goals as goal
 

@@ -1,8 +1,6 @@
 -- How far two lists of variants have been compared.
 use Rattle.std.proofs.Common.{◌≡◌, drop, map}
-use Rattle.std.specs.Slice.Iter.{iter_rest}
-use Rattle.schemars_shapes.specs.Shape.{variant_of}
-use Rattle.schemars_shapes.specs.Equality.{variants_eq}
+use Rattle.schemars_shapes.proofs.Words.{iter_rest, variant_of, variants_eq}
 use Rattle.schemars_shapes.proofs.variant.variants_equal.Given as goal
 
 abbrev pub invariant-loop-variant : goal.invariant-loop-variant

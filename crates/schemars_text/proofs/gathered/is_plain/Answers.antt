@@ -1,8 +1,6 @@
 -- A byte that is no control byte and has no letter stands for itself.
 use Rattle.std.proofs.Common.{◌≡◌, ◌≤◌, ℕ, zero, suc, eqb, ◌∷◌, [], arith}
-use Rattle.std.specs.Bool.{OnTrue}
-use Rattle.std.proofs.lemmas.Bool.{le-ltb, ne_eqb}
-use Rattle.json.specs.Print.{escape_byte, escape_letter}
+use Rattle.schemars_text.proofs.Words.{OnTrue, le-ltb, ne_eqb, escape_byte, escape_letter}
 use Rattle.schemars_text.proofs.gathered.is_plain.Goals as goal
 
 no_letter : (x letter : ℕ) → letter ≡ escape_letter x → 32 ≤ x → OnTrue (eqb letter 0) (escape_byte x ≡ x ∷ [])

@@ -1,7 +1,6 @@
 -- One byte more.
 use Rattle.std.proofs.Common.{◌≡◌, ◌<◌, ◌+◌, ℕ, List, ◌∷◌, [], ◌++◌, length, get_or, take, sym, ◌∙◌, ap₂, arith}
-use Rattle.std.proofs.lemmas.List.{take_more, flat_map_more}
-use Rattle.json.specs.Print.{escape, escape_byte}
+use Rattle.schemars_text.proofs.Words.{take_more, flat_map_more, escape, escape_byte}
 use Rattle.schemars_text.proofs.gathered.plain_len.Goals as goal
 
 plain_more : (text : List ℕ) (i : ℕ) → i < length text → escape (take i text) ≡ take i text

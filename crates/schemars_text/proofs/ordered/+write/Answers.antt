@@ -1,11 +1,6 @@
 -- A list or an object is its parts between brackets.
 use Rattle.std.proofs.Common.{◌≡◌, ◌≤◌, length, take, map, refl, sym, ap, ◌∙◌, arith, rules}
-use Rattle.std.proofs.lemmas.List.{length-map}
-use Rattle.serde_json.specs.Data.{depth, members_depth}
-use Rattle.serde_json.specs.View.{view, members_view}
-use Rattle.serde_json.proofs.Views.{view-Array}
-use Rattle.schemars_text.specs.OrderedText.{SchemaLayout, first_keywords, last_keywords, member_texts, others, each_written_at}
-use Rattle.schemars_text.specs.Output.{layout_meant}
+use Rattle.schemars_text.proofs.Words.{length-map, depth, members_depth, view, members_view, view-Array, SchemaLayout, first_keywords, last_keywords, member_texts, others, each_written_at, layout_meant}
 use Rattle.schemars_text.proofs.Becomings.{next_seen}
 use Rattle.schemars_text.proofs.FixedMembers.{held, found_depth, first_found, last_found, all_shallow, slot_shallow, slot_at}
 use Rattle.schemars_text.proofs.Lists.{items_shallow}

@@ -1,11 +1,6 @@
 -- From each output that was held at the start, one is held now that leads with what is left to what the whole leads to.
 use Rattle.std.proofs.Common.{◌≡◌, ◌≤◌, ◌+◌, ◌*◌, drop, map, false}
-use Rattle.serde_json.specs.Data.{Members, depth, items_depth, members_depth}
-use Rattle.serde_json.specs.Find.{get_member}
-use Rattle.serde_json.specs.View.{view, items_view, members_view}
-use Rattle.serde_json.specs.Written.{items_have_float, members_have_float}
-use Rattle.schemars_text.specs.Output.{with_values, layout_meant}
-use Rattle.schemars_text.specs.OrderedText.{SchemaLayout, item_texts, member_texts, texts, others, each_written_at}
+use Rattle.schemars_text.proofs.Words.{Members, depth, items_depth, members_depth, get_member, view, items_view, members_view, items_have_float, members_have_float, with_values, layout_meant, SchemaLayout, item_texts, member_texts, texts, others, each_written_at}
 use Rattle.schemars_text.proofs.Becomings.{Reaches}
 use Rattle.schemars_text.proofs.FixedMembers.{held, found_depth}
 use Rattle.schemars_text.proofs.ordered.+write.Given as goal

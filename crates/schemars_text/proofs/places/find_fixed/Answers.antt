@@ -1,9 +1,6 @@
 -- One member more.
 use Rattle.std.proofs.Common.{◌++◌, [], rules, ap, sym, ◌∙◌, is_some, Some, ◌≡◌, false}
-use Rattle.serde_json.specs.Data.{member}
-use Rattle.serde_json.specs.View.{view, members_view}
-use Rattle.schemars_text.specs.OrderedText.{first_keywords, last_keywords, is_listed}
-use Rattle.schemars_text.specs.Places.{place_in}
+use Rattle.schemars_text.proofs.Words.{member, view, members_view, first_keywords, last_keywords, is_listed, place_in}
 use Rattle.schemars_text.proofs.FixedMembers.{Fills, filled, passed_over, all_found, keywords_apart, is_some-place_in}
 use Rattle.schemars_text.proofs.places.find_fixed.Goals as goal
 

@@ -1,7 +1,6 @@
 -- What all members have under each keyword was found, or is in the members that are left.
 use Rattle.std.proofs.Common.{◌++◌}
-use Rattle.serde_json.specs.View.{view, members_view}
-use Rattle.schemars_text.specs.OrderedText.{first_keywords, last_keywords}
+use Rattle.schemars_text.proofs.Words.{view, members_view, first_keywords, last_keywords}
 use Rattle.schemars_text.proofs.FixedMembers.{Fills}
 use Rattle.schemars_text.proofs.places.find_fixed.Given as goal
 

@@ -1,7 +1,6 @@
 -- Each write moves the front of the rest to what has been taken.
 use Rattle.std.proofs.Common.{◌≡◌, ℕ, ◌-◌, List, ◌++◌, length, take, drop, sym, ap, ◌∙◌, append_assoc, take-append-drop}
-use Rattle.std.proofs.lemmas.List.{take_rest}
-use Rattle.std.proofs.KnownBytes.{Appends-trans}
+use Rattle.schemars_text.proofs.Words.{take_rest, Appends-trans}
 use Rattle.schemars_text.proofs.sink.write_all.Goals as goal
 
 front_moves : (all taken rest : List ℕ) (n : ℕ) → all ≡ taken ++ rest → all ≡ (taken ++ take n rest) ++ take (length rest - n) (drop n rest)

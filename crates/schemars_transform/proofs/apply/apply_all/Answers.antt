@@ -1,6 +1,6 @@
 -- Where all are idle, nothing is what they do.
 use Rattle.std.proofs.Common.{sym, ap, ◌∙◌}
-use Rattle.schemars_transform.specs.Needs.{needs_of, are_idle}
+use Rattle.schemars_transform.proofs.Words.{needs_of, are_idle}
 use Rattle.schemars_transform.proofs.IdleTransforms.{idle_list}
 use Rattle.schemars_transform.proofs.apply.apply_all.Goals as goal
 

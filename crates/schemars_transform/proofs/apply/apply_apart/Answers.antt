@@ -1,9 +1,6 @@
 -- The definitions and what was left are transformed as the whole is; each wants memory alone.
 use Rattle.std.proofs.Common.{◌≡◌, Ok, Err, false, ap, ◌∙◌}
-use Rattle.std.proofs.lemmas.Result.{err_from_is_err_and}
-use Rattle.serde_json.specs.View.{members_view}
-use Rattle.schemars_transform.specs.BuiltIn.{made_by}
-use Rattle.schemars_transform.specs.Member.{some_own}
+use Rattle.schemars_transform.proofs.Words.{err_from_is_err_and, members_view, made_by, some_own}
 use Rattle.schemars_transform.proofs.Laws.{built_ins_stay, built_ins_make, each_made, each_wants_memory, each_stays}
 use Rattle.schemars_transform.proofs.Taken.{none_own, memory_in_order, apart_in_order}
 use Rattle.schemars_transform.proofs.apply.apply_apart.Goals as goal

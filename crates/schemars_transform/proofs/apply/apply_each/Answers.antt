@@ -1,10 +1,6 @@
 -- What each call of a transform adds.
 use Rattle.std.proofs.Common.{Ok, Err, sym, ap, subst, arith, length, set}
-use Rattle.std.proofs.lemmas.Result.{err_from_is_err_and}
-use Rattle.std.proofs.lemmas.List.{with_items_is, length-set}
-use Rattle.schemars_walk.specs.Order.{InOrder}
-use Rattle.schemars_walk.proofs.Orders.{order_begins, order_goes_on, order_stops, order_ends}
-use Rattle.schemars_transform.specs.Member.{OfMember}
+use Rattle.schemars_transform.proofs.Words.{err_from_is_err_and, with_items_is, length-set, InOrder, order_begins, order_goes_on, order_stops, order_ends, OfMember}
 use Rattle.schemars_transform.proofs.apply.apply_each.Goals as goal
 
 pub loop-transform-init : goal.loop-transform-init

@@ -1,11 +1,6 @@
 -- What the transforms that are left do ends what the whole list does, and needs that are known are those of the schema as it is now.
 use Rattle.std.proofs.Common.{◌≡◌, List, take, drop, ◌++◌}
-use Rattle.std.specs.Prelude.{IfSome}
-use Rattle.serde_json.specs.Data.{Data}
-use Rattle.schemars_walk.specs.Walk.{Answer}
-use Rattle.schemars_walk.specs.Order.{InOrder}
-use Rattle.schemars_transform.specs.Member.{OfMember}
-use Rattle.schemars_transform.specs.Needs.{needs_of}
+use Rattle.schemars_transform.proofs.Words.{IfSome, Data, Answer, InOrder, OfMember, needs_of}
 use Rattle.schemars_transform.proofs.apply.apply_each.Given as goal
 
 abbrev pub invariant-loop-transform : goal.invariant-loop-transform

@@ -1,5 +1,5 @@
 use Rattle.std.proofs.Common.{sym, ap, ◌∙◌}
-use Rattle.schemars_transform.specs.Needs.{is_idle}
+use Rattle.schemars_transform.proofs.Words.{is_idle}
 use Rattle.schemars_transform.proofs.IdleTransforms.{idle_member}
 use Rattle.schemars_transform.proofs.apply.apply_one.Goals as goal
 

@@ -1,8 +1,6 @@
 -- A list that is taken out and put back does what a list does.
 use Rattle.std.proofs.Common.{subst}
-use Rattle.serde_json.specs.View.{members_view}
-use Rattle.schemars_walk.specs.Walk.{EachMember, AtSchema}
-use Rattle.schemars_transform.specs.Member.{ApplyInOrder}
+use Rattle.schemars_transform.proofs.Words.{members_view, EachMember, AtSchema, ApplyInOrder}
 use Rattle.schemars_transform.proofs.Seen.{each_seen}
 use Rattle.schemars_transform.proofs.apply.apply_to_members.Goals as goal
 

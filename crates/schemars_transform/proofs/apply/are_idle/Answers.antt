@@ -1,6 +1,6 @@
 -- What is idle makes nothing of any schema with these needs.
 use Rattle.std.proofs.Common.{sym, ap, ◌∙◌}
-use Rattle.schemars_transform.specs.Needs.{are_idle}
+use Rattle.schemars_transform.proofs.Words.{are_idle}
 use Rattle.schemars_transform.proofs.IdleTransforms.{idle_made}
 use Rattle.schemars_transform.proofs.apply.are_idle.Goals as goal
 

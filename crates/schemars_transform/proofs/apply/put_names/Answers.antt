@@ -1,8 +1,6 @@
 -- The object goes where a value stood.
-use Rattle.serde_json.specs.View.{view, members_view}
+use Rattle.schemars_transform.proofs.Words.{view, members_view, view-Object, on_some}
 use Rattle.serde_json.specs.declared.value.Value.TheVariants.{Object}
-use Rattle.serde_json.proofs.Views.{view-Object}
-use Rattle.schemars_schema.proofs.MapEdits.{on_some}
 use Rattle.schemars_transform.proofs.Taken.{put_there, put_nowhere}
 use Rattle.schemars_transform.proofs.apply.put_names.Goals as goal
 

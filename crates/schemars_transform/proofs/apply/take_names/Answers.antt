@@ -1,7 +1,5 @@
 -- The members are taken from where they stood.
-use Rattle.serde_json.specs.View.{view, members_view}
-use Rattle.std.proofs.lemmas.Option.{IfSome_then}
-use Rattle.schemars_schema.proofs.MapEdits.{on_some}
+use Rattle.schemars_transform.proofs.Words.{view, members_view, IfSome_then, on_some}
 use Rattle.schemars_transform.proofs.Taken.{taken_there, left_there}
 use Rattle.schemars_transform.proofs.apply.take_names.Goals as goal
 

@@ -1,7 +1,5 @@
 use Rattle.std.proofs.Common.{◌≡◌, ◌+◌, ◌<◌, false, take, length, arith, sym, ◌∙◌, subst}
-use Rattle.std.proofs.lemmas.List.{take_all}
-use Rattle.std.proofs.lemmas.Result.{err_from_is_err_and}
-use Rattle.schemars_transform.specs.Member.{some_own, AreCopies}
+use Rattle.schemars_transform.proofs.Words.{take_all, err_from_is_err_and, some_own, AreCopies}
 use Rattle.schemars_transform.proofs.Lists.{one_more_copy, one_more_built_in, built_in_at, another_answer, refused_otherwise}
 use Rattle.schemars_transform.proofs.copies.try_clone_all.Goals as goal
 

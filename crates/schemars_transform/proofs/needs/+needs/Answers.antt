@@ -1,9 +1,6 @@
 -- What an object and each item of a list need.
 use Rattle.std.proofs.Common.{arith}
-use Rattle.serde_json.specs.View.{items_view}
-use Rattle.schemars_text.proofs.Lists.{items_shallow}
-use Rattle.schemars_transform.specs.Needs.{needed_by_items}
-use Rattle.serde_json.proofs.Views.{view-Object}
+use Rattle.schemars_transform.proofs.Words.{items_view, items_shallow, needed_by_items, view-Object}
 use Rattle.schemars_transform.proofs.Asking.{object_done, items_turn, items_end}
 use Rattle.schemars_transform.proofs.needs.+needs.Goals as goal
 

@@ -1,8 +1,6 @@
 -- What is needed by what is left, and by what was before it, is what the whole needs.
 use Rattle.std.proofs.Common.{◌≡◌, ◌+◌, ◌*◌, ◌≤◌, drop}
-use Rattle.serde_json.specs.Data.{depth, items_depth, members_depth}
-use Rattle.serde_json.specs.View.{view, items_view, members_view}
-use Rattle.schemars_transform.specs.Needs.{needed_by_items, needed_by_names, needed_by_keywords}
+use Rattle.schemars_transform.proofs.Words.{depth, items_depth, members_depth, view, items_view, members_view, needed_by_items, needed_by_names, needed_by_keywords}
 use Rattle.schemars_transform.proofs.needs.+needs.Given as goal
 
 abbrev pub decreases-add_schema : goal.decreases-add_schema

@@ -1,11 +1,6 @@
 use Rattle.std.proofs.Common.{◌≡◌, ◌<◌, ◌+◌, ◌*◌, ◌∙◌, [], ℕ, Some, map, refl, ap, sym, subst, arith, rules, nat_eq, Contains, true, false, ◌∷◌, drop}
-use Rattle.std.proofs.lemmas.List.{drop_more}
-use Rattle.std.specs.List.{list_any}
+use Rattle.schemars_types.proofs.Words.{drop_more, list_any, variant_of, payload_of, newtype_payload, payload_same, of_variants, SameValueEdge, rank, keys, any_text, or_any_text, all_options, external_options, members_options, untagged_options, typed_options, options_of, options_at, adding, some_takes_all, AreAmong, HoldsRows}
 use Rattle.schemars_shapes.specs.declared.shape.Shape.TheVariants as src
-use Rattle.schemars_shapes.specs.Shape.{variant_of, payload_of, newtype_payload, payload_same, of_variants}
-use Rattle.schemars_types.specs.Edges.{SameValueEdge, rank}
-use Rattle.schemars_types.specs.KeyOptions.{keys, any_text, or_any_text, all_options, external_options, members_options, untagged_options, typed_options}
-use Rattle.schemars_types.specs.Found.{options_of, options_at, adding, some_takes_all, AreAmong, HoldsRows}
 use Rattle.schemars_types.proofs.Adding.{adding-there, among_added, holds_met, holds_more, other_shape, literal_or_any, untagged_empty, untagged_all, members_behind, member_more}
 use Rattle.schemars_types.proofs.Asked.{newtype_at}
 use Rattle.schemars_types.proofs.Settling.{all_options-none}

@@ -1,9 +1,6 @@
 -- Ranks fall; and the members that are left are still to be added.
 use Rattle.std.proofs.Common.{◌≡◌, ◌+◌, ◌*◌, false, map, drop}
-use Rattle.schemars_shapes.specs.Shape.{variant_of}
-use Rattle.schemars_types.specs.Edges.{rank}
-use Rattle.schemars_types.specs.KeyOptions.{all_options, members_options, or_any_text, untagged_options}
-use Rattle.schemars_types.specs.Found.{options_of, adding, some_takes_all, HoldsRows}
+use Rattle.schemars_types.proofs.Words.{variant_of, rank, all_options, members_options, or_any_text, untagged_options, options_of, adding, some_takes_all, HoldsRows}
 use Rattle.schemars_types.proofs.keys.+keys.Given as goal
 
 abbrev pub decreases-add_row : goal.decreases-add_row

@@ -1,8 +1,6 @@
 use Rattle.std.proofs.Common.{◌<◌, ◌∙◌, refl, ap, sym, arith, rules}
-use Rattle.std.specs.Prelude.{◌==◌, is_none, is_some}
+use Rattle.schemars_types.proofs.Words.{◌==◌, is_none, is_some, SameValueEdge, rank, all_options}
 use Rattle.schemars_shapes.specs.declared.shape.Shape.TheVariants as src
-use Rattle.schemars_types.specs.Edges.{SameValueEdge, rank}
-use Rattle.schemars_types.specs.KeyOptions.{all_options}
 use Rattle.schemars_types.proofs.Adding.{external_takes, internal_takes, adjacent_takes, untagged_takes, literal_takes, other_leaves}
 use Rattle.schemars_types.proofs.Settling.{all_options-none}
 use Rattle.schemars_types.proofs.Shapes.{of_shape, edge_of_shape}

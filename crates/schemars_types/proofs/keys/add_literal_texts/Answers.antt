@@ -1,9 +1,6 @@
 -- The texts of a literal with a pattern are those of the pattern.
 use Rattle.std.proofs.Common.{◌≡◌, [], ◌∷◌, Some, None, false, codes, refl, sym, ap, ◌∙◌, option_map, option_and_then}
-use Rattle.serde_json.specs.Data.{Data}
-use Rattle.serde_json.specs.Find.{as_str, get}
-use Rattle.schemars_schema.specs.Json.{Text}
-use Rattle.schemars_types.specs.KeyOptions.{keys, literal_texts}
+use Rattle.schemars_types.proofs.Words.{Data, as_str, get, Text, keys, literal_texts}
 use Rattle.schemars_types.proofs.keys.add_literal_texts.Goals as goal
 
 by_pattern : (d : Data) (p : Text) → option_and_then as_str (get (codes "pattern") d) ≡ Some p

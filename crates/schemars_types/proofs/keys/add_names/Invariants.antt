@@ -1,8 +1,6 @@
 -- The names that are left are still to be added.
 use Rattle.std.proofs.Common.{◌≡◌, [], None, false, map, drop}
-use Rattle.schemars_shapes.specs.Shape.{variant_of}
-use Rattle.schemars_types.specs.KeyOptions.{keys}
-use Rattle.schemars_types.specs.Found.{options_of, adding}
+use Rattle.schemars_types.proofs.Words.{variant_of, keys, options_of, adding}
 use Rattle.schemars_types.proofs.keys.add_names.Given as goal
 
 abbrev pub invariant-loop-variant : goal.invariant-loop-variant

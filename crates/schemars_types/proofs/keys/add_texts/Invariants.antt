@@ -1,10 +1,6 @@
 -- The texts that are left are still to be added, and are texts.
 use Rattle.std.proofs.Common.{◌≡◌, true, drop}
-use Rattle.std.specs.Prelude.{is_some}
-use Rattle.serde_json.specs.View.{items_view}
-use Rattle.schemars_schema.specs.Acceptance.{texts_in}
-use Rattle.schemars_types.specs.KeyOptions.{texts_options}
-use Rattle.schemars_types.specs.Found.{options_of, adding}
+use Rattle.schemars_types.proofs.Words.{is_some, items_view, texts_in, texts_options, options_of, adding}
 use Rattle.schemars_types.proofs.keys.add_texts.Given as goal
 
 abbrev pub invariant-loop-value : goal.invariant-loop-value

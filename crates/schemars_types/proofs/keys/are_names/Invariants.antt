@@ -1,9 +1,6 @@
 -- The variants that are left decide.
 use Rattle.std.proofs.Common.{◌≡◌, map, drop}
-use Rattle.std.specs.List.{list_all}
-use Rattle.schemars_shapes.specs.Shape.{variant_of}
-use Rattle.schemars_shapes.specs.Units.{is_bare_unit}
-use Rattle.schemars_types.specs.KeyOptions.{are_names}
+use Rattle.schemars_types.proofs.Words.{list_all, variant_of, is_bare_unit, are_names}
 use Rattle.schemars_types.proofs.keys.are_names.Given as goal
 
 abbrev pub invariant-loop-variant : goal.invariant-loop-variant

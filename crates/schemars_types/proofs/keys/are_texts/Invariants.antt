@@ -1,8 +1,6 @@
 -- The values that are left decide.
 use Rattle.std.proofs.Common.{◌≡◌, drop}
-use Rattle.std.specs.Prelude.{is_some}
-use Rattle.serde_json.specs.View.{items_view}
-use Rattle.schemars_schema.specs.Acceptance.{texts_in}
+use Rattle.schemars_types.proofs.Words.{is_some, items_view, texts_in}
 use Rattle.schemars_types.proofs.keys.are_texts.Given as goal
 
 abbrev pub invariant-loop-value : goal.invariant-loop-value

@@ -1,5 +1,5 @@
 use Rattle.std.proofs.Common.{ap, ◌∙◌}
-use Rattle.schemars_types.specs.Found.{adding, options_at}
+use Rattle.schemars_types.proofs.Words.{adding, options_at}
 use Rattle.schemars_types.proofs.Adding.{adding-once}
 use Rattle.schemars_types.proofs.keys.key_options.Goals as goal
 

@@ -1,7 +1,6 @@
 -- The members that are left decide.
 use Rattle.std.proofs.Common.{◌≡◌}
-use Rattle.serde_json.specs.View.{members_view}
-use Rattle.schemars_validate.specs.Schemas.{are_named_schemas}
+use Rattle.schemars_validate.proofs.Words.{members_view, are_named_schemas}
 use Rattle.schemars_validate.proofs.found.are_named_schemas.Given as goal
 
 abbrev pub invariant-loop-value : goal.invariant-loop-value

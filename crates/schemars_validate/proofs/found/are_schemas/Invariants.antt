@@ -1,7 +1,6 @@
 -- The items that are left decide.
 use Rattle.std.proofs.Common.{◌≡◌, drop}
-use Rattle.serde_json.specs.View.{items_view}
-use Rattle.schemars_validate.specs.Schemas.{are_schemas}
+use Rattle.schemars_validate.proofs.Words.{items_view, are_schemas}
 use Rattle.schemars_validate.proofs.found.are_schemas.Given as goal
 
 abbrev pub invariant-loop-value : goal.invariant-loop-value

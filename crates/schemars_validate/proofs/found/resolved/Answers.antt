@@ -1,10 +1,6 @@
 -- A pointer in a fragment, decoded.
 use Rattle.std.proofs.Common.{Some, None, ap, sym, ◌∙◌, arith, option_map}
-use Rattle.std.proofs.lemmas.Str.Pattern.{strip_prefix_char}
-use Rattle.std.specs.Cow.{cow_str_bytes}
-use Rattle.serde_json.specs.Find.{pointer}
-use Rattle.serde_json.specs.View.{view}
-use Rattle.schemars_validate.specs.Schemas.{schema_at}
+use Rattle.schemars_validate.proofs.Words.{strip_prefix_char, cow_str_bytes, pointer, view, schema_at}
 use Rattle.schemars_validate.proofs.Resolving.{no_fragment, no_path, path_found}
 use Rattle.schemars_validate.proofs.found.resolved.Goals as goal
 

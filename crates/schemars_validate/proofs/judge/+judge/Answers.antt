@@ -1,25 +1,9 @@
 -- Each part says what its contract says; and each call has less work left.
 use Rattle.std.proofs.Common.{◌≡◌, ◌∙◌, ℕ, suc, ◌+◌, ◌<◌, ◌≤◌, ◌++◌, List, Bool, true, false, refl, Option, None, option_map, sym, ap, subst, arith, IfOk, OnOk, take, drop, set}
-use Rattle.std.specs.Prelude.{◌&&◌, ◌||◌, string_bytes, is_some, unwrap_or, codes, if◌then◌else◌, map}
-use Rattle.serde_json.specs.Data.{Data, object, Items, Members, depth, items_depth, members_depth}
-use Rattle.serde_json.specs.Find.{get_member, as_object}
-use Rattle.serde_json.specs.View.{view, items_view, members_view}
-use Rattle.schemars_schema.specs.Json.{Text}
-use Rattle.schemars_schema.specs.Verdict.{Verdict, Yes, No, Open, verdict, all_of, any_of, one_of, both, is_yes}
-use Rattle.schemars_schema.specs.Acceptance.{read_data, Judge, Part, position, one_more, Raw, context, judge, follow, where_some, count_of_fitting, beside_members, judged_by_some, judged_beside, judged_by_contains, reads_dependencies, dependent_required_says, by_patterns, matches_some, each_member, matches}
-use Rattle.schemars_schema.proofs.Containers.{object-as_object}
-use Rattle.schemars_validate.specs.Meant.{meant}
-use Rattle.schemars_validate.specs.Judged.{marked, parts_of, positions_in, at_keys, at_positions, is_placed, fits_at, is_taken, unmarked_by, each_unmarked, each_unmarked_item, is_marked, judged_beside_members, judged_by_one}
-use Rattle.schemars_validate.specs.Schemas.{schema_at, schemas_in, schema_where_read, schemas_where_read, members_where_read, judge_at, judges_of, judges_in, named_judges_in, named_judges, judges_among, judges_among_in}
-use Rattle.schemars_validate.specs.Parts.{reads, items_by, members_by, each_item, member_by, names_by, dependents_by, counted_says}
+use Rattle.schemars_validate.proofs.Words.{◌&&◌, ◌||◌, string_bytes, is_some, unwrap_or, codes, if◌then◌else◌, map, Data, object, Items, Members, depth, items_depth, members_depth, get_member, as_object, view, items_view, members_view, Text, Verdict, Yes, No, Open, verdict, all_of, any_of, one_of, both, is_yes, reads_dependencies, Judge, Part, position, Raw, where_some, each_member, matches, dependent_required_says, one_more, count_of_fitting, beside_members, by_patterns, matches_some, judged_by_some, judged_beside, judged_by_contains, read_data, context, judge, follow, object-as_object, meant, marked, parts_of, positions_in, at_keys, at_positions, is_placed, fits_at, is_taken, unmarked_by, each_unmarked, each_unmarked_item, is_marked, judged_beside_members, judged_by_one, schema_at, schemas_in, schema_where_read, schemas_where_read, members_where_read, judge_at, judges_of, judges_in, named_judges_in, named_judges, judges_among, judges_among_in, reads, items_by, members_by, each_item, member_by, names_by, dependents_by, counted_says, iter_rest, Entry, from_here, nothing_left, both-yes, SoFar, so_far, with_one, with_each, taken_by}
 use Rattle.schemars_validate.proofs.Measures.{depth_at, items_depth_at, members_depth_at, schema_under, list_under, map_under, first_under, other_under, read_under, read_map_under, rest_under, among_under, resolved_shallow, reference_less}
 use Rattle.schemars_validate.proofs.Readings.{judge_other, read_one, read_dependencies}
 use Rattle.schemars_validate.proofs.Judging.{object_alone, object_whole, object_with, object_with_marks, object_without, object_without_marks, no_contains, contained, no_contains_marks, contained_marks, no_condition_says, condition_said, no_condition_marks, condition_marks, no_beside_marks, no_object_marks, inside_says, inside_marks, beside_says, beside_marks, negated, mapped_some, marked_none, kept_marks, no_text_says, no_text_marks, unanswered_says, unanswered_marks, answered_says, answered_marks, follow_zero, follow_lost, follow_found, next_marks}
-use Rattle.std.specs.Slice.Iter.{iter_rest}
-use Rattle.serde_json.proofs.Views.{Entry}
-use Rattle.schemars_text.proofs.Lists.{from_here, nothing_left}
-use Rattle.schemars_schema.proofs.Verdicts.{both-yes}
-use Rattle.schemars_validate.specs.Joined.{SoFar, so_far, with_one, with_each, taken_by}
 use Rattle.schemars_validate.proofs.Marking.{no_item_marked, mark_next, fitting_here}
 use Rattle.schemars_validate.proofs.Stepping.{one_more_said, beside_at, beside_deep, with_schema_says, with_schema_judges, item_under, entry_deep, item_says, next_deep, unmarked_member_says, unmarked_item_says, added, added_one, IsFew, one_few, asked_deep, named_deep, others_deep, member_parts, one_matches, none_matches, or_no, no_item_says}
 use Rattle.schemars_validate.proofs.judge.+judge.Goals as goal

@@ -1,16 +1,6 @@
 -- What is left is still to be judged; and the work that is left.
 use Rattle.std.proofs.Common.{◌≡◌, ◌≤◌, ◌++◌, take, drop, map, max, option_map}
-use Rattle.std.specs.Prelude.{◌||◌}
-use Rattle.std.specs.Slice.Iter.{iter_rest}
-use Rattle.serde_json.specs.Data.{string, depth, items_depth, members_depth}
-use Rattle.serde_json.specs.View.{view, items_view, members_view}
-use Rattle.schemars_schema.specs.Verdict.{both, all_of}
-use Rattle.schemars_schema.specs.Acceptance.{context, judge, by_patterns, matches_some, each_member, judged_by_some, where_some, count_of_fitting, beside_members}
-use Rattle.schemars_validate.specs.Meant.{meant}
-use Rattle.schemars_validate.specs.Joined.{so_far, with_each, taken_by, joined_by}
-use Rattle.schemars_validate.specs.Judged.{parts_of, positions_in, marked, at_positions, fits_at, each_unmarked, each_unmarked_item, judged_beside_members}
-use Rattle.schemars_validate.specs.Schemas.{judge_at, judges_of, judges_in, named_judges, named_judges_in, judges_among, judges_among_in}
-use Rattle.schemars_validate.specs.Parts.{each_item, items_by, member_by, members_by, names_by, dependents_by}
+use Rattle.schemars_validate.proofs.Words.{◌||◌, iter_rest, string, depth, items_depth, members_depth, view, items_view, members_view, both, all_of, each_member, where_some, by_patterns, matches_some, count_of_fitting, beside_members, judged_by_some, context, judge, meant, so_far, with_each, taken_by, joined_by, parts_of, positions_in, marked, at_positions, fits_at, each_unmarked, each_unmarked_item, judged_beside_members, judge_at, judges_of, judges_in, named_judges, named_judges_in, judges_among, judges_among_in, each_item, items_by, member_by, members_by, names_by, dependents_by}
 use Rattle.schemars_validate.proofs.Stepping.{added, IsFew}
 use Rattle.schemars_validate.proofs.Measures.{work, depth_at, items_depth_at, members_depth_at}
 use Rattle.schemars_validate.proofs.judge.+judge.Given as goal

@@ -1,6 +1,6 @@
 -- A list has as many parts as items, and an object as members.
 use Rattle.std.proofs.Common.{arith}
-use Rattle.serde_json.specs.View.{view}
+use Rattle.schemars_validate.proofs.Words.{view}
 use Rattle.schemars_validate.proofs.Marking.{list_parts, object_parts, no_parts}
 use Rattle.schemars_validate.proofs.marks.count_of_parts.Goals as goal
 

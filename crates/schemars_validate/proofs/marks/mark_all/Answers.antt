@@ -1,6 +1,5 @@
 use Rattle.std.proofs.Common.{ap, ◌∙◌, ℕ}
-use Rattle.serde_json.specs.View.{view}
-use Rattle.schemars_validate.specs.Judged.{first_marked, parts_of}
+use Rattle.schemars_validate.proofs.Words.{view, first_marked, parts_of}
 use Rattle.schemars_validate.proofs.Marking.{first_all}
 use Rattle.schemars_validate.proofs.marks.mark_all.Goals as goal
 

@@ -1,6 +1,6 @@
 -- One more mark is set, up to the last.
 use Rattle.std.proofs.Common.{◌≡◌, ap, ◌∙◌, ℕ, min, length, set, true, List, Bool, arith}
-use Rattle.schemars_validate.specs.Judged.{first_marked}
+use Rattle.schemars_validate.proofs.Words.{first_marked}
 use Rattle.schemars_validate.proofs.Marking.{first_next, first_enough}
 use Rattle.schemars_validate.proofs.marks.mark_first.Goals as goal
 

@@ -1,8 +1,5 @@
 use Rattle.std.proofs.Common.{◌∙◌, min, option_map}
-use Rattle.std.specs.Prelude.{if◌then◌else◌}
-use Rattle.serde_json.specs.Events.{items_len}
-use Rattle.serde_json.specs.View.{view, items_view}
-use Rattle.schemars_validate.specs.Judged.{is_placed}
+use Rattle.schemars_validate.proofs.Words.{if◌then◌else◌, items_len, view, items_view, is_placed}
 use Rattle.schemars_validate.proofs.Marking.{no_item_marked, placed_marks}
 use Rattle.schemars_validate.proofs.Judging.{mapped_some}
 use Rattle.schemars_validate.proofs.marks.mark_items.Goals as goal

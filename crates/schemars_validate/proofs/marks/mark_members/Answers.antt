@@ -1,7 +1,6 @@
 -- A value that is no object has no members.
 use Rattle.std.proofs.Common.{option_map}
-use Rattle.serde_json.specs.View.{view, members_view}
-use Rattle.schemars_validate.specs.Judged.{is_taken}
+use Rattle.schemars_validate.proofs.Words.{view, members_view, is_taken}
 use Rattle.schemars_validate.proofs.Marking.{no_member_marked}
 use Rattle.schemars_validate.proofs.marks.mark_members.Goals as goal
 

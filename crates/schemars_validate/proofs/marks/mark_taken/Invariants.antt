@@ -1,7 +1,6 @@
 -- The marks so far, and those of the members that are left.
 use Rattle.std.proofs.Common.{◌≡◌, ◌++◌, take, drop, option_map}
-use Rattle.serde_json.specs.View.{view, members_view}
-use Rattle.schemars_validate.specs.Judged.{marked, keys_in, at_keys, is_taken}
+use Rattle.schemars_validate.proofs.Words.{view, members_view, marked, keys_in, at_keys, is_taken}
 use Rattle.schemars_validate.proofs.marks.mark_taken.Given as goal
 
 abbrev pub invariant-loop-key : goal.invariant-loop-key

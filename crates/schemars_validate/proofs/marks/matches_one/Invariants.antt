@@ -1,7 +1,6 @@
 -- The patterns that are left decide.
 use Rattle.std.proofs.Common.{◌≡◌}
-use Rattle.serde_json.specs.View.{members_view}
-use Rattle.schemars_validate.specs.Judged.{matches_one}
+use Rattle.schemars_validate.proofs.Words.{members_view, matches_one}
 use Rattle.schemars_validate.proofs.marks.matches_one.Given as goal
 
 abbrev pub invariant-loop-pattern : goal.invariant-loop-pattern

@@ -1,8 +1,6 @@
 -- So many marks that are not set.
 use Rattle.std.proofs.Common.{◌≡◌, ◌∙◌, ap, ℕ, replicate, false}
-use Rattle.std.proofs.lemmas.Result.{IfOk-weaker}
-use Rattle.serde_json.specs.View.{view}
-use Rattle.schemars_validate.specs.Judged.{unmarked, parts_of}
+use Rattle.schemars_validate.proofs.Words.{IfOk-weaker, view, unmarked, parts_of}
 use Rattle.schemars_validate.proofs.Marking.{none_marked}
 use Rattle.schemars_validate.proofs.marks.unmarked.Goals as goal
 

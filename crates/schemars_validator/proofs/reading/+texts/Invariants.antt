@@ -1,7 +1,6 @@
 -- The texts so far, and those that are left.
 use Rattle.std.proofs.Common.{◌≡◌, ◌++◌, drop, map}
-use Rattle.serde_json.specs.View.{items_view, members_view}
-use Rattle.schemars_validator.specs.Texts.{texts_in_items, texts_in_members}
+use Rattle.schemars_validator.proofs.Words.{items_view, members_view, texts_in_items, texts_in_members}
 use Rattle.schemars_validator.proofs.reading.+texts.Given as goal
 
 abbrev pub invariant-add_in_items-loop-item : goal.invariant-add_in_items-loop-item

@@ -1,7 +1,6 @@
 -- A text that is added is in the set, and no other one is new.
 use Rattle.std.proofs.Common.{rules, ◌≡◌, ◌∙◌, ◌&&◌, ◌||◌, true, bytes_eq, string_bytes, ap, sym}
-use Rattle.std.specs.List.{list_any}
-use Rattle.schemars_validator.proofs.Pairs.{put_text}
+use Rattle.schemars_validator.proofs.Words.{list_any, put_text}
 use Rattle.schemars_validator.proofs.reading.add_if.Goals as goal
 
 pub returns-in_ok-insert : goal.returns-in_ok-insert

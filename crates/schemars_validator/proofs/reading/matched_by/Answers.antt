@@ -1,8 +1,6 @@
 -- What was found so far, and what is left.
 use Rattle.std.proofs.Common.{rules, ◌≡◌, ◌||◌, ◌+◌, ◌∷◌, [], ℕ, List, Bor, get_or, add-one, drop-cons, subst, drop, map, bytes_eq, string_bytes}
-use Rattle.std.specs.List.{list_any}
-use Rattle.std.proofs.lemmas.List.{drop_all}
-use Rattle.schemars_validator.specs.Texts.{found_in}
+use Rattle.schemars_validator.proofs.Words.{list_any, drop_all, found_in}
 use Rattle.schemars_validator.proofs.Pairs.{asked_next, asked_all}
 use Rattle.schemars_validator.proofs.reading.matched_by.Goals as goal
 

@@ -1,10 +1,6 @@
 -- The texts that were found, and the answers to those that are left; the expression stays.
 use Rattle.std.proofs.Common.{◌≡◌, drop, map}
-use Rattle.std.specs.Prelude.{◌||◌, bytes_eq, string_bytes}
-use Rattle.std.specs.List.{list_any}
-use Rattle.regex.specs.Strings.{regex_pattern, matcher_pattern}
-use Rattle.schemars_schema.specs.Json.{Text}
-use Rattle.schemars_validator.specs.Texts.{found_in}
+use Rattle.schemars_validator.proofs.Words.{◌||◌, bytes_eq, string_bytes, list_any, regex_pattern, matcher_pattern, Text, found_in}
 use Rattle.schemars_validator.proofs.reading.matched_by.Given as goal
 
 abbrev pub invariant-loop-text : goal.invariant-loop-text

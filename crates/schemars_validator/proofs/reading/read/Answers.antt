@@ -1,9 +1,7 @@
 -- Each expression adds its answers.
 use Rattle.std.proofs.Common.{rules, ◌≡◌, ◌∙◌, ◌||◌, ◌+◌, ◌++◌, ◌∷◌, [], subst, sym, ap, drop, drop-cons, add-one, get_or}
-use Rattle.std.proofs.lemmas.List.{drop_all, get_or_default}
-use Rattle.serde_json.specs.View.{view}
-use Rattle.schemars_validator.specs.Asked.{has_pair, some_has}
-use Rattle.schemars_validator.specs.Texts.{texts_of, answers, some_answer}
+use Rattle.schemars_validator.proofs.Words.{drop_all, get_or_default, view, some_has, texts_of, answers, some_answer}
+use Rattle.schemars_validator.specs.Asked.{has_pair}
 use Rattle.schemars_validator.proofs.Pairs.{read_next, read_all}
 use Rattle.schemars_validator.proofs.reading.read.Goals as goal
 

@@ -1,10 +1,6 @@
 -- The expressions that were asked, and those that are left.
 use Rattle.std.proofs.Common.{◌≡◌, drop}
-use Rattle.std.specs.Prelude.{◌||◌}
-use Rattle.serde_json.specs.View.{view}
-use Rattle.schemars_schema.specs.Json.{Text}
-use Rattle.schemars_validator.specs.Asked.{some_has}
-use Rattle.schemars_validator.specs.Texts.{texts_of, some_answer}
+use Rattle.schemars_validator.proofs.Words.{◌||◌, view, Text, some_has, texts_of, some_answer}
 use Rattle.schemars_validator.proofs.reading.read.Given as goal
 
 abbrev pub invariant-loop-expression : goal.invariant-loop-expression

@@ -1,17 +1,7 @@
 -- What each call of the rewrite adds.
 use Rattle.std.proofs.Common.{◌≡◌, ◌<◌, ◌≤◌, length, map, refl, sym, ap, ◌∙◌, subst, arith}
-use Rattle.std.specs.Map.{keys_of, values_of}
-use Rattle.std.proofs.lemmas.Map.Entries.{length-keys_of, length-values_of}
-use Rattle.std.proofs.lemmas.List.{with_items_is, length-set}
-use Rattle.std.proofs.lemmas.Result.{on_ok_weaker}
-use Rattle.serde_json.specs.Data.{array, object, items_depth}
-use Rattle.serde_json.specs.View.{view, items_view, members_view}
-use Rattle.serde_json.proofs.Views.{view-Array, view-Object}
-use Rattle.schemars_schema.specs.SchemaData.{IsSchema}
-use Rattle.schemars_walk.specs.Walk.{place_meant}
-use Rattle.schemars_walk.specs.Parts.{member_places, in_places}
+use Rattle.schemars_walk.proofs.Words.{keys_of, values_of, length-keys_of, length-values_of, with_items_is, length-set, on_ok_weaker, array, object, items_depth, view, items_view, members_view, view-Array, view-Object, IsSchema, place_meant, member_places, in_places, forms, in_items, rewritten, with_subschemas}
 use Rattle.schemars_walk.specs.declared.rewrite.place.Place.TheVariants.{Nothing}
-use Rattle.schemars_walk.specs.Rewritten.{forms, in_items, rewritten, with_subschemas}
 use Rattle.schemars_walk.proofs.Rewrites.{depth_past, depth_at, item_done, items_done, items_more, items_none, a_list, no_list, either_list, either_schema, some_names, no_names, no_schema, rewritten_by, subschemas_of_object}
 use Rattle.schemars_walk.proofs.Parts.{as_many, depth_of_values, same_members, keywords_unread, keywords_together, names_together, value_done, values_done}
 use Rattle.schemars_walk.proofs.rewrite.+rewrite.Goals as goal

@@ -1,10 +1,6 @@
 -- What is left, rewritten after what is done, is the whole rewritten; and nothing that is left is deeper.
 use Rattle.std.proofs.Common.{◌≡◌, ◌+◌, ◌*◌, ◌≤◌, length, map, take, drop}
-use Rattle.serde_json.specs.Data.{depth, items_depth, members_depth}
-use Rattle.serde_json.specs.View.{view, items_view, members_view}
-use Rattle.schemars_walk.specs.Walk.{place_meant}
-use Rattle.schemars_walk.specs.Parts.{in_places}
-use Rattle.schemars_walk.specs.Rewritten.{in_items}
+use Rattle.schemars_walk.proofs.Words.{depth, items_depth, members_depth, view, items_view, members_view, place_meant, in_places, in_items}
 use Rattle.schemars_walk.proofs.Walks.{then_items}
 use Rattle.schemars_walk.proofs.rewrite.+rewrite.Given as goal
 

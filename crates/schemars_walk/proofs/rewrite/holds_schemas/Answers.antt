@@ -1,8 +1,5 @@
 use Rattle.std.proofs.Common.{◌≡◌, ◌∷◌, string_bytes, sym, subst, rules}
-use Rattle.serde_json.specs.View.{view, members_view}
-use Rattle.schemars_schema.specs.References.{NoSchemas}
-use Rattle.serde_json.proofs.Views.{Entry}
-use Rattle.schemars_walk.specs.Parts.{all_unread}
+use Rattle.schemars_walk.proofs.Words.{view, members_view, NoSchemas, Entry, all_unread}
 use Rattle.schemars_walk.proofs.rewrite.holds_schemas.Goals as goal
 
 pub loop-key-init : goal.loop-key-init

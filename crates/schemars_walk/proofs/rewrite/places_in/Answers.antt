@@ -1,8 +1,5 @@
 use Rattle.std.proofs.Common.{◌≡◌, ◌∷◌, ◌++◌, [], map, string_bytes, sym, ap, ◌∙◌, rules}
-use Rattle.serde_json.specs.View.{view, members_view}
-use Rattle.serde_json.proofs.Views.{Entry}
-use Rattle.schemars_walk.specs.Walk.{place_meant}
-use Rattle.schemars_walk.specs.Parts.{member_places}
+use Rattle.schemars_walk.proofs.Words.{view, members_view, Entry, place_meant, member_places}
 use Rattle.schemars_walk.proofs.Parts.{place_added, none_left}
 use Rattle.schemars_walk.proofs.rewrite.places_in.Goals as goal
 

@@ -1,7 +1,5 @@
 use Rattle.std.proofs.Common.{◌≡◌, ◌++◌, map}
-use Rattle.serde_json.specs.View.{members_view}
-use Rattle.schemars_walk.specs.Walk.{place_meant}
-use Rattle.schemars_walk.specs.Parts.{member_places}
+use Rattle.schemars_walk.proofs.Words.{members_view, place_meant, member_places}
 use Rattle.schemars_walk.proofs.rewrite.places_in.Given as goal
 
 abbrev pub invariant-loop-key : goal.invariant-loop-key

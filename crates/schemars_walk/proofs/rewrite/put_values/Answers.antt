@@ -1,5 +1,5 @@
 use Rattle.std.proofs.Common.{rules}
-use Rattle.std.specs.Vec.Iter.{into_iter_items}
+use Rattle.schemars_walk.proofs.Words.{into_iter_items}
 use Rattle.schemars_walk.proofs.Parts.{all_filled}
 use Rattle.schemars_walk.proofs.rewrite.put_values.Goals as goal
 

@@ -1,5 +1,5 @@
 use Rattle.std.proofs.Common.{◌≡◌, ◌∷◌, ◌++◌, [], sym, ap, ◌∙◌, rules}
-use Rattle.std.specs.BTreeMap.IterMut.{values_mut_rest}
+use Rattle.schemars_walk.proofs.Words.{values_mut_rest}
 use Rattle.schemars_walk.proofs.Parts.{value_added, none_left, nothing_in}
 use Rattle.schemars_walk.proofs.rewrite.take_values.Goals as goal
 

@@ -1,6 +1,5 @@
 use Rattle.std.proofs.Common.{◌≡◌, ◌++◌}
-use Rattle.std.specs.Map.{values_of}
-use Rattle.std.specs.BTreeMap.IterMut.{values_mut_rest}
+use Rattle.schemars_walk.proofs.Words.{values_of, values_mut_rest}
 use Rattle.schemars_walk.proofs.rewrite.take_values.Given as goal
 
 abbrev pub invariant-loop-value : goal.invariant-loop-value

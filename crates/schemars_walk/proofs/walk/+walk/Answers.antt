@@ -1,12 +1,6 @@
 -- What each call of the walk adds.
 use Rattle.std.proofs.Common.{ap, ◌∙◌, arith, length}
-use Rattle.std.proofs.lemmas.Result.{err_from_is_err_and}
-use Rattle.std.proofs.lemmas.List.{with_items_is}
-use Rattle.serde_json.specs.Data.{array}
-use Rattle.serde_json.specs.View.{view, items_view, members_view}
-use Rattle.serde_json.proofs.Views.{view-Array, view-Object}
-use Rattle.schemars_schema.specs.References.{place_under}
-use Rattle.schemars_walk.specs.Walk.{AtSchema, AtPlace, Visited}
+use Rattle.schemars_walk.proofs.Words.{err_from_is_err_and, with_items_is, array, view, items_view, members_view, view-Array, view-Object, place_under, AtSchema, AtPlace, Visited}
 use Rattle.schemars_walk.proofs.Walks.{turn, turn_sorted_at, turn_stops, turn_full, turns_end, item_turn, item_turn_stops, item_turns_end, at_list, at_schema_or_list, at_names, walked, recursed_stop, recursed_more, recursed_none}
 use Rattle.schemars_walk.proofs.walk.+walk.Goals as goal
 

@@ -1,11 +1,6 @@
 -- A walk of what is left, after the calls so far, is a walk of the whole.
 use Rattle.std.proofs.Common.{◌+◌, ◌*◌, take, drop, ◌++◌, string_cmp}
-use Rattle.std.specs.List.Sorted.{IsStrictlySortedBy}
-use Rattle.std.specs.Map.{keys_of}
-use Rattle.serde_json.specs.Data.{Items, Members}
-use Rattle.serde_json.specs.View.{items_view, members_view}
-use Rattle.schemars_schema.specs.References.{place_under}
-use Rattle.schemars_walk.specs.Walk.{Answer, EachItem, EachMember, AtSchema, AtPlace, Visited}
+use Rattle.schemars_walk.proofs.Words.{IsStrictlySortedBy, keys_of, Items, Members, items_view, members_view, place_under, Answer, EachItem, EachMember, AtSchema, AtPlace, Visited}
 use Rattle.schemars_walk.proofs.Walks.{then_items, then_members, levels}
 use Rattle.schemars_walk.proofs.walk.+walk.Given as goal
 

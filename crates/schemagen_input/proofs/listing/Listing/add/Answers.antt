@@ -1,9 +1,6 @@
 -- A row's heading and its entry join those before, unless its id is there already.
 use Rattle.std.proofs.Common.{◌≡◌, true, false, is_some, map, subst, sym, ap, ◌∙◌, ◌++◌, ◌∷◌, [], string_bytes}
-use Rattle.schemagen_json.proofs.Members.{map-push}
-use Rattle.schemars_shapes.specs.Shape.{entry_of}
-use Rattle.schemars_types.specs.Rows.{place_of}
-use Rattle.schemagen_input.specs.Listing.{AreListed}
+use Rattle.schemagen_input.proofs.Words.{map-push, entry_of, place_of, AreListed}
 use Rattle.schemagen_input.proofs.RowByRow.{listed_more, with_known_id}
 use Rattle.schemagen_input.proofs.listing.Listing.add.Goals as goal
 

@@ -1,7 +1,6 @@
 -- A value whose member is no list of rows is no table.
 use Rattle.std.proofs.Common.{◌≡◌, None, codes, subst, rules}
-use Rattle.serde_json.specs.Find.{get}
-use Rattle.schemagen_input.specs.Listing.{IsListIn}
+use Rattle.schemagen_input.proofs.Words.{get, IsListIn}
 use Rattle.schemagen_input.proofs.TableMembers.{has_no_list}
 use Rattle.schemagen_input.proofs.table_members.TableMembers.into_table.Goals as goal
 

@@ -1,7 +1,6 @@
 -- The member of each name adds what it says.
 use Rattle.std.proofs.Common.{◌≡◌, codes, false, subst, sym, rules}
-use Rattle.std.specs.Str.{bytes_eq}
-use Rattle.schemagen_json.specs.BorrowedValue.{data_of}
+use Rattle.schemagen_input.proofs.Words.{bytes_eq, data_of}
 use Rattle.schemagen_input.proofs.TableMembers.{AddsMember, adds_types, adds_root, adds_other}
 use Rattle.schemagen_input.proofs.table_members.TableMembersObjectMembers.read_member.Goals as goal
 

@@ -1,9 +1,6 @@
 -- Each member adds what it says.
 use Rattle.std.proofs.Common.{◌≡◌, ◌-◌, Some, ◌∙◌, arith, rules}
-use Rattle.json.specs.Json.{read_key, value}
-use Rattle.json.proofs.Grammar.{read_key-shorter}
-use Rattle.serde_json.specs.Data.{put}
-use Rattle.schemagen_json.proofs.Reading.{member_read, member_refused, name_refused, members_closed}
+use Rattle.schemagen_input.proofs.Words.{read_key, value, read_key-shorter, put, member_read, member_refused, name_refused, members_closed}
 use Rattle.schemagen_input.proofs.tokens.object.read_members.Goals as goal
 
 pub returns-in_err-name-clause-not_json : goal.returns-in_err-name-clause-not_json

@@ -1,8 +1,6 @@
 -- The members so far go before those that the rest says.
 use Rattle.std.proofs.Common.{◌≡◌, ℕ, ◌≤◌, length}
-use Rattle.json.specs.Json.{members, value}
-use Rattle.serde_json.specs.Data.{Members, no_members}
-use Rattle.serde_json.specs.Read.{of_members, converted}
+use Rattle.schemagen_input.proofs.Words.{members, value, Members, no_members, of_members, converted}
 use Rattle.schemagen_input.proofs.tokens.object.read_members.Given as goal
 
 abbrev pub invariant-keys : goal.invariant-keys

@@ -1,11 +1,6 @@
 -- An object says what its members say.
 use Rattle.std.proofs.Common.{◌≡◌, [], ◌∷◌, refl, ap, ◌∙◌, arith, rules}
-use Rattle.json.specs.Token.{Token}
-use Rattle.json.specs.Json.{parse_map}
-use Rattle.json.specs.Reads.{token_of}
-use Rattle.serde_json.specs.Data.{object}
-use Rattle.schemagen_json.proofs.Reading.{nothing_read, object_opened, object_too_deep, read_at}
-use Rattle.schemagen_json.specs.BorrowedValue.{data_of}
+use Rattle.schemagen_input.proofs.Words.{Token, parse_map, token_of, object, nothing_read, object_opened, object_too_deep, read_at, data_of}
 use Rattle.schemagen_input.proofs.OtherKinds.{not_object}
 use Rattle.schemagen_input.proofs.tokens.object.read_object.Goals as goal
 

@@ -1,10 +1,6 @@
 -- Each item says something, or the list says nothing.
 use Rattle.std.proofs.Common.{◌≡◌, ◌-◌, ◌<◌, [], ◌∷◌, ◌++◌, length, Some, None, option_map, ap, sym, ◌∙◌, arith, rules}
-use Rattle.json.specs.Json.{parse_map, after_end_array, value}
-use Rattle.serde_json.specs.View.{items_of}
-use Rattle.schemagen_json.proofs.Reading.{items_before, items_before-none, one_more_item, item_read, item_refused, items_closed}
-use Rattle.schemagen_input.specs.Forms.{read_each}
-use Rattle.schemagen_input.specs.Tokens.{with_last}
+use Rattle.schemagen_input.proofs.Words.{parse_map, after_end_array, value, items_of, items_before, items_before-none, one_more_item, item_read, item_refused, items_closed, read_each, with_last}
 use Rattle.schemagen_input.proofs.Gathering.{each_more}
 use Rattle.schemagen_input.proofs.tokens.said.read_items.Goals as goal
 

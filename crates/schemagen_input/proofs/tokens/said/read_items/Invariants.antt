@@ -1,11 +1,6 @@
 -- The items so far go before those that the rest says, and what they say is in the list.
 use Rattle.std.proofs.Common.{◌≡◌, ℕ, ◌≤◌, List, length, map, option_map}
-use Rattle.json.specs.Json.{items, value, parse_map}
-use Rattle.serde_json.specs.Data.{Data}
-use Rattle.serde_json.specs.Read.{of_items, converted}
-use Rattle.serde_json.specs.View.{items_of}
-use Rattle.schemagen_json.proofs.Reading.{items_before}
-use Rattle.schemagen_input.specs.Forms.{read_each}
+use Rattle.schemagen_input.proofs.Words.{items, value, parse_map, Data, of_items, converted, items_of, items_before, read_each}
 use Rattle.schemagen_input.proofs.tokens.said.read_items.Given as goal
 
 abbrev pub invariant-items : goal.invariant-items

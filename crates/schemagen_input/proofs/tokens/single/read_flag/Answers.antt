@@ -1,11 +1,8 @@
 -- A truth value says itself.
 use Rattle.std.proofs.Common.{◌≡◌, ◌≢◌, Bool, [], ◌∷◌, refl, ap, sym, ◌∙◌, arith, rules}
 use Rattle.json.specs.Token as spec
-use Rattle.json.specs.Reads.{token_of}
+use Rattle.schemagen_input.proofs.Words.{token_of, boolean, data_of, nothing_read, boolean_read, read_at}
 use Rattle.json.specs.declared.token.Token.TheVariants.{Bool as Truth}
-use Rattle.serde_json.specs.Data.{boolean}
-use Rattle.schemagen_json.specs.BorrowedValue.{data_of}
-use Rattle.schemagen_json.proofs.Reading.{nothing_read, boolean_read, read_at}
 use Rattle.schemagen_input.proofs.OtherKinds.{not_truth}
 use Rattle.schemagen_input.proofs.tokens.single.read_flag.Goals as goal
 

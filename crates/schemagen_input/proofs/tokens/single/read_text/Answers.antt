@@ -1,11 +1,8 @@
 -- A text says itself.
 use Rattle.std.proofs.Common.{◌≡◌, ◌≢◌, ℕ, List, [], ◌∷◌, Bor, ap, sym, ◌∙◌, arith, rules}
 use Rattle.json.specs.Token as spec
-use Rattle.json.specs.Reads.{token_of}
+use Rattle.schemagen_input.proofs.Words.{token_of, string, data_of, nothing_read, string_read, read_at}
 use Rattle.json.specs.declared.token.Token.TheVariants.{String}
-use Rattle.serde_json.specs.Data.{string}
-use Rattle.schemagen_json.specs.BorrowedValue.{data_of}
-use Rattle.schemagen_json.proofs.Reading.{nothing_read, string_read, read_at}
 use Rattle.schemagen_input.proofs.OtherKinds.{not_string}
 use Rattle.schemagen_input.proofs.tokens.single.read_text.Goals as goal
 

@@ -1,12 +1,7 @@
 -- A text says something, and so does an object with one member.
 use Rattle.std.proofs.Common.{◌≡◌, ◌≢◌, ℕ, List, [], ◌∷◌, Bor, ap, sym, ◌∙◌, arith, rules}
-use Rattle.json.specs.Token.{Token}
-use Rattle.json.specs.Json.{parse_map}
-use Rattle.json.specs.Reads.{token_of}
+use Rattle.schemagen_input.proofs.Words.{Token, parse_map, token_of, object, string, data_of, nothing_read, string_read, object_opened, object_too_deep, read_at}
 use Rattle.json.specs.declared.token.Token.TheVariants.{BeginObject, String}
-use Rattle.serde_json.specs.Data.{object, string}
-use Rattle.schemagen_json.specs.BorrowedValue.{data_of}
-use Rattle.schemagen_json.proofs.Reading.{nothing_read, string_read, object_opened, object_too_deep, read_at}
 use Rattle.schemagen_input.proofs.OtherKinds.{not_tagged}
 use Rattle.schemagen_input.proofs.tokens.tagged.read_tagged.Goals as goal
 

@@ -1,11 +1,6 @@
 -- All names are listed if those of the members are.
 use Rattle.std.proofs.Common.{◌≡◌, ◌+◌, ◌&&◌, [], ◌∷◌, drop, map, true, false, Bor, List, ℕ, sym, ap, ◌∙◌, arith}
-use Rattle.std.proofs.lemmas.List.{drop_more}
-use Rattle.std.proofs.Math.ListN.{drop_of_length-le}
-use Rattle.std.specs.List.{list_all}
-use Rattle.std.specs.Option.{option_map_or}
-use Rattle.schemars_text.specs.OrderedText.{is_listed}
-use Rattle.schemagen_json.specs.Members.{are_listed}
+use Rattle.schemagen_json.proofs.Words.{drop_more, drop_of_length-le, list_all, option_map_or, is_listed, are_listed}
 use Rattle.schemagen_json.proofs.Members.{Member, are_listed-members}
 use Rattle.schemagen_json.proofs.borrowed_value.BorrowedValue.has_only.Goals as goal
 

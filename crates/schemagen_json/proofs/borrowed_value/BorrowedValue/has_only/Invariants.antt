@@ -1,7 +1,6 @@
 -- The names so far are listed.
 use Rattle.std.proofs.Common.{◌≡◌, map, drop}
-use Rattle.std.specs.List.{list_all}
-use Rattle.schemars_text.specs.OrderedText.{is_listed}
+use Rattle.schemagen_json.proofs.Words.{list_all, is_listed}
 use Rattle.schemagen_json.proofs.Members.{Member}
 use Rattle.schemagen_json.proofs.borrowed_value.BorrowedValue.has_only.Given as goal
 

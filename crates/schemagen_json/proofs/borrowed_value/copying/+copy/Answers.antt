@@ -1,11 +1,7 @@
 -- Each level of a copy stands for the same data.
 use Rattle.std.proofs.Common.{◌≡◌, ◌+◌, [], ◌∷◌, ◌++◌, take, string_bytes, sym, ap, ◌∙◌, arith, rules}
-use Rattle.std.proofs.lemmas.List.{take_more}
-use Rattle.serde_json.specs.View.{view, members_view}
-use Rattle.serde_json.proofs.Views.{view-Object, members_view-insert_entry}
-use Rattle.serde_json.specs.Data.{object}
+use Rattle.schemagen_json.proofs.Words.{take_more, view, members_view, view-Object, members_view-insert_entry, object, data_of, members_data}
 use Rattle.schemagen_json.specs.declared.borrowed_value.BorrowedValue.{Object}
-use Rattle.schemagen_json.specs.BorrowedValue.{data_of, members_data}
 use Rattle.schemagen_json.proofs.Members.{data_of-Object, members_data-push}
 use Rattle.schemagen_json.proofs.borrowed_value.copying.+copy.Goals as goal
 

@@ -1,7 +1,6 @@
 -- The copies so far are those of the first items, or members.
 use Rattle.std.proofs.Common.{◌≡◌, take, map}
-use Rattle.serde_json.specs.View.{view, members_view}
-use Rattle.schemagen_json.specs.BorrowedValue.{data_of, members_data}
+use Rattle.schemagen_json.proofs.Words.{view, members_view, data_of, members_data}
 use Rattle.schemagen_json.proofs.borrowed_value.copying.+copy.Given as goal
 
 abbrev pub invariant-copy_items-loop-item : goal.invariant-copy_items-loop-item

@@ -1,9 +1,6 @@
 -- The last member of a name is the one that stays.
 use Rattle.std.proofs.Common.{◌≡◌, ◌-◌, [], ◌∷◌, ◌++◌, take, true, false, sym, ap, ◌∙◌, arith}
-use Rattle.std.proofs.lemmas.List.{take_more}
-use Rattle.std.specs.Str.{bytes_eq}
-use Rattle.serde_json.specs.Find.{get_member}
-use Rattle.schemagen_json.specs.BorrowedValue.{members_data}
+use Rattle.schemagen_json.proofs.Words.{take_more, bytes_eq, get_member, members_data}
 use Rattle.schemagen_json.proofs.Members.{last_of_name, not_of_name}
 use Rattle.schemagen_json.proofs.borrowed_value.members.last_member.Goals as goal
 

@@ -1,7 +1,6 @@
 -- Behind these members none has the name.
 use Rattle.std.proofs.Common.{◌≡◌, ◌≤◌, length, take}
-use Rattle.serde_json.specs.Find.{get_member}
-use Rattle.schemagen_json.specs.BorrowedValue.{members_data}
+use Rattle.schemagen_json.proofs.Words.{get_member, members_data}
 use Rattle.schemagen_json.proofs.borrowed_value.members.last_member.Given as goal
 
 abbrev pub invariant-loop-left : goal.invariant-loop-left

@@ -1,7 +1,6 @@
 -- One name alone, or two.
 use Rattle.std.proofs.Common.{◌≡◌, ◌-◌, ◌<◌, true, false, length, sym, ap, ◌∙◌, arith, take_all}
-use Rattle.std.specs.List.{list_all}
-use Rattle.std.specs.Str.{bytes_eq}
+use Rattle.schemagen_json.proofs.Words.{list_all, bytes_eq}
 use Rattle.schemagen_json.proofs.Members.{Member, lone_named, not_lone}
 use Rattle.schemagen_json.proofs.borrowed_value.members.lone_member.Goals as goal
 

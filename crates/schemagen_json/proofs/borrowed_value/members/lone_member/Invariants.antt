@@ -1,7 +1,6 @@
 -- The members so far have the name of the last one.
 use Rattle.std.proofs.Common.{◌≡◌, true, take}
-use Rattle.std.specs.List.{list_all}
-use Rattle.std.specs.Str.{bytes_eq}
+use Rattle.schemagen_json.proofs.Words.{list_all, bytes_eq}
 use Rattle.schemagen_json.proofs.Members.{Member}
 use Rattle.schemagen_json.proofs.borrowed_value.members.lone_member.Given as goal
 

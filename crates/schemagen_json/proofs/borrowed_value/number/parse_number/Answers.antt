@@ -1,7 +1,6 @@
 -- The digits are those behind the sign, if there is one.
 use Rattle.std.proofs.Common.{◌≡◌, drop, get_or, true, false, ◌==◌, sym, ap, ◌∙◌, arith, take_all, length-drop}
-use Rattle.fast_float.specs.Text.{scan}
-use Rattle.serde_json.specs.Read.{number_of, number_from}
+use Rattle.schemagen_json.proofs.Words.{scan, number_of, number_from}
 use Rattle.schemagen_json.proofs.borrowed_value.number.parse_number.Goals as goal
 
 pub returns-then-has_minus : goal.returns-then-has_minus

@@ -1,14 +1,7 @@
 -- What is read is what the grammar reads, token by token.
 use Rattle.std.proofs.Common.{◌≡◌, ◌-◌, ◌<◌, [], ◌∷◌, length, map, Some, None, sym, ap, ◌∙◌, arith, rules}
-use Rattle.json.specs.Token.{Token}
-use Rattle.json.specs.Json.{parse_map, after_end_array, read_key, items, members, value}
-use Rattle.json.specs.Reads.{token_of}
-use Rattle.json.proofs.Grammar.{value_is, read_key-shorter}
-use Rattle.serde_json.specs.Data.{null, boolean, number, string, array, object, put}
-use Rattle.serde_json.specs.Read.{of_json, of_items, of_members, converted}
-use Rattle.serde_json.specs.View.{number_view}
+use Rattle.schemagen_json.proofs.Words.{Token, parse_map, after_end_array, read_key, items, members, value, token_of, value_is, read_key-shorter, null, boolean, number, string, array, object, put, of_json, of_items, of_members, converted, number_view, data_of, members_data}
 use Rattle.schemagen_json.specs.declared.borrowed_value.BorrowedValue.{String, Number, Bool, Null, the_lemmas}
-use Rattle.schemagen_json.specs.BorrowedValue.{data_of, members_data}
 use Rattle.schemagen_json.proofs.Members.{data_of-Array, data_of-Object, map-push, members_data-push}
 use Rattle.schemagen_json.proofs.Reading.{nothing_read, string_read, boolean_read, null_read, number_read, number_refused, array_opened, object_opened, array_too_deep, object_too_deep, read_at, items_before, items_before-none, one_more_item, none_before, item_read, item_refused, items_closed, member_read, member_refused, name_refused, members_closed}
 use Rattle.schemagen_json.proofs.borrowed_value.reading.+read.Goals as goal

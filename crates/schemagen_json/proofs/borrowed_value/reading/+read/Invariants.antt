@@ -1,9 +1,6 @@
 -- What was read so far goes before what the rest says.
 use Rattle.std.proofs.Common.{◌≡◌, ℕ, ◌+◌, ◌*◌, ◌≤◌, length, map}
-use Rattle.json.specs.Json.{items, members, value, parse_map}
-use Rattle.serde_json.specs.Data.{no_members}
-use Rattle.serde_json.specs.Read.{of_items, of_members, converted}
-use Rattle.schemagen_json.specs.BorrowedValue.{data_of, members_data}
+use Rattle.schemagen_json.proofs.Words.{items, members, value, parse_map, no_members, of_items, of_members, converted, data_of, members_data}
 use Rattle.schemagen_json.proofs.Reading.{items_before}
 use Rattle.schemagen_json.proofs.borrowed_value.reading.+read.Given as goal
 

@@ -1,5 +1,5 @@
 use Rattle.std.proofs.Common.{refl}
-use Rattle.schemars_build.specs.Owners.{place_of_owner}
+use Rattle.schemars_build.proofs.Words.{place_of_owner}
 use Rattle.schemars_build.proofs.PlacedLemmas.{placed_same}
 use Rattle.schemars_build.proofs.names.Names.extend.Goals as goal
 

@@ -1,5 +1,5 @@
 use Rattle.std.proofs.Common.{arith, ap, sym, ◌∙◌, refl, ◌+◌, length}
-use Rattle.schemars_build.specs.Naming.{is_used}
+use Rattle.schemars_build.proofs.Words.{is_used}
 use Rattle.schemars_build.proofs.NamingLemmas.{not_all_used}
 use Rattle.schemars_build.proofs.names.Names.first_unused.Goals as goal
 

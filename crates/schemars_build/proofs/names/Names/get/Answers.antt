@@ -1,6 +1,5 @@
 use Rattle.std.proofs.Common.{◌≡◌, ◌≤◌, ◌<◌, ◌∙◌, ℕ, List, Bool, Some, None, true, false, ap, sym, subst, refl, option_map, slice_get, string_bytes, length, get_or, true≢false}
-use Rattle.schemars_build.proofs.Words.{not, name_of, place_of_owner}
-use Rattle.std.proofs.lemmas.Option.{slice_get_past, slice_get_read}
+use Rattle.schemars_build.proofs.Words.{not, name_of, place_of_owner, slice_get_past, slice_get_read}
 use Rattle.schemars_build.specs.declared.names.Owner.{Owner}
 use Rattle.schemars_build.proofs.NamingLemmas.{is_owner}
 use Rattle.schemars_build.proofs.PlacedLemmas.{not_placed, placed_past, placed_own, placed_other}

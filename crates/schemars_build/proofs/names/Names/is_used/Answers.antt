@@ -1,5 +1,5 @@
 use Rattle.std.proofs.Common.{ap, ◌∙◌}
-use Rattle.schemars_build.specs.Naming.{is_used}
+use Rattle.schemars_build.proofs.Words.{is_used}
 use Rattle.schemars_build.proofs.NamingLemmas.{is_used-naming_of}
 use Rattle.schemars_build.proofs.names.Names.is_used.Goals as goal
 

@@ -1,5 +1,5 @@
 use Rattle.std.proofs.Common.{length, ap, ◌∙◌, sym, subst}
-use Rattle.schemars_build.specs.Naming.{IsOneToOne}
+use Rattle.schemars_build.proofs.Words.{IsOneToOne}
 use Rattle.schemars_build.proofs.NamingLemmas.{length-naming_of, one_to_one}
 use Rattle.schemars_build.proofs.names.Names.len.Goals as goal
 

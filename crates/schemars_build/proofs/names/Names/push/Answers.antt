@@ -1,7 +1,6 @@
 use Rattle.std.proofs.Common.{◌≡◌, ◌++◌, ◌∷◌, [], List, Bool, true, false, Some, if◌then◌else◌, length, string_bytes, length-append, ap, ◌∙◌, sym, arith, subst}
-use Rattle.schemars_build.proofs.Words.{list_any, string_eq, Naming, name_of, is_used, candidate, naming_of, place_of_owner}
+use Rattle.schemars_build.proofs.Words.{list_any, string_eq, Naming, name_of, is_used, candidate, naming_of, place_of_owner, ArePlaced}
 use Rattle.schemars_build.specs.declared.names.Owner.{Owner}
-use Rattle.schemars_build.specs.Owners.{ArePlaced}
 use Rattle.schemars_build.proofs.NamingLemmas.{is_owner, no_owner, is_used-naming_of, naming_of-push}
 use Rattle.schemars_build.proofs.PlacedLemmas.{placed_push, placed_same}
 use Rattle.schemars_build.proofs.TriedLemmas.{used_more}

@@ -1,6 +1,5 @@
 use Rattle.std.proofs.Common.{◌≡◌, ◌∙◌, ap, sym, subst, Some}
-use Rattle.std.specs.Option.{option_copied}
-use Rattle.schemars_build.proofs.Words.{get_by_text, Naming, AreUsed}
+use Rattle.schemars_build.proofs.Words.{option_copied, get_by_text, Naming, AreUsed}
 use Rattle.schemars_build.proofs.names.Names.tried.Goals as goal
 
 pub returns-in-Some : goal.returns-in-Some

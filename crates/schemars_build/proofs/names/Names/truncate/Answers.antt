@@ -1,10 +1,6 @@
 use Rattle.std.proofs.Common.{◌≡◌, ◌≤◌, ◌∙◌, ℕ, Option, ap, refl, sym, take, length, arith, string_bytes}
-use Rattle.std.specs.Map.{lookup}
-use Rattle.std.specs.Str.{bytes_eq}
-use Rattle.std.proofs.lemmas.List.{take_all, length-take-le}
-use Rattle.std.proofs.lemmas.Option.{none-some}
+use Rattle.schemars_build.proofs.Words.{lookup, bytes_eq, take_all, length-take-le, none-some, naming_of, place_of_owner}
 use Rattle.schemars_types.specs.declared.contract.Contract.{Contract}
-use Rattle.schemars_build.specs.Owners.{naming_of, place_of_owner}
 use Rattle.schemars_build.proofs.NamingLemmas.{naming_of-take, length-naming_of}
 use Rattle.schemars_build.proofs.PlacedLemmas.{placed_same, placed_take}
 use Rattle.schemars_build.proofs.names.Names.truncate.Goals as goal

@@ -1,6 +1,5 @@
 use Rattle.std.proofs.Common.{◌≡◌, ◌≤◌, ◌<◌, ◌∙◌, ℕ, List, Some, None, length, get_or, slice_get, refl, ap, sym, subst}
-use Rattle.std.proofs.lemmas.Option.{slice_get_past, slice_get_read}
-use Rattle.schemars_build.specs.Placed.{is_pending}
+use Rattle.schemars_build.proofs.Words.{slice_get_past, slice_get_read, is_pending}
 use Rattle.schemars_build.proofs.Marking.{not_marked, marked_past, marked_by}
 use Rattle.schemars_build.proofs.pending.Pending.contains.Goals as goal
 

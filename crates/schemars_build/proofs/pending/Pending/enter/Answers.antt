@@ -1,6 +1,5 @@
 use Rattle.std.proofs.Common.{◌≡◌, ◌∙◌, ℕ, List, false, Some, length, slice_get, ap, sym, subst}
-use Rattle.schemars_build.specs.Marks.{AreMarked}
-use Rattle.schemars_build.specs.Placed.{is_pending}
+use Rattle.schemars_build.proofs.Words.{AreMarked, is_pending}
 use Rattle.schemars_build.proofs.Marking.{marked_push}
 use Rattle.schemars_build.proofs.pending.Pending.enter.Goals as goal
 

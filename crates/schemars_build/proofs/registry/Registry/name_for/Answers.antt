@@ -1,5 +1,5 @@
 use Rattle.std.proofs.Common.{◌≡◌, None, Some, ap, sym, ◌∙◌, subst, string_bytes, rules}
-use Rattle.schemars_build.specs.Naming.{Naming, NamedRow, name_of}
+use Rattle.schemars_build.proofs.Words.{Naming, NamedRow, name_of}
 use Rattle.schemars_build.proofs.Given.{name_of-given, name_of-given_alone}
 use Rattle.schemars_build.proofs.registry.Registry.name_for.Goals as goal
 

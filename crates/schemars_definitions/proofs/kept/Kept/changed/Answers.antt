@@ -1,9 +1,6 @@
 -- The text that is kept is read back, and the other is that of what is made of the definition.
 use Rattle.std.proofs.Common.{◌≡◌, false, ap, subst, string_bytes}
-use Rattle.std.specs.Prelude.{unwrap_or}
-use Rattle.serde_json.specs.Data.{null}
-use Rattle.serde_json.specs.Written.{has_float}
-use Rattle.schemars_text.specs.OrderedText.{ordered_text}
+use Rattle.schemars_definitions.proofs.Words.{unwrap_or, null, has_float, ordered_text}
 use Rattle.schemars_definitions.proofs.ReadBack.{read_back}
 use Rattle.schemars_definitions.proofs.kept.Kept.changed.Goals as goal
 

@@ -1,8 +1,6 @@
 -- What is kept as text is read back.
 use Rattle.std.proofs.Common.{sym, ap, subst, string_bytes}
-use Rattle.std.specs.Prelude.{unwrap_or}
-use Rattle.serde_json.specs.Data.{null}
-use Rattle.schemars_schema.specs.Json.{IsWholeJson}
+use Rattle.schemars_definitions.proofs.Words.{unwrap_or, null, IsWholeJson}
 use Rattle.schemars_definitions.proofs.ReadBack.{read_back, has_float-json}
 use Rattle.schemars_definitions.proofs.kept.Kept.new.Goals as goal
 

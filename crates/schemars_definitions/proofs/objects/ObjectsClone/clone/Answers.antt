@@ -1,8 +1,6 @@
 -- The copy of a map has copies of its keys and its values.
 use Rattle.std.proofs.Common.{◌≡◌, List, [], ◌∷◌, refl, ◌∙◌, string_bytes}
-use Rattle.std.specs.List.{AllZip}
-use Rattle.serde_json.specs.View.{view, members_view}
-use Rattle.serde_json.proofs.Views.{Entry}
+use Rattle.schemars_definitions.proofs.Words.{AllZip, view, members_view, Entry}
 use Rattle.schemars_definitions.proofs.objects.ObjectsClone.clone.Goals as goal
 
 same_members : (es fs : List Entry) → AllZip (λ e f. (string_bytes f.0 ≡ string_bytes e.0) × (view f.1 ≡ view e.1)) es fs

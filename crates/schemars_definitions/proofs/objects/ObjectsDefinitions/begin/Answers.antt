@@ -1,8 +1,5 @@
 use Rattle.std.proofs.Common.{◌≡◌, false, not, ap, ap₂, ◌∙◌, is_some, rules}
-use Rattle.std.proofs.lemmas.Result.{IfOk-weaker}
-use Rattle.serde_json.specs.Data.{boolean}
-use Rattle.serde_json.specs.Find.{get_member}
-use Rattle.serde_json.specs.View.{view, members_view}
+use Rattle.schemars_definitions.proofs.Words.{IfOk-weaker, boolean, get_member, view, members_view}
 use Rattle.serde_json.specs.declared.value.Value.{Bool, the_lemmas}
 use Rattle.schemars_definitions.proofs.EntryEdits.{has_member-by, put-by}
 use Rattle.schemars_definitions.proofs.objects.ObjectsDefinitions.begin.Goals as goal

@@ -1,6 +1,5 @@
 use Rattle.std.proofs.Common.{ap, ◌∙◌, is_some}
-use Rattle.serde_json.specs.Find.{get_member}
-use Rattle.serde_json.specs.View.{view}
+use Rattle.schemars_definitions.proofs.Words.{get_member, view}
 use Rattle.schemars_definitions.proofs.EntryEdits.{has_member-by}
 use Rattle.schemars_definitions.proofs.objects.ObjectsDefinitions.contains_key.Goals as goal
 

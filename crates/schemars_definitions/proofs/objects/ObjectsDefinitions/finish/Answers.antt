@@ -1,6 +1,5 @@
 use Rattle.std.proofs.Common.{ap, ap₂, ◌∙◌}
-use Rattle.serde_json.specs.View.{view, members_view}
-use Rattle.schemars_schema.specs.Edits.{replaced}
+use Rattle.schemars_definitions.proofs.Words.{view, members_view, replaced}
 use Rattle.schemars_definitions.proofs.EntryEdits.{replaced-by}
 use Rattle.schemars_definitions.proofs.objects.ObjectsDefinitions.finish.Goals as goal
 

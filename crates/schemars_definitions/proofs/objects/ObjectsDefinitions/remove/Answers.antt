@@ -1,6 +1,5 @@
 use Rattle.std.proofs.Common.{ap, ◌∙◌}
-use Rattle.serde_json.specs.View.{view, members_view}
-use Rattle.schemars_schema.specs.Edits.{without}
+use Rattle.schemars_definitions.proofs.Words.{view, members_view, without}
 use Rattle.schemars_definitions.proofs.EntryEdits.{without-by}
 use Rattle.schemars_definitions.proofs.objects.ObjectsDefinitions.remove.Goals as goal
 

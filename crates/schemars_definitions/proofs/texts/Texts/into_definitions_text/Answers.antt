@@ -1,6 +1,5 @@
 use Rattle.std.proofs.Common.{subst}
-use Rattle.schemars_definitions.specs.Keys.{HasKeysOnce}
-use Rattle.schemars_definitions.specs.Kept.{definition_in}
+use Rattle.schemars_definitions.proofs.Words.{HasKeysOnce, definition_in}
 use Rattle.schemars_definitions.proofs.ByName.{once-by_name}
 use Rattle.schemars_definitions.proofs.texts.Texts.into_definitions_text.Goals as goal
 

@@ -1,6 +1,5 @@
 use Rattle.std.proofs.Common.{◌≡◌, ◌↔◌, IsTrue, subst}
-use Rattle.serde_json.specs.Data.{no_members}
-use Rattle.schemars_definitions.specs.Kept.{definition_in}
+use Rattle.schemars_definitions.proofs.Words.{no_members, definition_in}
 use Rattle.schemars_definitions.proofs.ByName.{is_none-by_name}
 use Rattle.schemars_definitions.proofs.texts.Texts.is_empty.Goals as goal
 

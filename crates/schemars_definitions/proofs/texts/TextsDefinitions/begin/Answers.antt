@@ -1,7 +1,5 @@
 use Rattle.std.proofs.Common.{false, not, ap, ◌∙◌, is_some}
-use Rattle.std.proofs.lemmas.Result.{IfOk-weaker}
-use Rattle.serde_json.specs.Data.{boolean, put}
-use Rattle.serde_json.specs.Find.{get_member}
+use Rattle.schemars_definitions.proofs.Words.{IfOk-weaker, boolean, put, get_member}
 use Rattle.schemars_definitions.proofs.texts.TextsDefinitions.begin.Goals as goal
 
 pub invariant_of-self : goal.invariant_of-self

@@ -1,9 +1,17 @@
-use Rattle.std.proofs.Common.{ap₂, ◌∙◌}
-use Rattle.schemars_schema.specs.Edits.{replaced}
+-- The first text that is kept is read back as the value whose text it is.
+use Rattle.std.proofs.Common.{ap, ap₂, ◌∙◌, string_bytes}
+use Rattle.schemars_definitions.proofs.Words.{unwrap_or, null, replaced}
+use Rattle.schemars_definitions.proofs.ReadBack.{read_back}
 use Rattle.schemars_definitions.proofs.texts.TextsDefinitions.finish_changed.Goals as goal
 
-pub invariant_of-self-2 : goal.invariant_of-self-2
-invariant_of-self-2 g c = c.replace.ensures.ordered g.C.Change.made c.in_ok-kept.ensures.ordered c.self.invariant
+pub invariant_of-self : goal.invariant_of-self
+invariant_of-self g c =
+    let d = c.requires.0 in
+    let is = c.requires.1 in
+    let read = read_back (string_bytes c.args.before) d is.0 (λ none. is.1) in
+    c.replace.ensures.ordered g.C.Change.made (d, read, λ none. c.requires.2) c.self.invariant
 
-pub returns-clause-ok : goal.returns-clause-ok
-returns-clause-ok g c = c.replace.ensures.value ∙ ap₂ (replaced c.args.name.now) c.in_ok-kept.ensures.definition c.self.view_is
+pub returns-clause-done : goal.returns-clause-done
+returns-clause-done g c = λ yes d is.
+    let read = read_back (string_bytes c.args.before) d is.0 (λ none. is.1) in
+    c.replace.ensures.value ∙ ap₂ (replaced c.args.name.now) (ap (λ o. unwrap_or o null) read.0) c.self.view_is

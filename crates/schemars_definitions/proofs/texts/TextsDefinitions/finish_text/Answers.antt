@@ -1,8 +1,6 @@
 -- The text that is kept is read back as the value whose text it is.
 use Rattle.std.proofs.Common.{ap, ap₂, ◌∙◌, string_bytes}
-use Rattle.std.specs.Prelude.{unwrap_or}
-use Rattle.serde_json.specs.Data.{null}
-use Rattle.schemars_schema.specs.Edits.{replaced}
+use Rattle.schemars_definitions.proofs.Words.{unwrap_or, null, replaced}
 use Rattle.schemars_definitions.proofs.ReadBack.{read_back}
 use Rattle.schemars_definitions.proofs.texts.TextsDefinitions.finish_text.Goals as goal
 

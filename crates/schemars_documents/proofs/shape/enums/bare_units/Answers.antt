@@ -1,7 +1,5 @@
 use Rattle.std.proofs.Common.{map, refl}
-use Rattle.schemars_shapes.specs.Shape.{variant_of}
-use Rattle.schemars_documents.proofs.Items.{no_more}
-use Rattle.schemars_documents.specs.OfShape.{bare_units}
+use Rattle.schemars_documents.proofs.Words.{variant_of, bare_units, no_more}
 use Rattle.schemars_documents.proofs.shape.enums.bare_units.Goals as goal
 
 pub returns : goal.returns

@@ -1,7 +1,6 @@
 -- The names so far, and those of the variants that are left.
 use Rattle.std.proofs.Common.{◌≡◌, ◌++◌, map, drop}
-use Rattle.schemars_shapes.specs.Shape.{variant_of}
-use Rattle.schemars_documents.specs.OfShape.{bare_units}
+use Rattle.schemars_documents.proofs.Words.{variant_of, bare_units}
 use Rattle.schemars_documents.proofs.shape.enums.bare_units.Given as goal
 
 abbrev pub invariant-loop-variant : goal.invariant-loop-variant

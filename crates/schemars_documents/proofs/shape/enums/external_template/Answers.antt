@@ -1,8 +1,5 @@
 use Rattle.std.proofs.Common.{◌≡◌, true, false, length, map, ap, subst, ◌∙◌, ◌∷◌, sym, arith, IfOk}
-use Rattle.std.specs.Prelude.{◌==◌}
-use Rattle.schemars_shapes.specs.Shape.{variant_of}
-use Rattle.schemars_documents.specs.View.{template_view, node_view}
-use Rattle.schemars_documents.specs.OfShape.{bare_units, one_of_template, choice_of, external_template}
+use Rattle.schemars_documents.proofs.Words.{◌==◌, variant_of, template_view, node_view, bare_units, one_of_template, choice_of, external_template}
 use Rattle.schemars_documents.proofs.Units.{units_alone, units_lead, seen}
 use Rattle.schemars_documents.proofs.shape.enums.external_template.Goals as goal
 

@@ -1,11 +1,6 @@
 -- A bare unit adds nothing, and another variant its item.
 use Rattle.std.proofs.Common.{◌≡◌, ◌∷◌, ◌++◌, ◌+◌, ◌∙◌, [], Bool, map, drop, ap, sym, append_assoc}
-use Rattle.std.proofs.lemmas.List.{at_drop_more, map-append}
-use Rattle.std.specs.Prelude.{if◌then◌else◌}
-use Rattle.schemars_shapes.specs.Shape.{variant_of}
-use Rattle.schemars_documents.specs.Template.{noted}
-use Rattle.schemars_documents.specs.View.{template_view}
-use Rattle.schemars_documents.specs.OfShape.{named_template, other_items}
+use Rattle.schemars_documents.proofs.Words.{at_drop_more, map-append, if◌then◌else◌, variant_of, noted, template_view, named_template, other_items}
 use Rattle.schemars_documents.proofs.shape.enums.other_items.Goals.{then-not-is_bare_unit+in_ok-item+in_ok-push, else-not-is_bare_unit}
 use Rattle.schemars_documents.proofs.shape.enums.other_items.Goals as goal
 

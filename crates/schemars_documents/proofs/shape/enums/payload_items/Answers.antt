@@ -1,7 +1,5 @@
-use Rattle.schemars_shapes.specs.Shape.{variant_of}
-use Rattle.schemars_documents.specs.View.{template_view}
-use Rattle.schemars_documents.specs.OfShape.{payload_item}
-use Rattle.schemars_documents.proofs.Items.{one_more}
+use Rattle.schemars_documents.proofs.Words.{variant_of, template_view, payload_item}
+use Rattle.schemars_templates.proofs.Items.{one_more}
 use Rattle.schemars_documents.proofs.shape.enums.payload_items.Goals as goal
 
 pub loop-variant-preserved : goal.loop-variant-preserved

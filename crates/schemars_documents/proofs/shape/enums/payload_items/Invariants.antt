@@ -1,8 +1,6 @@
 -- The items so far, and those of the variants that are left.
 use Rattle.std.proofs.Common.{◌≡◌, ◌++◌, map, drop}
-use Rattle.schemars_shapes.specs.Shape.{variant_of}
-use Rattle.schemars_documents.specs.View.{template_view}
-use Rattle.schemars_documents.specs.OfShape.{payload_item}
+use Rattle.schemars_documents.proofs.Words.{variant_of, template_view, payload_item}
 use Rattle.schemars_documents.proofs.shape.enums.payload_items.Given as goal
 
 abbrev pub invariant-loop-variant : goal.invariant-loop-variant

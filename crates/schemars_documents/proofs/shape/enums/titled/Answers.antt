@@ -1,7 +1,6 @@
 -- Where there are no titles the schema stays.
 use Rattle.std.proofs.Common.{sym, ap}
-use Rattle.schemars_documents.specs.OfShape.{titled}
-use Rattle.schemars_documents.specs.View.{node_view}
+use Rattle.schemars_documents.proofs.Words.{titled, node_view}
 use Rattle.schemars_documents.proofs.shape.enums.titled.Goals as goal
 
 pub returns : goal.returns

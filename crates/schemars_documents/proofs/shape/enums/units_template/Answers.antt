@@ -1,10 +1,7 @@
 -- The two keywords, one after the other.
 use Rattle.std.proofs.Common.{◌∷◌, ◌++◌, [], ◌∙◌, map, ap, codes}
-use Rattle.std.proofs.lemmas.List.{map-append}
-use Rattle.schemars_documents.specs.View.{value_view, keyword_view}
-use Rattle.schemars_documents.specs.OfShape.{object_with, typed_template}
-use Rattle.schemars_documents.specs.declared.template.ValueTemplate as src
-use Rattle.schemars_documents.proofs.Templates.{seen_texts}
+use Rattle.schemars_documents.proofs.Words.{map-append, value_view, keyword_view, object_with, typed_template, seen_texts}
+use Rattle.schemars_templates.specs.declared.template.ValueTemplate as src
 use Rattle.schemars_documents.proofs.shape.enums.units_template.Goals as goal
 
 pub returns : goal.returns

@@ -1,10 +1,7 @@
 use Rattle.std.proofs.Common.{◌≡◌, Bool, false, List, [], ◌∷◌, length, map, ap, subst, ◌∙◌, sym, refl, true≢false, IfOk}
-use Rattle.std.specs.Prelude.{◌==◌}
-use Rattle.schemars_shapes.specs.Shape.{variant_of}
+use Rattle.schemars_documents.proofs.Words.{◌==◌, variant_of, node_view, any_of_template, payload_item, untagged_template}
 use Rattle.schemars_shapes.specs.declared.variant.Variant.{Variant}
 use Rattle.schemars_types.specs.declared.contract.Contract.{Contract}
-use Rattle.schemars_documents.specs.View.{node_view}
-use Rattle.schemars_documents.specs.OfShape.{any_of_template, payload_item, untagged_template}
 use Rattle.schemars_documents.proofs.shape.enums.untagged_template.Goals as goal
 
 one_at_least : (contract : Contract) (titles : Bool) (xs : List Variant) → (length xs == 0) ≡ false

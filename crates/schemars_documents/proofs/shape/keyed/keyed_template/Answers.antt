@@ -1,8 +1,6 @@
 -- The keywords, as they come one after another.
 use Rattle.std.proofs.Common.{◌≡◌, ◌∷◌, ◌++◌, [], ◌∙◌, map, ap, codes}
-use Rattle.std.proofs.lemmas.List.{map-append}
-use Rattle.schemars_documents.specs.View.{value_view, keyword_view}
-use Rattle.schemars_documents.specs.OfShape.{object_with, typed_template, other_values, pattern_properties_at, properties_at, values_of}
+use Rattle.schemars_documents.proofs.Words.{map-append, value_view, keyword_view, object_with, typed_template, other_values, pattern_properties_at, properties_at, values_of}
 use Rattle.schemars_documents.proofs.shape.keyed.keyed_template.Goals as goal
 
 pub returns : goal.returns

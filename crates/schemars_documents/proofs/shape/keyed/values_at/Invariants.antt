@@ -1,7 +1,6 @@
 -- The schemas so far, and those of the keys that are left.
 use Rattle.std.proofs.Common.{◌≡◌, ◌++◌, map, drop}
-use Rattle.schemars_documents.specs.OfShape.{values_of}
-use Rattle.schemars_documents.specs.View.{property_view}
+use Rattle.schemars_documents.proofs.Words.{values_of, property_view}
 use Rattle.schemars_documents.proofs.shape.keyed.values_at.Given as goal
 
 abbrev pub invariant-loop-key : goal.invariant-loop-key

@@ -1,6 +1,5 @@
 use Rattle.std.proofs.Common.{◌≡◌, ◌++◌, map, drop}
-use Rattle.schemars_documents.specs.Template.{row}
-use Rattle.schemars_documents.specs.View.{template_view}
+use Rattle.schemars_documents.proofs.Words.{row, template_view}
 use Rattle.schemars_documents.proofs.shape.lists.rows_in_order.Given as goal
 
 abbrev pub invariant-loop-part : goal.invariant-loop-part

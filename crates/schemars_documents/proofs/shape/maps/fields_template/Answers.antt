@@ -1,8 +1,5 @@
 use Rattle.std.proofs.Common.{◌≡◌, map, subst, IfOk}
-use Rattle.schemars_builders.specs.NullLaw.{text_items}
-use Rattle.schemars_shapes.specs.Shape.{field_of}
-use Rattle.schemars_documents.specs.View.{node_view}
-use Rattle.schemars_documents.specs.OfShape.{property, map_template}
+use Rattle.schemars_documents.proofs.Words.{text_items, field_of, node_view, property, map_template}
 use Rattle.schemars_documents.proofs.shape.maps.fields_template.Goals as goal
 
 pub returns : goal.returns

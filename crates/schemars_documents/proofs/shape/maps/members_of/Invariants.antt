@@ -1,8 +1,6 @@
 -- What is asked so far, and what is asked of the rows that are left.
 use Rattle.std.proofs.Common.{◌≡◌, ◌++◌, map, drop}
-use Rattle.schemars_shapes.specs.Shape.{flattened_of}
-use Rattle.schemars_documents.specs.View.{ask_of}
-use Rattle.schemars_documents.specs.OfShape.{members_asked}
+use Rattle.schemars_documents.proofs.Words.{flattened_of, ask_of, members_asked}
 use Rattle.schemars_documents.proofs.shape.maps.members_of.Given as goal
 
 abbrev pub invariant-loop-part : goal.invariant-loop-part

@@ -1,8 +1,6 @@
 -- The properties so far, and those of the fields that are left.
 use Rattle.std.proofs.Common.{◌≡◌, ◌++◌, map, drop}
-use Rattle.schemars_shapes.specs.Shape.{field_of}
-use Rattle.schemars_documents.specs.View.{property_view}
-use Rattle.schemars_documents.specs.OfShape.{property}
+use Rattle.schemars_documents.proofs.Words.{field_of, property_view, property}
 use Rattle.schemars_documents.proofs.shape.maps.properties.Given as goal
 
 abbrev pub invariant-loop-field : goal.invariant-loop-field

@@ -1,7 +1,6 @@
 use Rattle.std.proofs.Common.{◌∙◌, ap, map}
-use Rattle.schemars_shapes.specs.Shape.{flattened_of}
-use Rattle.schemars_documents.specs.View.{ask_of, template_view, node_view, with_answers}
-use Rattle.schemars_documents.proofs.Answering.{seen_members, flattened_answers}
+use Rattle.schemars_documents.proofs.Words.{flattened_of, ask_of, template_view, node_view, with_answers, seen_members}
+use Rattle.schemars_documents.proofs.Flattening.{flattened_answers}
 use Rattle.schemars_documents.proofs.shape.maps.with_flattened.Goals as goal
 
 pub returns : goal.returns

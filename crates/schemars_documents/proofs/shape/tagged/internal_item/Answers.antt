@@ -1,12 +1,9 @@
 -- The variant's notes are beside its tag and its content.
 use Rattle.std.proofs.Common.{◌≡◌, ap, ◌∙◌, rules, Box, Global}
-use Rattle.schemars_shapes.specs.Shape.{internal_variant_of}
-use Rattle.schemars_documents.specs.Template.{Template, noted, tagged}
-use Rattle.schemars_documents.specs.OfShape.{content_template}
-use Rattle.schemars_documents.specs.View.{template_view, node_view}
-use Rattle.schemars_documents.specs.declared.template.SchemaTemplate.{SchemaTemplate}
-use Rattle.schemars_documents.specs.declared.template.SchemaNode.{Tagged, the_lemmas}
-use Rattle.schemars_documents.specs.declared.template.Tag.{Tag}
+use Rattle.schemars_documents.proofs.Words.{internal_variant_of, Template, noted, tagged, content_template, template_view, node_view}
+use Rattle.schemars_templates.specs.declared.template.SchemaTemplate.{SchemaTemplate}
+use Rattle.schemars_templates.specs.declared.template.SchemaNode.{Tagged, the_lemmas}
+use Rattle.schemars_templates.specs.declared.template.Tag.{Tag}
 use Rattle.schemars_documents.proofs.shape.tagged.internal_item.Goals as goal
 
 seen_tagged : (tag : Box Tag Global) (t : Box SchemaTemplate Global)

@@ -1,7 +1,5 @@
-use Rattle.schemars_shapes.specs.Shape.{internal_variant_of}
-use Rattle.schemars_documents.specs.View.{template_view}
-use Rattle.schemars_documents.specs.OfShape.{internal_item}
-use Rattle.schemars_documents.proofs.Items.{one_more}
+use Rattle.schemars_documents.proofs.Words.{internal_variant_of, template_view, internal_item}
+use Rattle.schemars_templates.proofs.Items.{one_more}
 use Rattle.schemars_documents.proofs.shape.tagged.internal_items.Goals as goal
 
 pub loop-variant-preserved : goal.loop-variant-preserved

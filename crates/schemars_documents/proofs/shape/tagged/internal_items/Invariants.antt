@@ -1,8 +1,6 @@
 -- The items so far, and those of the variants that are left.
 use Rattle.std.proofs.Common.{◌≡◌, ◌++◌, map, drop}
-use Rattle.schemars_shapes.specs.Shape.{internal_variant_of}
-use Rattle.schemars_documents.specs.View.{template_view}
-use Rattle.schemars_documents.specs.OfShape.{internal_item}
+use Rattle.schemars_documents.proofs.Words.{internal_variant_of, template_view, internal_item}
 use Rattle.schemars_documents.proofs.shape.tagged.internal_items.Given as goal
 
 abbrev pub invariant-loop-variant : goal.invariant-loop-variant

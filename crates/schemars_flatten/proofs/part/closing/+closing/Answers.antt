@@ -1,8 +1,6 @@
 -- What each call answers.
 use Rattle.std.proofs.Common.{sym, ap, ◌∙◌, arith}
-use Rattle.serde_json.specs.View.{view, items_view, members_view}
-use Rattle.schemars_text.proofs.Lists.{items_shallow}
-use Rattle.schemars_flatten.specs.Opening.{closed_in_items}
+use Rattle.schemars_flatten.proofs.Words.{view, items_view, members_view, items_shallow, closed_in_items}
 use Rattle.schemars_flatten.proofs.ClosedCalls.{closed_first, closed_rest, closed_other, closed_array, closed_no_array, item_found, item_passed, all_passed}
 use Rattle.schemars_flatten.proofs.part.closing.+closing.Goals as goal
 

@@ -1,8 +1,6 @@
 -- Nothing so far closes, so that what is left closes as the whole does; and nothing that is left is deeper.
 use Rattle.std.proofs.Common.{◌≡◌, ◌+◌, ◌*◌, ◌≤◌, drop}
-use Rattle.serde_json.specs.Data.{depth, items_depth, members_depth}
-use Rattle.serde_json.specs.View.{view, items_view, members_view}
-use Rattle.schemars_flatten.specs.Opening.{closed_in_items, closed_in_keywords}
+use Rattle.schemars_flatten.proofs.Words.{depth, items_depth, members_depth, view, items_view, members_view, closed_in_items, closed_in_keywords}
 use Rattle.schemars_flatten.proofs.part.closing.+closing.Given as goal
 
 abbrev pub decreases-schema_closes : goal.decreases-schema_closes

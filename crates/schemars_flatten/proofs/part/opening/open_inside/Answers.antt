@@ -1,5 +1,5 @@
 use Rattle.std.proofs.Common.{◌∙◌}
-use Rattle.std.proofs.lemmas.Result.{on_ok_weaker}
+use Rattle.schemars_flatten.proofs.Words.{on_ok_weaker}
 use Rattle.schemars_flatten.proofs.Levels.{around_opened}
 use Rattle.schemars_flatten.proofs.part.opening.open_inside.Goals as goal
 

@@ -1,9 +1,6 @@
 -- The value of `anyOf` is changed in its place.
 use Rattle.std.proofs.Common.{codes}
-use Rattle.std.proofs.lemmas.Result.{on_ok_weaker}
-use Rattle.serde_json.specs.View.{view}
-use Rattle.schemars_schema.proofs.MapEdits.{on_some}
-use Rattle.schemars_flatten.specs.Parts.{with_empty_object}
+use Rattle.schemars_flatten.proofs.Words.{on_ok_weaker, view, on_some, with_empty_object}
 use Rattle.schemars_flatten.proofs.Lists.{list_changed}
 use Rattle.schemars_flatten.proofs.part.optional.admit_anything.Goals as goal
 

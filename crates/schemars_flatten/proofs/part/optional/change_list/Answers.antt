@@ -1,12 +1,6 @@
 -- The items of a list are changed.
 use Rattle.std.proofs.Common.{◌≡◌, ap, sym, ◌∙◌}
-use Rattle.std.proofs.lemmas.Result.{on_ok_weaker}
-use Rattle.serde_json.specs.Data.{array}
-use Rattle.serde_json.specs.View.{view, items_view}
-use Rattle.serde_json.proofs.Views.{view-Array}
-use Rattle.schemars_schema.proofs.Containers.{array-as_array}
-use Rattle.schemars_schema.specs.Edits.{on_list}
-use Rattle.schemars_flatten.specs.Parts.{with_empty_object}
+use Rattle.schemars_flatten.proofs.Words.{on_ok_weaker, array, view, items_view, view-Array, array-as_array, on_list, with_empty_object}
 use Rattle.schemars_flatten.proofs.part.optional.change_list.Goals as goal
 
 pub returns-in-Some : goal.returns-in-Some

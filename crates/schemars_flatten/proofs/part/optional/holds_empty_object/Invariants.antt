@@ -1,6 +1,5 @@
 use Rattle.std.proofs.Common.{◌≡◌, drop}
-use Rattle.serde_json.specs.View.{items_view}
-use Rattle.schemars_flatten.specs.Parts.{holds_empty_object}
+use Rattle.schemars_flatten.proofs.Words.{items_view, holds_empty_object}
 use Rattle.schemars_flatten.proofs.part.optional.holds_empty_object.Given as goal
 
 abbrev pub invariant-loop-schema : goal.invariant-loop-schema

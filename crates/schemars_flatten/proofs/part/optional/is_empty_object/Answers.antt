@@ -1,8 +1,6 @@
 -- An object with no entries has no members.
 use Rattle.std.proofs.Common.{ap, ◌∙◌, sym}
-use Rattle.serde_json.specs.View.{view}
-use Rattle.serde_json.proofs.Views.{view-Object}
-use Rattle.schemars_flatten.specs.Parts.{is_empty_object}
+use Rattle.schemars_flatten.proofs.Words.{view, view-Object, is_empty_object}
 use Rattle.schemars_flatten.proofs.Optional.{empty_object}
 use Rattle.schemars_flatten.proofs.part.optional.is_empty_object.Goals as goal
 

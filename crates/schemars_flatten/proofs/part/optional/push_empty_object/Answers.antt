@@ -1,11 +1,7 @@
 -- The empty object joins where it is missing.
 use Rattle.std.proofs.Common.{◌≡◌, false, sym, ap, ◌∙◌}
-use Rattle.std.proofs.lemmas.Result.{on_ok_weaker}
-use Rattle.serde_json.specs.Data.{object, no_members}
-use Rattle.serde_json.specs.View.{view, items_view, members_view}
+use Rattle.schemars_flatten.proofs.Words.{on_ok_weaker, object, no_members, view, items_view, members_view, view-Object, holds_empty_object}
 use Rattle.serde_json.specs.declared.value.Value.{Object}
-use Rattle.serde_json.proofs.Views.{view-Object}
-use Rattle.schemars_flatten.specs.Parts.{holds_empty_object}
 use Rattle.schemars_flatten.proofs.Optional.{empty_pushed}
 use Rattle.schemars_flatten.proofs.part.optional.push_empty_object.Goals as goal
 

@@ -1,9 +1,6 @@
 -- The value of `oneOf` is changed in its place.
 use Rattle.std.proofs.Common.{codes}
-use Rattle.std.proofs.lemmas.Result.{on_ok_weaker}
-use Rattle.serde_json.specs.View.{view}
-use Rattle.schemars_schema.proofs.MapEdits.{on_some}
-use Rattle.schemars_flatten.specs.Parts.{first_as_objects}
+use Rattle.schemars_flatten.proofs.Words.{on_ok_weaker, view, on_some, first_as_objects}
 use Rattle.schemars_flatten.proofs.Lists.{list_changed}
 use Rattle.schemars_flatten.proofs.part.units.change_choice.Goals as goal
 

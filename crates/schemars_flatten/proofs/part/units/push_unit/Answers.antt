@@ -1,8 +1,6 @@
 -- A text's object joins, and nothing else does.
 use Rattle.std.proofs.Common.{ap, ◌∙◌}
-use Rattle.std.proofs.lemmas.Result.{on_ok_weaker}
-use Rattle.serde_json.specs.Find.{as_str}
-use Rattle.serde_json.specs.View.{view, items_view}
+use Rattle.schemars_flatten.proofs.Words.{on_ok_weaker, as_str, view, items_view}
 use Rattle.schemars_flatten.proofs.UnitObjects.{unit_pushed, no_unit}
 use Rattle.schemars_flatten.proofs.part.units.push_unit.Goals as goal
 

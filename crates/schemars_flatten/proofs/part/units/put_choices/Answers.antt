@@ -1,13 +1,7 @@
 -- The objects join those of a choice, or are the first there.
 use Rattle.std.proofs.Common.{◌≡◌, Some, None, option_map, codes, ap, ◌∙◌}
-use Rattle.std.proofs.lemmas.Result.{on_ok_weaker}
-use Rattle.serde_json.specs.Data.{array, no_items, put}
-use Rattle.serde_json.specs.Find.{get_member}
-use Rattle.serde_json.specs.View.{view, items_view, members_view}
+use Rattle.schemars_flatten.proofs.Words.{on_ok_weaker, array, no_items, put, get_member, view, items_view, members_view, view-Array, view-lookup, changed_there, changed_missing, with_items}
 use Rattle.serde_json.specs.declared.value.Value.{Array}
-use Rattle.serde_json.proofs.Views.{view-Array, view-lookup}
-use Rattle.schemars_schema.proofs.Changes.{changed_there, changed_missing}
-use Rattle.schemars_flatten.specs.Parts.{with_items}
 use Rattle.schemars_flatten.proofs.part.units.put_choices.Goals as goal
 
 pub returns-in-Some : goal.returns-in-Some

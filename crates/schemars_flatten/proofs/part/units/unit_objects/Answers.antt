@@ -1,7 +1,6 @@
 -- The object of the next text joins those so far.
 use Rattle.std.proofs.Common.{arith}
-use Rattle.serde_json.specs.View.{items_view}
-use Rattle.schemars_flatten.specs.Parts.{unit_objects}
+use Rattle.schemars_flatten.proofs.Words.{items_view, unit_objects}
 use Rattle.schemars_flatten.proofs.UnitObjects.{unit_turn, units_end}
 use Rattle.schemars_flatten.proofs.part.units.unit_objects.Goals as goal
 

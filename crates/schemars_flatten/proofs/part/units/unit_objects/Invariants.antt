@@ -1,8 +1,6 @@
 -- The objects so far, and then those of what is left, are the objects of the whole.
 use Rattle.std.proofs.Common.{◌≡◌, drop}
-use Rattle.serde_json.specs.View.{items_view}
-use Rattle.schemars_flatten.specs.Flatten.{appended}
-use Rattle.schemars_flatten.specs.Parts.{unit_objects}
+use Rattle.schemars_flatten.proofs.Words.{items_view, appended, unit_objects}
 use Rattle.schemars_flatten.proofs.part.units.unit_objects.Given as goal
 
 abbrev pub invariant-loop-text : goal.invariant-loop-text

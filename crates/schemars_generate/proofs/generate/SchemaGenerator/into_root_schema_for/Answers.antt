@@ -1,6 +1,5 @@
 use Rattle.std.proofs.Common.{inl, inr, refl, sym, subst}
-use Rattle.schemars_generate.proofs.Words.{IfOk-weaker, IfErr-weaker, err_told, more_types_own, IsJoined, IsRootOfTypeRefusal, with_rows, state, Transforms, IsTransformed, IsUntransformed, IsRootRefusal}
-use Rattle.schemars_generate.specs.Generator.{held_transforms}
+use Rattle.schemars_generate.proofs.Words.{IfOk-weaker, IfErr-weaker, err_told, more_types_own, IsJoined, IsRootOfTypeRefusal, with_rows, state, Transforms, IsTransformed, IsUntransformed, IsRootRefusal, held_transforms}
 use Rattle.schemars_generate.specs.declared.error.GenerateError.{GenerateError}
 use Rattle.schemars_generate.proofs.ByType.{root_in_table}
 use Rattle.schemars_generate.proofs.generate.SchemaGenerator.into_root_schema_for.Goals as goal

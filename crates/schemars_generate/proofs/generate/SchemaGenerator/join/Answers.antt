@@ -1,6 +1,5 @@
 use Rattle.std.proofs.Common.{◌∙◌, List, ap, sym, subst, take}
-use Rattle.schemars_types.specs.Edges.{RefersWithin}
-use Rattle.schemars_generate.proofs.Words.{Row}
+use Rattle.schemars_generate.proofs.Words.{RefersWithin, Row}
 use Rattle.schemars_generate.proofs.generate.SchemaGenerator.join.Goals as goal
 
 pub truncate-requires : goal.truncate-requires

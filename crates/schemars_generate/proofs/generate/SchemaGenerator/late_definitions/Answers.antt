@@ -1,15 +1,10 @@
 -- The text of what the transforms make of the definitions that a part leads to.
 use Rattle.std.proofs.Common.{◌≡◌, ◌∙◌, ℕ, Result, Ok, Err, inl, inr, sym, ap, subst}
-use Rattle.std.specs.Prelude.{IsErrAnd}
+use Rattle.schemars_generate.proofs.Words.{IsErrAnd, HasMadePart, IsDefinitionsRefusal, Generator, held_transforms, told, IsSubschemaFor, KeepsDefinitions, err_told, members_view, state, State, Data, Transforms, TransformStep, AreTransformed, IsTakeRefusal}
 use Rattle.schemars_walk.specs.declared.transform.TransformError.{TransformError}
 use Rattle.schemars_walk.specs.declared.transform.TransformError.TheVariants.{Memory, TooDeep, Own}
-use Rattle.schemars_generate.specs.DefinitionsText.{HasMadePart, IsDefinitionsRefusal}
-use Rattle.schemars_generate.specs.Generator.{Generator, held_transforms}
-use Rattle.schemars_generate.specs.Refusals.{told}
 use Rattle.schemars_generate.specs.declared.error.GenerateError.{GenerateError}
 use Rattle.schemars_generate.specs.declared.error.GenerateError.TheVariants.{UnknownType}
-use Rattle.schemars_generate.specs.Answers.{IsSubschemaFor, KeepsDefinitions}
-use Rattle.schemars_generate.proofs.Words.{err_told, members_view, state, State, Data, Transforms, TransformStep, AreTransformed, IsTakeRefusal}
 use Rattle.schemars_generate.proofs.generate.SchemaGenerator.late_definitions.Goals as goal
 
 -- a part adds names and definitions alone

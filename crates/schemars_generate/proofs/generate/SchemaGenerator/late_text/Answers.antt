@@ -1,7 +1,6 @@
 -- The text of the document that the transforms made.
 use Rattle.std.proofs.Common.{inl, inr, sym, subst, string_bytes}
-use Rattle.schemars_generate.proofs.Words.{err_told, Transforms, state, IsRootRefusal}
-use Rattle.schemars_generate.specs.Generator.{held_transforms}
+use Rattle.schemars_generate.proofs.Words.{err_told, Transforms, state, IsRootRefusal, held_transforms}
 use Rattle.schemars_generate.specs.declared.error.GenerateError.{GenerateError}
 use Rattle.schemars_generate.proofs.RootTexts.{root_text, refused_before}
 use Rattle.schemars_generate.proofs.generate.SchemaGenerator.late_text.Goals as goal

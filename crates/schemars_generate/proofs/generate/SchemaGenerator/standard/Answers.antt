@@ -1,9 +1,6 @@
 -- The transforms, the path and the absence of definitions are those that were looked at.
 use Rattle.std.proofs.Common.{◌≡◌, ◌∷◌, List, [], length, refl, sym, ap, ◌∙◌, subst, rules, arith}
-use Rattle.serde_json.specs.Events.{members_len}
-use Rattle.serde_json.proofs.Views.{members_len-members_view}
-use Rattle.schemars_generate.proofs.Words.{members_view, path_of, state_of}
-use Rattle.schemars_generate.specs.RootText.{WritesEarlyFor, draft_of, key_for}
+use Rattle.schemars_generate.proofs.Words.{members_len, members_len-members_view, members_view, path_of, state_of, WritesEarlyFor, draft_of, key_for}
 use Rattle.schemars_generate.proofs.generate.SchemaGenerator.standard.Goals as goal
 
 none_left : {A : Type 0} (xs : List A) → length xs ≡ 0 → xs ≡ []

@@ -1,6 +1,5 @@
 use Rattle.std.proofs.Common.{ap, ◌∙◌, arith}
-use Rattle.serde_json.specs.Find.{get_member}
-use Rattle.schemars_render.specs.Assembled.{members_assembled}
+use Rattle.schemars_render.proofs.Words.{get_member, members_assembled}
 use Rattle.schemars_render.proofs.Searched.{found-within, found_part, nothing_found}
 use Rattle.schemars_render.proofs.members.MemberList.find.Goals as goal
 

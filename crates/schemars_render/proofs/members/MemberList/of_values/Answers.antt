@@ -1,6 +1,5 @@
 use Rattle.std.proofs.Common.{◌≡◌, [], rules, sym, subst}
-use Rattle.schemars_schema.proofs.SortedMembers.{IsSorted}
-use Rattle.schemars_definitions.proofs.Keys.{sorted-entries}
+use Rattle.schemars_render.proofs.Words.{IsSorted, sorted-entries}
 use Rattle.schemars_render.proofs.Lists.{all_values}
 use Rattle.schemars_render.proofs.members.MemberList.of_values.Goals as goal
 

@@ -1,6 +1,6 @@
 -- The members so far, and then those that are left, are all.
 use Rattle.std.proofs.Common.{◌≡◌, ◌++◌, map}
-use Rattle.schemars_render.specs.Assembled.{named_view}
+use Rattle.schemars_render.proofs.Words.{named_view}
 use Rattle.schemars_render.proofs.Lists.{named_value}
 use Rattle.schemars_render.proofs.members.MemberList.of_values.Given as goal
 

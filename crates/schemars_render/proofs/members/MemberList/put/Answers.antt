@@ -1,7 +1,5 @@
 use Rattle.std.proofs.Common.{sym, ap, subst, ◌∙◌, arith}
-use Rattle.serde_json.specs.Data.{put}
-use Rattle.schemars_schema.proofs.SortedMembers.{IsSorted, sorted-put}
-use Rattle.schemars_render.specs.Assembled.{assembled_view, members_assembled}
+use Rattle.schemars_render.proofs.Words.{put, IsSorted, sorted-put, assembled_view, members_assembled}
 use Rattle.schemars_render.proofs.Searched.{found-within, belongs-within, replaced_at, inserted_at}
 use Rattle.schemars_render.proofs.members.MemberList.put.Goals as goal
 

@@ -1,7 +1,6 @@
 -- What has been put in, and then the rest, is all.
 use Rattle.std.proofs.Common.{◌≡◌}
-use Rattle.serde_json.specs.View.{members_view}
-use Rattle.schemars_schema.specs.SchemaData.{put_members}
+use Rattle.schemars_render.proofs.Words.{members_view, put_members}
 use Rattle.schemars_render.proofs.members.MemberList.put_values.Given as goal
 
 abbrev pub invariant-loop-name : goal.invariant-loop-name

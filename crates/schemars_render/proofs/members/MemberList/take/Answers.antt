@@ -1,8 +1,5 @@
 use Rattle.std.proofs.Common.{sym, ap, subst, ◌∙◌, arith}
-use Rattle.serde_json.specs.Find.{get_member}
-use Rattle.schemars_schema.specs.Edits.{without}
-use Rattle.schemars_schema.proofs.SortedMembers.{IsSorted, sorted-without}
-use Rattle.schemars_render.specs.Assembled.{members_assembled}
+use Rattle.schemars_render.proofs.Words.{get_member, without, IsSorted, sorted-without, members_assembled}
 use Rattle.schemars_render.proofs.Changed.{without-missing}
 use Rattle.schemars_render.proofs.Searched.{found-within, found_part, nothing_found, removed_at}
 use Rattle.schemars_render.proofs.members.MemberList.take.Goals as goal

@@ -1,9 +1,6 @@
 -- The object's members are those of the schema that is that object, now and when the loan ends.
 use Rattle.std.proofs.Common.{ap, ◌∙◌}
-use Rattle.std.specs.Option.{ghost_name_of}
-use Rattle.serde_json.specs.Find.{as_object}
-use Rattle.serde_json.proofs.Views.{view-Object}
-use borrow.Follows.Closed.{read_of}
+use Rattle.schemars_schema.proofs.Words.{ghost_name_of, as_object, view-Object, read_of}
 use Rattle.schemars_schema.proofs.schema.Schema.as_object_mut.Goals as goal
 
 pub returns : goal.returns

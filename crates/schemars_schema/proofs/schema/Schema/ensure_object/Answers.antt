@@ -1,10 +1,6 @@
 -- A truth value made an object accepts what it did.
 use Rattle.std.proofs.Common.{◌≡◌, Some, refl, ap, ◌∙◌}
-use Rattle.serde_json.specs.Data.{object}
-use Rattle.serde_json.specs.Find.{as_object}
-use Rattle.serde_json.specs.View.{members_view}
-use Rattle.schemars_schema.specs.SchemaData.{members_in}
-use Rattle.schemars_schema.specs.Acceptance.{accepts}
+use Rattle.schemars_schema.proofs.Words.{object, as_object, members_view, members_in, accepts}
 use Rattle.schemars_schema.proofs.Switched.{accepts-members_in}
 use Rattle.schemars_schema.proofs.schema.Schema.ensure_object.Goals as goal
 

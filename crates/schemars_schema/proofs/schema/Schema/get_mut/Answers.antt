@@ -1,9 +1,6 @@
 -- A write to a member is a write to the object that has it.
 use Rattle.std.proofs.Common.{refl, sym, ap, ◌∙◌}
-use Rattle.serde_json.specs.Data.{object}
-use Rattle.serde_json.specs.View.{view, members_view}
-use Rattle.schemars_schema.specs.SchemaData.{members_in}
-use Rattle.schemars_schema.specs.Edits.{replaced}
+use Rattle.schemars_schema.proofs.Words.{object, view, members_view, members_in, replaced}
 use Rattle.schemars_schema.proofs.MapEdits.{when_some}
 use Rattle.schemars_schema.proofs.Containers.{object-as_object}
 use Rattle.schemars_schema.proofs.schema.Schema.get_mut.Goals as goal

@@ -1,5 +1,5 @@
 use Rattle.std.proofs.Common.{arith}
-use Rattle.std.proofs.lemmas.Grind.{common_steps}
+use Rattle.schemars_schema.proofs.Words.{common_steps}
 use Rattle.serde_json.specs.declared.value.Value.{the_lemmas}
 use Rattle.schemars_schema.proofs.schema.Schema.insert.Goals as goal
 

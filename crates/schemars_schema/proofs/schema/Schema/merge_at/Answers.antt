@@ -1,8 +1,6 @@
 -- What was put in is found again.
 use Rattle.std.proofs.Common.{◌≡◌, if◌then◌else◌, Some, None, IfOk, rules}
-use Rattle.serde_json.specs.Data.{object}
-use Rattle.serde_json.specs.View.{members_view}
-use Rattle.schemars_schema.specs.Placing.{placed_at}
+use Rattle.schemars_schema.proofs.Words.{object, members_view, placed_at}
 use Rattle.schemars_schema.proofs.PlacedFound.{found_there}
 use Rattle.schemars_schema.proofs.schema.Schema.merge_at.Goals as goal
 

@@ -1,8 +1,6 @@
 -- A pointer is a token and a pointer.
 use Rattle.std.proofs.Common.{Some, None, sym, ap, ◌∙◌, arith, option_map, option_and_then}
-use Rattle.std.specs.Cow.{cow_str_bytes}
-use Rattle.std.proofs.lemmas.Str.Pattern.{strip_prefix_char}
-use Rattle.serde_json.specs.Find.{get, pointer}
+use Rattle.schemars_schema.proofs.Words.{cow_str_bytes, strip_prefix_char, get, pointer}
 use Rattle.schemars_schema.proofs.Pointers.{inside-other, inside-first}
 use Rattle.schemars_schema.proofs.schema.Schema.pointer_mut.Goals as goal
 

@@ -1,9 +1,6 @@
 -- A pointer is a token and a pointer.
 use Rattle.std.proofs.Common.{Some, None, ◌<◌, length, sym, ap, ◌∙◌, arith, rules}
-use Rattle.std.proofs.lemmas.Str.Pattern.{strip_prefix_char}
-use Rattle.serde_json.specs.Data.{object}
-use Rattle.serde_json.specs.View.{view, members_view}
-use Rattle.serde_json.proofs.Views.{view-Object}
+use Rattle.schemars_schema.proofs.Words.{strip_prefix_char, object, view, members_view, view-Object}
 use Rattle.schemars_schema.proofs.Placings.{below_nothing, below_first, below_is_shorter, placed_nested}
 use Rattle.schemars_schema.proofs.schema.placing.+nested.Goals as goal
 

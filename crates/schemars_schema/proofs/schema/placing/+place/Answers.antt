@@ -1,11 +1,7 @@
 -- A pointer is a token and a pointer.
 use Rattle.std.proofs.Common.{Some, None, ◌<◌, length, sym, ap, ◌∙◌, arith, rules}
-use Rattle.std.proofs.lemmas.Str.Pattern.{strip_prefix_char}
-use Rattle.serde_json.specs.Data.{object}
-use Rattle.serde_json.specs.View.{view, members_view}
+use Rattle.schemars_schema.proofs.Words.{strip_prefix_char, object, view, members_view, view-Object, replaced}
 use Rattle.serde_json.specs.declared.value.Value.{Object}
-use Rattle.serde_json.proofs.Views.{view-Object}
-use Rattle.schemars_schema.specs.Edits.{replaced}
 use Rattle.schemars_schema.proofs.Containers.{object-as_object}
 use Rattle.schemars_schema.proofs.Placings.{below_nothing, below_first, below_is_shorter, placed_missing, placed_refused, placed_inside}
 use Rattle.schemars_schema.proofs.schema.placing.+place.Goals as goal

@@ -1,7 +1,6 @@
 -- What is still to be put in gives, with the members so far, what the whole gives with the members at the start.
 use Rattle.std.proofs.Common.{◌≡◌}
-use Rattle.serde_json.specs.View.{members_view}
-use Rattle.schemars_schema.specs.SchemaData.{put_members}
+use Rattle.schemars_schema.proofs.Words.{members_view, put_members}
 use Rattle.schemars_schema.proofs.schema.placing.put_members.Given as goal
 
 abbrev pub invariant-loop-key : goal.invariant-loop-key

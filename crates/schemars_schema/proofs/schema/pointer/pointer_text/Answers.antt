@@ -1,6 +1,6 @@
 -- A pointer without a `#` is its own text.
 use Rattle.std.proofs.Common.{None, arith}
-use Rattle.std.proofs.lemmas.Str.Pattern.{strip_prefix_char}
+use Rattle.schemars_schema.proofs.Words.{strip_prefix_char}
 use Rattle.schemars_schema.proofs.Pointers.{plain_text}
 use Rattle.schemars_schema.proofs.schema.pointer.pointer_text.Goals as goal
 

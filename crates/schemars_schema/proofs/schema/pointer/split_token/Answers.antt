@@ -1,6 +1,6 @@
 -- The first token ends before the first `/`.
 use Rattle.std.proofs.Common.{Some, None, arith}
-use Rattle.std.proofs.lemmas.Str.Pattern.{find_char}
+use Rattle.schemars_schema.proofs.Words.{find_char}
 use Rattle.schemars_schema.proofs.Pointers.{first_token_alone, first_token_before}
 use Rattle.schemars_schema.proofs.schema.pointer.split_token.Goals as goal
 

@@ -1,9 +1,6 @@
 -- What a `~` and the byte after it stand for.
 use Rattle.std.proofs.Common.{[], ◌∷◌, ◌++◌, Some, None, string_bytes, sym, ap, ◌∙◌, arith}
-use Rattle.std.proofs.lemmas.Str.Pattern.{split_parts, strip_prefix_char}
-use lib.Utf8.{encode}
-use Rattle.serde_json.specs.Find.{unescape}
-use Rattle.serde_json.proofs.Paths.{unescape_plain}
+use Rattle.schemars_schema.proofs.Words.{split_parts, strip_prefix_char, encode, unescape, unescape_plain}
 use Rattle.schemars_schema.proofs.Pointers.{unescape_over, unescape_tilde, unescape_slash, unescape_alone, utf8_after, key_goes_on}
 use Rattle.schemars_schema.proofs.schema.pointer.unescaped.Goals as goal
 

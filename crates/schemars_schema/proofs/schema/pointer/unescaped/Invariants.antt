@@ -1,8 +1,6 @@
 -- The key so far, and then what is left unescapes to, is the whole.
 use Rattle.std.proofs.Common.{◌≡◌, ◌++◌, length, string_bytes}
-use denote.Shadow.{shadow}
-use denote.Text.{Utf8}
-use Rattle.serde_json.specs.Find.{unescape}
+use Rattle.schemars_schema.proofs.Words.{shadow, Utf8, unescape}
 use Rattle.schemars_schema.proofs.schema.pointer.unescaped.Given as goal
 
 abbrev pub invariant-loop-before : goal.invariant-loop-before

@@ -1,11 +1,6 @@
 use Rattle.std.proofs.Common.{◌≡◌, List, [], ◌∷◌, Option, Some, None, String, string_bytes, MatchOption, IfOk, map, subst, inr}
 use Rattle.std.specs.Prelude.{bytes_eq}
-use Rattle.std.specs.List.{IsDistinct}
-use Rattle.std.specs.Global.{Global}
-use Rattle.std.proofs.lemmas.Result.{IfOk-weaker}
-use Rattle.schemars_schema.specs.Json.{Text}
-use Rattle.schemars_shapes.specs.Shape.{variant_of, variant_names}
-use Rattle.schemars_shapes.specs.Repeated.{IsRepeated, AreDistinctLists, IsFirstRepeated}
+use Rattle.schemars_shapes.proofs.Words.{IsDistinct, Global, IfOk-weaker, Text, variant_of, variant_names, IsRepeated, AreDistinctLists, IsFirstRepeated}
 use Rattle.schemars_shapes.proofs.edges.adjacent.repeated_name.Goals as goal
 
 behind : (names : List Text) (lists : List (List Text)) → IsDistinct bytes_eq names → (o : Option (String Global))

@@ -1,7 +1,5 @@
 use Rattle.std.proofs.Common.{◌∙◌, ℕ, List, map, nat_le, find, ap, sym}
-use Rattle.std.specs.Option.{option_or}
-use Rattle.std.proofs.lemmas.List.Folds.{find-append}
-use Rattle.schemars_shapes.specs.Shape.{field_of, fields_of, flattened_rows}
+use Rattle.schemars_shapes.proofs.Words.{option_or, find-append, field_of, fields_of, flattened_rows}
 use Rattle.schemars_shapes.proofs.edges.fields.first_unknown.Goals as goal
 
 pub returns-in-Some : goal.returns-in-Some

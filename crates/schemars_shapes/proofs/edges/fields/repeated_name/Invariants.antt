@@ -1,6 +1,6 @@
 -- The names before, and those of the fields that are left.
 use Rattle.std.proofs.Common.{◌≡◌, ◌++◌, map, drop}
-use Rattle.schemars_shapes.specs.Shape.{field_of}
+use Rattle.schemars_shapes.proofs.Words.{field_of}
 use Rattle.schemars_shapes.proofs.FieldRows.{now_of}
 use Rattle.schemars_shapes.proofs.edges.fields.repeated_name.Given as goal
 

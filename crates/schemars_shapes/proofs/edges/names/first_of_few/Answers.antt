@@ -1,8 +1,6 @@
 -- Each name is looked for among those before it.
 use Rattle.std.proofs.Common.{ℕ, Bor, List, [], map, refl, sym, subst}
-use Rattle.std.specs.List.{IsDistinct}
-use Rattle.schemars_schema.specs.Json.{Text}
-use Rattle.schemars_shapes.specs.Repeated.{IsRepeated}
+use Rattle.schemars_shapes.proofs.Words.{IsDistinct, Text, IsRepeated}
 use Rattle.schemars_shapes.proofs.FieldRows.{now_of, few_more, few_repeated}
 use Rattle.schemars_shapes.proofs.edges.names.first_of_few.Goals as goal
 

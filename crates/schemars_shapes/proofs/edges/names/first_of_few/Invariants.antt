@@ -1,7 +1,6 @@
 -- The names before differ.
 use Rattle.std.proofs.Common.{map, take}
-use Rattle.std.specs.List.{IsDistinct}
-use Rattle.std.specs.Str.{bytes_eq}
+use Rattle.schemars_shapes.proofs.Words.{IsDistinct, bytes_eq}
 use Rattle.schemars_shapes.proofs.FieldRows.{now_of}
 use Rattle.schemars_shapes.proofs.edges.names.first_of_few.Given as goal
 

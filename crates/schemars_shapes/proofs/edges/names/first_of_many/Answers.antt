@@ -1,9 +1,5 @@
 use Rattle.std.proofs.Common.{◌≡◌, ℕ, Bor, List, [], map, take, refl, sym, ap, subst, arith}
-use Rattle.std.specs.List.{IsDistinct}
-use Rattle.std.specs.Str.{bytes_eq}
-use Rattle.std.proofs.lemmas.List.{take_all}
-use Rattle.schemars_schema.specs.Json.{Text}
-use Rattle.schemars_shapes.specs.Repeated.{IsRepeated}
+use Rattle.schemars_shapes.proofs.Words.{IsDistinct, bytes_eq, take_all, Text, IsRepeated}
 use Rattle.schemars_shapes.proofs.FieldRows.{now_of, met_none, met_more, repeated_at, from_not_false, from_not_true}
 use Rattle.schemars_shapes.proofs.edges.names.first_of_many.Goals as goal
 

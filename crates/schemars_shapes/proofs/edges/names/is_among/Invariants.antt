@@ -1,7 +1,6 @@
 -- None of those before is the name.
 use Rattle.std.proofs.Common.{◌≡◌, false, take}
-use Rattle.std.specs.List.{list_any}
-use Rattle.std.specs.Str.{bytes_eq}
+use Rattle.schemars_shapes.proofs.Words.{list_any, bytes_eq}
 use Rattle.schemars_shapes.proofs.edges.names.is_among.Given as goal
 
 abbrev pub invariant-loop-other : goal.invariant-loop-other

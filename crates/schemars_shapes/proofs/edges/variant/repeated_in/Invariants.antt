@@ -1,10 +1,6 @@
 -- No name occurs twice among the variants, nor among the fields of one before; what is repeated behind is so in all.
 use Rattle.std.proofs.Common.{map, drop}
-use Rattle.std.specs.Str.{bytes_eq}
-use Rattle.std.specs.List.{IsDistinct}
-use Rattle.schemars_schema.specs.Json.{Text}
-use Rattle.schemars_shapes.specs.Shape.{payload_names}
-use Rattle.schemars_shapes.specs.Repeated.{AreDistinctLists, IsFirstRepeated}
+use Rattle.schemars_shapes.proofs.Words.{bytes_eq, IsDistinct, Text, payload_names, AreDistinctLists, IsFirstRepeated}
 use Rattle.schemars_shapes.proofs.edges.variant.repeated_in.Given as goal
 
 abbrev pub invariant-loop-variant : goal.invariant-loop-variant

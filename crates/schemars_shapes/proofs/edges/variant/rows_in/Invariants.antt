@@ -1,7 +1,6 @@
 -- The rows so far, and those of the variants that are left.
 use Rattle.std.proofs.Common.{◌≡◌, ◌++◌, map, drop}
-use Rattle.schemars_shapes.specs.Shape.{of_variants}
-use Rattle.schemars_shapes.specs.Rows.{payload_rows}
+use Rattle.schemars_shapes.proofs.Words.{of_variants, payload_rows}
 use Rattle.schemars_shapes.proofs.edges.variant.rows_in.Given as goal
 
 abbrev pub invariant-loop-variant : goal.invariant-loop-variant

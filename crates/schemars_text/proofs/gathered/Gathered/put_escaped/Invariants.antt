@@ -1,7 +1,6 @@
 -- What was written and the escape of the rest make that of the whole.
 use Rattle.std.proofs.Common.{◌≡◌, ◌++◌, ℕ, List, length}
-use Rattle.json.specs.Print.{escape}
-use Rattle.schemars_text.specs.Gathered.{AddsText}
+use Rattle.schemars_text.proofs.Words.{escape, AddsText}
 use Rattle.schemars_text.proofs.gathered.Gathered.put_escaped.Given as goal
 
 abbrev pub invariant-loop-rest : goal.invariant-loop-rest

@@ -1,11 +1,6 @@
 -- A comma where one is due, and the digits.
 use Rattle.std.proofs.Common.{◌≡◌, Bool, List, ℕ, ◌&&◌, true, None, cond, rules, ◌∷◌, [], ◌++◌, refl, sym, ap, ap₂, ◌∙◌}
-use Rattle.std.specs.Fmt.{signed_decimal}
-use Rattle.json.specs.Token.{number}
-use Rattle.serde_json.specs.Find.{as_u64, as_i64}
-use Rattle.serde_json.specs.View.{number_view}
-use Rattle.serde_json.specs.Written.{number_text}
-use Rattle.schemars_text.specs.Output.{with_token}
+use Rattle.schemars_text.proofs.Words.{signed_decimal, number, as_u64, as_i64, number_view, number_text, with_token}
 use Rattle.schemars_text.proofs.Becomings.{adds_then, gathered_same}
 use Rattle.schemars_text.proofs.Outputs.{number_text_of_u64, number_text_of_i64, whole_or_float}
 use Rattle.schemars_text.proofs.gathered.GatheredTarget.number.Goals as goal

@@ -1,8 +1,6 @@
 -- A comma where one is due, and the token's text.
 use Rattle.std.proofs.Common.{Bool, List, ℕ, ◌&&◌, cond, ◌∷◌, [], ◌++◌, refl, ap, ap₂}
-use Rattle.json.specs.Print.{token_text}
-use Rattle.json.specs.Reads.{token_of}
-use Rattle.schemars_text.specs.Output.{with_token}
+use Rattle.schemars_text.proofs.Words.{token_text, token_of, with_token}
 use Rattle.schemars_text.proofs.Becomings.{adds_then, gathered_same}
 use Rattle.schemars_text.proofs.gathered.GatheredTarget.token.Goals as goal
 

@@ -1,7 +1,6 @@
 -- One token more, unless memory ran out.
 use Rattle.std.proofs.Common.{refl, ap, ◌∙◌}
-use Rattle.json.specs.Reads.{token_of}
-use Rattle.schemars_text.specs.Output.{Output, with_token}
+use Rattle.schemars_text.proofs.Words.{token_of, Output, with_token}
 use Rattle.schemars_text.proofs.Becomings.{neither}
 use Rattle.schemars_text.proofs.memory.InMemoryTargetUnit.token.Goals as goal
 

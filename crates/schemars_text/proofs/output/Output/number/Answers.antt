@@ -1,7 +1,6 @@
 -- A whole number's digits are its text.
 use Rattle.std.proofs.Common.{◌≡◌, ◌++◌, ◌∷◌, [], sym, rules}
-use Rattle.std.specs.Fmt.{signed_decimal}
-use Rattle.json.specs.Token.{number}
+use Rattle.schemars_text.proofs.Words.{signed_decimal, number}
 use Rattle.schemars_text.proofs.Outputs.{output_of_push, number_text_of_u64, number_text_of_i64}
 use Rattle.schemars_text.proofs.output.Output.number.Goals as goal
 

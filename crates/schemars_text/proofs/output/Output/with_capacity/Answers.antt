@@ -1,6 +1,6 @@
 -- No token gives no text.
 use Rattle.std.proofs.Common.{ap}
-use Rattle.json.specs.Print.{print_from}
+use Rattle.schemars_text.proofs.Words.{print_from}
 use Rattle.schemars_text.proofs.Outputs.{output_of}
 use Rattle.schemars_text.proofs.output.Output.with_capacity.Goals as goal
 

@@ -1,9 +1,6 @@
 -- One number more, unless memory ran out.
 use Rattle.std.proofs.Common.{refl, ap, ◌∙◌}
-use Rattle.json.specs.Token.{number}
-use Rattle.serde_json.specs.View.{number_view}
-use Rattle.serde_json.specs.Written.{number_text}
-use Rattle.schemars_text.specs.Output.{Output, with_token}
+use Rattle.schemars_text.proofs.Words.{number, number_view, number_text, Output, with_token}
 use Rattle.schemars_text.proofs.Becomings.{neither}
 use Rattle.schemars_text.proofs.output.OutputTargetOptionAllocError.number.Goals as goal
 

@@ -1,7 +1,6 @@
 -- The text is that of what was written.
 use Rattle.std.proofs.Common.{None, ap, ◌∙◌}
-use Rattle.std.proofs.lemmas.Result.{IfOk-weaker}
-use Rattle.schemars_text.specs.Output.{Output}
+use Rattle.schemars_text.proofs.Words.{IfOk-weaker, Output}
 use Rattle.schemars_text.proofs.writing.Document.to_text.Goals as goal
 
 pub returns-clause-ordered : goal.returns-clause-ordered

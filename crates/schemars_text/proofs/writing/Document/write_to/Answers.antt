@@ -1,6 +1,6 @@
 -- What was written is in the sink, or a beginning of it.
 use Rattle.std.proofs.Common.{ap, [], false}
-use Rattle.schemars_text.specs.Output.{Output}
+use Rattle.schemars_text.proofs.Words.{Output}
 use Rattle.schemars_text.proofs.Becomings.{gathers_none}
 use Rattle.schemars_text.proofs.writing.Document.write_to.Goals as goal
 

@@ -1,7 +1,6 @@
 -- The rewrite needs to know of the restriction nothing but the draft and the formats.
 use Rattle.std.proofs.Common.{refl, ◌∙◌}
-use Rattle.std.proofs.lemmas.Result.{on_ok_weaker}
-use Rattle.schemars_transform.specs.Formats.{format_rules, restriction_rules}
+use Rattle.schemars_transform.proofs.Words.{on_ok_weaker, format_rules, restriction_rules}
 use Rattle.schemars_transform.proofs.Through.{same_rewritten}
 use Rattle.schemars_transform.proofs.built_in.formats.restrict.Goals as goal
 

@@ -1,5 +1,4 @@
-use Rattle.serde_json.specs.View.{view}
-use Rattle.schemars_schema.proofs.MapEdits.{on_some}
+use Rattle.schemars_transform.proofs.Words.{view, on_some}
 use Rattle.schemars_transform.proofs.Items.{items_changed}
 use Rattle.schemars_transform.proofs.built_in.inner.apply_inner_validation.Goals as goal
 

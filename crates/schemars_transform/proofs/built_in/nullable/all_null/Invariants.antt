@@ -1,6 +1,5 @@
 use Rattle.std.proofs.Common.{◌≡◌, drop}
-use Rattle.serde_json.specs.View.{items_view}
-use Rattle.schemars_transform.specs.Nullable.{all_null}
+use Rattle.schemars_transform.proofs.Words.{items_view, all_null}
 use Rattle.schemars_transform.proofs.built_in.nullable.all_null.Given as goal
 
 abbrev pub invariant-loop-name : goal.invariant-loop-name

@@ -1,6 +1,6 @@
 -- A list of no name, or of several, stays a list.
 use Rattle.std.proofs.Common.{◌∙◌, arith}
-use Rattle.serde_json.proofs.Views.{view-Array}
+use Rattle.schemars_transform.proofs.Words.{view-Array}
 use Rattle.schemars_transform.proofs.Names.{not_one}
 use Rattle.schemars_transform.proofs.built_in.nullable.one_or_list.Goals as goal
 

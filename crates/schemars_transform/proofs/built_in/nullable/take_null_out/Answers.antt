@@ -1,6 +1,5 @@
 -- The type, without null, goes back where it stood.
-use Rattle.serde_json.specs.View.{view}
-use Rattle.schemars_schema.proofs.MapEdits.{on_some}
+use Rattle.schemars_transform.proofs.Words.{view, on_some}
 use Rattle.schemars_transform.proofs.Names.{type_changed}
 use Rattle.schemars_transform.proofs.built_in.nullable.take_null_out.Goals as goal
 

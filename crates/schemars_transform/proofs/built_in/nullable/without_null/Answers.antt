@@ -1,8 +1,6 @@
 -- The names that stay are those that are not null.
 use Rattle.std.proofs.Common.{ap, ◌∙◌, not, rules}
-use Rattle.std.proofs.lemmas.Fn.{filter_same}
-use Rattle.serde_json.specs.View.{view, items_view}
-use Rattle.schemars_transform.specs.Nullable.{is_null_name}
+use Rattle.schemars_transform.proofs.Words.{filter_same, view, items_view, is_null_name}
 use Rattle.schemars_transform.proofs.Names.{without_null-filter}
 use Rattle.schemars_transform.proofs.built_in.nullable.without_null.Goals as goal
 

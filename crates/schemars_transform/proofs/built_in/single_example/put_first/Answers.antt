@@ -1,9 +1,6 @@
 -- The first of the examples is the first item of the list.
 use Rattle.std.proofs.Common.{Some, sym, ap, ◌∙◌}
-use Rattle.serde_json.specs.Data.{array}
-use Rattle.serde_json.specs.View.{view, items_view}
-use Rattle.serde_json.proofs.Views.{view-Array}
-use Rattle.schemars_transform.specs.Built.{first_as_example}
+use Rattle.schemars_transform.proofs.Words.{array, view, items_view, view-Array, first_as_example}
 use Rattle.schemars_transform.proofs.built_in.single_example.put_first.Goals as goal
 
 pub returns-in_ok-_old : goal.returns-in_ok-_old

@@ -1,8 +1,6 @@
 -- What each schema of a list adds.
 use Rattle.std.proofs.Common.{◌<◌, length, arith}
-use Rattle.serde_json.specs.View.{members_view, items_view}
-use Rattle.schemars_text.proofs.Lists.{items_shallow}
-use Rattle.schemars_transform.specs.Unevaluated.{with_names, names_in_items}
+use Rattle.schemars_transform.proofs.Words.{members_view, items_view, items_shallow, with_names, names_in_items}
 use Rattle.schemars_transform.proofs.Gathering.{items_turn, items_end}
 use Rattle.schemars_transform.proofs.built_in.unevaluated.+names.Goals as goal
 

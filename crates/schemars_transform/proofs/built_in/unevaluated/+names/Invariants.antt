@@ -1,8 +1,6 @@
 -- The names in what is left, with those put in so far, are the names in the whole.
 use Rattle.std.proofs.Common.{◌≡◌, ◌+◌, ◌*◌, ◌≤◌, drop}
-use Rattle.serde_json.specs.Data.{depth, items_depth, members_depth}
-use Rattle.serde_json.specs.View.{view, items_view, members_view}
-use Rattle.schemars_transform.specs.Unevaluated.{names_in_items, names_in_keywords, with_names}
+use Rattle.schemars_transform.proofs.Words.{depth, items_depth, members_depth, view, items_view, members_view, names_in_items, names_in_keywords, with_names}
 use Rattle.schemars_transform.proofs.built_in.unevaluated.+names.Given as goal
 
 abbrev pub decreases-add_names : goal.decreases-add_names

@@ -1,6 +1,5 @@
 use Rattle.std.proofs.Common.{◌≡◌}
-use Rattle.serde_json.specs.View.{members_view}
-use Rattle.schemars_transform.specs.Unevaluated.{keys, with_names}
+use Rattle.schemars_transform.proofs.Words.{members_view, keys, with_names}
 use Rattle.schemars_transform.proofs.built_in.unevaluated.add_each.Given as goal
 
 abbrev pub invariant-loop-key : goal.invariant-loop-key

@@ -1,12 +1,7 @@
 -- Where there is a name, the object of the names is not empty.
 use Rattle.std.proofs.Common.{ap, ◌∙◌}
-use Rattle.serde_json.specs.Data.{no_members}
-use Rattle.serde_json.specs.View.{members_view}
-use Rattle.serde_json.proofs.Views.{view-Object}
-use Rattle.schemars_schema.specs.SchemaData.{inserted}
-use Rattle.schemars_transform.specs.Unevaluated.{with_names, names_in}
+use Rattle.schemars_transform.proofs.Words.{no_members, members_view, view-Object, inserted, with_names, names_in, codes}
 use Rattle.schemars_transform.proofs.Gathering.{made}
-use Rattle.std.specs.Prelude.{codes}
 use Rattle.schemars_transform.proofs.built_in.unevaluated.make_properties.Goals as goal
 
 pub returns : goal.returns

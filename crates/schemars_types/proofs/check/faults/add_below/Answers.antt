@@ -1,5 +1,5 @@
 use Rattle.std.proofs.Common.{◌≡◌, ◌∙◌, ◌+◌, ◌-◌, ◌++◌, suc, length, ap, sym, append-nil, arith}
-use Rattle.schemars_types.specs.Edges.{below, below_within}
+use Rattle.schemars_types.proofs.Words.{below, below_within}
 use Rattle.schemars_types.proofs.EdgeLemmas.{below_joins, none_joins}
 use Rattle.schemars_types.proofs.check.faults.add_below.Goals as goal
 

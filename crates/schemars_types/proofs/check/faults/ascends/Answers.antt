@@ -1,5 +1,5 @@
 use Rattle.std.proofs.Common.{arith}
-use Rattle.std.proofs.lemmas.Bool.{OnTrue_at}
+use Rattle.schemars_types.proofs.Words.{OnTrue_at}
 use Rattle.schemars_types.proofs.Ascending.{ascends_more, ascends_all}
 use Rattle.schemars_types.proofs.check.faults.ascends.Goals as goal
 

@@ -1,7 +1,6 @@
 -- What the shape asks itself, and the rows below what it flattens.
 use Rattle.std.proofs.Common.{◌++◌, ◌∙◌, ap}
-use Rattle.schemars_shapes.specs.Shape.{shape_of, asked_numbers}
-use Rattle.schemars_types.specs.Edges.{below_all}
+use Rattle.schemars_types.proofs.Words.{shape_of, asked_numbers, below_all}
 use Rattle.schemars_types.proofs.check.faults.asked.Goals as goal
 
 pub loop-n-init : goal.loop-n-init

@@ -1,7 +1,6 @@
 -- The rows so far, and those below the rows that are left.
 use Rattle.std.proofs.Common.{◌≡◌, ◌++◌, drop}
-use Rattle.schemars_shapes.specs.Shape.{shape_of}
-use Rattle.schemars_types.specs.Edges.{below_all, asked_in}
+use Rattle.schemars_types.proofs.Words.{shape_of, below_all, asked_in}
 use Rattle.schemars_types.proofs.check.faults.asked.Given as goal
 
 abbrev pub invariant-loop-n : goal.invariant-loop-n

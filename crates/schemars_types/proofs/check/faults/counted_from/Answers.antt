@@ -1,7 +1,6 @@
 -- What the closure keeps, counted from there.
 use Rattle.std.proofs.Common.{◌≡◌, ◌-◌, ◌∙◌, length, map, filter, nat_le, ap, rules, arith}
-use Rattle.std.proofs.lemmas.Fn.{filter_same}
-use Rattle.std.proofs.lemmas.List.{with_items_is}
+use Rattle.schemars_types.proofs.Words.{filter_same, with_items_is}
 use Rattle.schemars_types.proofs.check.faults.counted_from.Goals as goal
 
 pub returns : goal.returns

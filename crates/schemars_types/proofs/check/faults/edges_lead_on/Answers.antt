@@ -1,6 +1,5 @@
 use Rattle.std.proofs.Common.{ℕ, List, All, ◌∙◌, subst}
-use Rattle.std.specs.Bool.{OnTrue}
-use Rattle.schemars_types.specs.EdgeKind.{LeadsOn}
+use Rattle.schemars_types.proofs.Words.{OnTrue, LeadsOn}
 use Rattle.schemars_types.proofs.Ascending.{all_nowhere}
 use Rattle.schemars_types.proofs.check.faults.edges_lead_on.Goals as goal
 

@@ -1,8 +1,5 @@
 use Rattle.std.proofs.Common.{sym, subst, arith}
-use Rattle.std.proofs.lemmas.Bool.{OnTrue_at}
-use Rattle.std.proofs.lemmas.Option.{MatchOption-at_some, MatchOption-at_none}
-use Rattle.schemars_types.specs.Search.{Graph, IsClosed, targets_in}
-use Rattle.schemars_types.specs.Walks.{Leads, OnCycle, IsFree, IsLeast}
+use Rattle.schemars_types.proofs.Words.{OnTrue_at, MatchOption-at_some, MatchOption-at_none, Graph, IsClosed, targets_in, Leads, OnCycle, IsFree, IsLeast}
 use Rattle.schemars_types.proofs.Ascending.{free_from_ascending}
 use Rattle.schemars_types.proofs.EdgeLemmas.{graph_closed, found_within, none_on_cycle, least_on_cycle}
 use Rattle.schemars_types.proofs.check.faults.first_on_cycle.Goals as goal

@@ -1,5 +1,5 @@
 use Rattle.std.proofs.Common.{arith}
-use Rattle.std.proofs.lemmas.Option.{MatchOption-at_some}
+use Rattle.schemars_types.proofs.Words.{MatchOption-at_some}
 use Rattle.schemars_types.proofs.Names.{differ_past}
 use Rattle.schemars_types.proofs.check.faults.first_repeated.Goals as goal
 

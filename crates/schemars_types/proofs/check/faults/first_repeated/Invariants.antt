@@ -1,7 +1,6 @@
 -- In the rows from the first on and before the next the names differ.
 use Rattle.std.proofs.Common.{ℕ, ◌<◌, ◌≤◌}
-use Rattle.schemars_shapes.specs.Repeated.{AreDistinctLists}
-use Rattle.schemars_types.specs.Edges.{names_at}
+use Rattle.schemars_types.proofs.Words.{AreDistinctLists, names_at}
 use Rattle.schemars_types.proofs.check.faults.first_repeated.Given as goal
 
 abbrev pub invariant-loop-n : goal.invariant-loop-n

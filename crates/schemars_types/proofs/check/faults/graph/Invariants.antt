@@ -1,5 +1,5 @@
 -- The rows before have their targets.
-use Rattle.schemars_types.specs.Search.{HasTargets}
+use Rattle.schemars_types.specs.LaterRows.{HasTargets}
 use Rattle.schemars_types.specs.EdgeKind.{targets_from}
 use Rattle.schemars_types.proofs.check.faults.graph.Given as goal
 

@@ -1,6 +1,5 @@
 use Rattle.std.proofs.Common.{inl, inr, arith}
-use Rattle.std.proofs.lemmas.Bool.{OnTrue_at, OnTrue_from}
-use Rattle.schemars_types.specs.EdgeKind.{LeadsOn}
+use Rattle.schemars_types.proofs.Words.{OnTrue_at, OnTrue_from, LeadsOn}
 use Rattle.schemars_types.proofs.check.faults.leads_on.Goals as goal
 
 pub returns-then-m-from : goal.returns-then-m-from

@@ -1,6 +1,5 @@
 use Rattle.std.proofs.Common.{[], ap, sym}
-use Rattle.std.specs.Option.{option_map_or}
-use Rattle.schemars_shapes.specs.Shape.{Entry, shape_of, numbers_of}
+use Rattle.schemars_types.proofs.Words.{option_map_or, Entry, shape_of, numbers_of}
 use Rattle.schemars_types.proofs.Ascending.{none_if}
 use Rattle.schemars_types.proofs.check.faults.refers_to_none.Goals as goal
 

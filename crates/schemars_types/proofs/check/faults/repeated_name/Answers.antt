@@ -1,9 +1,6 @@
 -- The names of a row are those of its entry, and a row without one has none.
 use Rattle.std.proofs.Common.{List, [], sym, ap, subst, string_bytes, IfOk}
-use Rattle.std.specs.Option.{MatchOption, option_map_or}
-use Rattle.schemars_schema.specs.Json.{Text}
-use Rattle.schemars_shapes.specs.Repeated.{AreDistinctLists, IsFirstRepeated}
-use Rattle.schemars_shapes.specs.Shape.{Entry, names_of}
+use Rattle.schemars_types.proofs.Words.{MatchOption, option_map_or, Text, AreDistinctLists, IsFirstRepeated, Entry, names_of}
 use Rattle.schemars_types.proofs.Names.{differ_undefined}
 use Rattle.schemars_types.proofs.check.faults.repeated_name.Goals as goal
 

@@ -1,7 +1,5 @@
 use Rattle.std.proofs.Common.{◌∙◌, ap, codes}
-use Rattle.serde_json.specs.Data.{string}
-use Rattle.schemars_schema.specs.SchemaData.{inserted}
-use Rattle.schemars_types.specs.Version.{version_pattern}
+use Rattle.schemars_types.proofs.Words.{string, inserted, version_pattern}
 use Rattle.schemars_types.proofs.constructors.scalars.version_schema.Goals as goal
 
 pub returns : goal.returns

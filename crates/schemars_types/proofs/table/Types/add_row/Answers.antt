@@ -1,7 +1,5 @@
 use Rattle.std.proofs.Common.{◌≡◌, Some, map, string_bytes, ap, ◌∙◌, sym, subst}
-use Rattle.schemars_types.specs.Rows.{place_of, reserved}
-use Rattle.schemars_types.specs.Edges.{RefersWithin}
-use Rattle.schemars_types.specs.Slots.{row_of}
+use Rattle.schemars_types.proofs.Words.{place_of, reserved, RefersWithin, row_of}
 use Rattle.schemars_types.proofs.TableLemmas.{insert_entry-reserved, place_of-reserved}
 use Rattle.schemars_types.proofs.Within.{within_reserved}
 use Rattle.schemars_types.proofs.table.Types.add_row.Goals as goal

@@ -1,6 +1,6 @@
 -- Equal rows are the same row.
 use Rattle.std.proofs.Common.{◌≡◌, sym, ◌∙◌, rules}
-use Rattle.schemars_types.specs.Extends.{begins_with}
+use Rattle.schemars_types.proofs.Words.{begins_with}
 use Rattle.schemars_types.proofs.Extensions.{begins-same, begins-first}
 use Rattle.schemars_types.proofs.table.Types.begins_with.Goals as goal
 

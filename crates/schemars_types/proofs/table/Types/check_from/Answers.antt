@@ -1,9 +1,5 @@
 use Rattle.std.proofs.Common.{inr, string_bytes}
-use Rattle.std.proofs.lemmas.Option.{MatchOption-at_some, MatchOption-at_none}
-use Rattle.schemars_types.specs.Walks.{IsLeast}
-use Rattle.schemars_shapes.specs.Repeated.{IsFirstRepeated}
-use Rattle.schemars_types.specs.Edges.{names_at}
-use Rattle.schemars_types.specs.Faults.{IsUndefined, HasRepeated, OnDirectCycle, OnEmptyCycle}
+use Rattle.schemars_types.proofs.Words.{MatchOption-at_some, MatchOption-at_none, IsLeast, IsFirstRepeated, names_at, IsUndefined, HasRepeated, OnDirectCycle, OnEmptyCycle}
 use Rattle.schemars_types.proofs.Accepted.{checked}
 use Rattle.schemars_types.proofs.Further.{all_defined, least_undefined, none_repeated_from, least_repeated_from, direct_cycles_from, empty_cycles_from}
 use Rattle.schemars_types.proofs.table.Types.check_from.Goals as goal

@@ -1,9 +1,6 @@
 use Rattle.std.proofs.Common.{◌≡◌, true, Some, ap, ◌∙◌, sym, rules}
-use Rattle.schemars_shapes.specs.Shape.{entry_of}
-use Rattle.schemars_shapes.specs.Equality.{entry_eq}
-use Rattle.schemars_types.specs.Rows.{entry_at}
+use Rattle.schemars_types.proofs.Words.{entry_of, entry_eq, entry_at, same_entry}
 use Rattle.schemars_types.proofs.TableLemmas.{defined-same}
-use Rattle.schemars_shapes.proofs.EqualEntries.{same_entry}
 use Rattle.schemars_types.proofs.table.Types.define.Goals as goal
 
 pub returns-in-Some-entry-clause-ok : goal.returns-in-Some-entry-clause-ok

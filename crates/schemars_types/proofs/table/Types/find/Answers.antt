@@ -1,5 +1,5 @@
 use Rattle.std.proofs.Common.{ap, ◌∙◌}
-use Rattle.schemars_types.specs.Rows.{place_of}
+use Rattle.schemars_types.proofs.Words.{place_of}
 use Rattle.schemars_types.proofs.TableLemmas.{position-keys_of}
 use Rattle.schemars_types.proofs.table.Types.find.Goals as goal
 

@@ -1,6 +1,5 @@
 use Rattle.std.proofs.Common.{arith, subst}
-use Rattle.std.proofs.lemmas.Grind.{common_steps}
-use Rattle.schemars_types.specs.Rows.{HasDistinctIds}
+use Rattle.schemars_types.proofs.Words.{common_steps, HasDistinctIds}
 use Rattle.schemars_types.proofs.TableLemmas.{ids_distinct}
 use Rattle.schemars_types.proofs.table.Types.len.Goals as goal
 

@@ -1,8 +1,6 @@
 -- Which of the two forms a name has, by the id of the keys.
 use Rattle.std.proofs.Common.{refl, ◌≡◌, ◌∙◌, ℕ, zero, suc, List, [], ◌∷◌, true, false, ap, sym, nat_le, length, arith}
-use Rattle.std.proofs.lemmas.Bool.Decides.{nat_tests}
-use Rattle.schemars_types.specs.Names.{is_text_id}
-use Rattle.schemars_types.specs.Rows.{Row, id_at}
+use Rattle.schemars_types.proofs.Words.{nat_tests, is_text_id, Row, id_at}
 use Rattle.schemars_types.proofs.table.Types.map.Goals as goal
 
 -- a row with an id of texts is a row of the table

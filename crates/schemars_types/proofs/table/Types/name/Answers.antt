@@ -1,6 +1,5 @@
 use Rattle.std.proofs.Common.{◌≡◌, ap, ◌∙◌, sym, option_map, slice_get, rules}
-use Rattle.std.proofs.lemmas.Option.{slice_get-map}
-use Rattle.schemars_types.specs.Slots.{row_of}
+use Rattle.schemars_types.proofs.Words.{slice_get-map, row_of}
 use Rattle.schemars_types.proofs.table.Types.name.Goals as goal
 
 pub returns : goal.returns

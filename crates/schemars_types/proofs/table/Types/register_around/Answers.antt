@@ -1,7 +1,5 @@
 use Rattle.std.proofs.Common.{◌≡◌, ◌<◌, ℕ, List, [], ◌∷◌, true, Some, None, find, nat_le, length, ◌∙◌, subst, arith}
-use Rattle.std.proofs.lemmas.Bool.Decides.{nat_tests}
-use Rattle.std.proofs.lemmas.Result.{err_from_is_err_and}
-use Rattle.schemars_types.specs.Rows.{Row}
+use Rattle.schemars_types.proofs.Words.{nat_tests, err_from_is_err_and, Row}
 use Rattle.schemars_types.proofs.Registered.{nat_le-above}
 use Rattle.schemars_types.proofs.table.Types.register_around.Goals as goal
 

@@ -1,5 +1,4 @@
-use Rattle.std.proofs.lemmas.Result.{err_from_is_err_and}
-use Rattle.schemars_shapes.specs.Shape.{shape_of}
+use Rattle.schemars_types.proofs.Words.{err_from_is_err_and, shape_of}
 use Rattle.schemars_types.proofs.Registered.{unknown_among}
 use Rattle.schemars_types.proofs.table.Types.register_pair.Goals as goal
 

@@ -1,8 +1,5 @@
 use Rattle.std.proofs.Common.{◌≡◌, None, Some, string_bytes, ap, ◌∙◌, sym}
-use Rattle.std.proofs.lemmas.Result.{err_from_is_err_and}
-use Rattle.schemars_shapes.specs.Shape.{Entry, shape_of, without_notes}
-use Rattle.schemars_types.specs.Rows.{place_of, reserved, defined}
-use Rattle.schemars_types.specs.Refusals.{Refuses, refusal_of}
+use Rattle.schemars_types.proofs.Words.{err_from_is_err_and, Entry, shape_of, without_notes, place_of, reserved, defined, Refuses, refusal_of}
 use Rattle.schemars_types.proofs.TableLemmas.{place_of-defined}
 use Rattle.schemars_types.proofs.Registered.{refused-reserved, free-reserved}
 use Rattle.schemars_types.proofs.table.Types.register_row.Goals as goal

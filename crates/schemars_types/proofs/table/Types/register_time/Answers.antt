@@ -1,9 +1,5 @@
 use Rattle.std.proofs.Common.{◌≡◌, false, ap, ◌∙◌, subst, IfErr}
-use Rattle.std.proofs.lemmas.Result.{err_from_is_err_and}
-use Rattle.schemars_shapes.specs.Shape.{Fields, struct, without_notes}
-use Rattle.schemars_types.specs.Rows.{unknown_in}
-use Rattle.schemars_types.specs.Refusals.{Refuses}
-use Rattle.schemars_types.specs.Times.{refuses_u32, refuses_time}
+use Rattle.schemars_types.proofs.Words.{err_from_is_err_and, Fields, struct, without_notes, unknown_in, Refuses, refuses_u32, refuses_time}
 use Rattle.schemars_types.proofs.Times.{time_known, time_refused}
 use Rattle.schemars_types.proofs.table.Types.register_time.Goals as goal
 

@@ -1,8 +1,5 @@
 use Rattle.std.proofs.Common.{◌≡◌, Some, slice_get, ap, ◌∙◌, sym, subst, rules}
-use Rattle.std.specs.Map.{values_of}
-use Rattle.schemars_shapes.specs.Shape.{entry_of}
-use Rattle.schemars_types.specs.Rows.{defined}
-use Rattle.schemars_types.specs.Edges.{RefersWithin}
+use Rattle.schemars_types.proofs.Words.{values_of, entry_of, defined, RefersWithin}
 use Rattle.schemars_types.proofs.TableLemmas.{map-set_value_at}
 use Rattle.schemars_types.proofs.Within.{within_defined}
 use Rattle.schemars_types.proofs.table.Types.set_entry.Goals as goal

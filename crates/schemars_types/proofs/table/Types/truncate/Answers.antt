@@ -1,8 +1,6 @@
 -- The first rows, in the words of slots.
 use Rattle.std.proofs.Common.{◌∙◌, ap, sym, subst, take, map}
-use Rattle.std.proofs.lemmas.List.{take-map}
-use Rattle.schemars_types.specs.Edges.{RefersWithin}
-use Rattle.schemars_types.specs.Slots.{row_of}
+use Rattle.schemars_types.proofs.Words.{take-map, RefersWithin, row_of}
 use Rattle.schemars_types.proofs.table.Types.truncate.Goals as goal
 
 pub invariant_of-self : goal.invariant_of-self

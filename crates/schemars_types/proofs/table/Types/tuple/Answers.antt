@@ -1,13 +1,7 @@
 -- Without parts it has texts of its own, and else they are of its parts.
 use Rattle.std.proofs.Common.{◌≡◌, ℕ, ◌==◌, List, [], ◌∷◌, ◌++◌, true, false, length, map, ap, ◌∙◌, sym, refl, arith, codes, string_bytes}
-use Rattle.std.specs.List.{join_by}
-use Rattle.std.proofs.lemmas.Bool.Decides.{nat_tests}
-use Rattle.std.proofs.lemmas.Result.{err_from_is_err_and}
-use Rattle.schemars_shapes.specs.Shape.{tuple}
-use Rattle.schemars_types.specs.Names.{tuple_id, tuple_name}
-use Rattle.schemars_types.specs.Rows.{Row, id_at, name_at, unknown_in}
+use Rattle.schemars_types.proofs.Words.{join_by, nat_tests, err_from_is_err_and, tuple, tuple_id, tuple_name, Row, id_at, name_at, unknown_in, Text}
 use Rattle.schemars_types.proofs.Registered.{unknown_among}
-use Rattle.schemars_schema.specs.Json.{Text}
 use Rattle.schemars_types.proofs.table.Types.tuple.Goals as goal
 
 no_parts : (ns : List ℕ) → (length ns == 0) ≡ true → ns ≡ []

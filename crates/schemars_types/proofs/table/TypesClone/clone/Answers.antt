@@ -1,5 +1,5 @@
 use Rattle.std.proofs.Common.{◌∙◌, sym, subst}
-use Rattle.schemars_types.specs.Edges.{RefersWithin}
+use Rattle.schemars_types.proofs.Words.{RefersWithin}
 use Rattle.schemars_types.proofs.Copies.{map-row_of-copied}
 use Rattle.schemars_types.proofs.table.TypesClone.clone.Goals as goal
 

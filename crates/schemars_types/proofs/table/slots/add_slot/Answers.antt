@@ -1,6 +1,5 @@
 use Rattle.std.proofs.Common.{◌≡◌, rules}
-use Rattle.std.specs.String.{string_eq}
-use Rattle.indexmap.specs.IndexMap.{insert_entry}
+use Rattle.schemars_types.proofs.Words.{string_eq, insert_entry}
 use Rattle.schemars_types.proofs.table.slots.add_slot.Goals as goal
 
 pub returns-clause-ok : goal.returns-clause-ok

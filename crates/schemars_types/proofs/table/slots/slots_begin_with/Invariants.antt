@@ -1,7 +1,6 @@
 -- How far the slots have been compared.
 use Rattle.std.proofs.Common.{◌≡◌, map}
-use Rattle.schemars_types.specs.Slots.{row_of}
-use Rattle.schemars_types.specs.Extends.{begins_with}
+use Rattle.schemars_types.proofs.Words.{row_of, begins_with}
 use Rattle.schemars_types.proofs.table.slots.slots_begin_with.Given as goal
 
 abbrev pub invariant-loop-id : goal.invariant-loop-id

@@ -1,7 +1,5 @@
 use Rattle.std.proofs.Common.{◌≡◌, ◌++◌, ◌∙◌, map, ap, subst, IfOk, string_bytes, rules, codes}
-use Rattle.std.specs.List.{join_by}
-use Rattle.schemars_schema.specs.Json.{Text}
-use Rattle.schemars_types.specs.Rows.{id_at}
+use Rattle.schemars_types.proofs.Words.{join_by, Text, id_at}
 use Rattle.schemars_types.proofs.Joined.{all_joined}
 use Rattle.schemars_types.proofs.table.texts.tuple_id.Goals as goal
 

@@ -1,11 +1,6 @@
 -- What stands in the document decides.
 use Rattle.std.proofs.Common.{rules, ◌≡◌, ◌∙◌, [], ap}
-use Rattle.std.proofs.lemmas.Result.{err_from_is_err_and}
-use Rattle.serde_json.specs.View.{view}
-use Rattle.schemars_validator.specs.Standing.{standing}
-use Rattle.schemars_validator.specs.Unread.{told, with_new, unread_of}
-use Rattle.schemars_validator.specs.Expressions.{asked_of, named, patterns_of, with_patterns, IsRefusalAmong}
-use Rattle.schemars_validator.proofs.Refusing.{told_each, told_only, is_read, are_expressions, is_refusal}
+use Rattle.schemars_validator.proofs.Words.{err_from_is_err_and, view, standing, told, with_new, unread_of, asked_of, named, patterns_of, with_patterns, IsRefusalAmong, told_each, told_only, is_read, are_expressions, is_refusal}
 use Rattle.schemars_validator.proofs.validator.Validator.new.Goals as goal
 
 pub returns-then-not-is_empty-clause-refused : goal.returns-then-not-is_empty-clause-refused

@@ -1,8 +1,6 @@
 -- What each call of a member adds.
 use Rattle.std.proofs.Common.{Ok, Err, sym, ap, subst, arith, length, set}
-use Rattle.std.proofs.lemmas.Result.{err_from_is_err_and}
-use Rattle.std.proofs.lemmas.List.{with_items_is, length-set}
-use Rattle.schemars_walk.specs.Order.{InOrder}
+use Rattle.schemars_walk.proofs.Words.{err_from_is_err_and, with_items_is, length-set, InOrder}
 use Rattle.schemars_walk.proofs.Orders.{order_begins, order_goes_on, order_stops, order_ends}
 use Rattle.schemars_walk.proofs.list.VecTransform.transform.Goals as goal
 

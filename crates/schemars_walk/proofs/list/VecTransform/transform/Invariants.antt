@@ -1,8 +1,6 @@
 -- What the members that are left do ends what the whole list does.
 use Rattle.std.proofs.Common.{List, take, drop, ◌++◌}
-use Rattle.serde_json.specs.Data.{Data}
-use Rattle.schemars_walk.specs.Walk.{Answer}
-use Rattle.schemars_walk.specs.Order.{InOrder}
+use Rattle.schemars_walk.proofs.Words.{Data, Answer, InOrder}
 use Rattle.schemars_walk.proofs.list.VecTransform.transform.Given as goal
 
 abbrev pub invariant-loop-member : goal.invariant-loop-member

@@ -1,5 +1,5 @@
 use Rattle.std.proofs.Common.{◌∙◌}
-use Rattle.std.proofs.lemmas.Result.{on_ok_weaker}
+use Rattle.schemars_walk.proofs.Words.{on_ok_weaker}
 use Rattle.schemars_walk.proofs.Changes.{same_everywhere}
 use Rattle.schemars_walk.proofs.rewrite.change.change_all.Goals as goal
 

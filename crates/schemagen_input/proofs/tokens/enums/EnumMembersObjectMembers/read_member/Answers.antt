@@ -1,9 +1,6 @@
 -- The member of each name adds what it says.
 use Rattle.std.proofs.Common.{◌≡◌, codes, false, refl, sym, subst, rules}
-use Rattle.std.specs.Str.{bytes_eq}
-use Rattle.serde_json.specs.Data.{object, put}
-use Rattle.schemagen_json.specs.BorrowedValue.{data_of}
-use Rattle.schemagen_input.specs.Gathered.{AreOfEnum}
+use Rattle.schemagen_input.proofs.Words.{bytes_eq, object, put, data_of, AreOfEnum}
 use Rattle.schemagen_input.specs.declared.tokens.enums.EnumMembers.{EnumMembers}
 use Rattle.schemagen_input.proofs.Gathering.{enum_follows, enum_stays}
 use Rattle.schemagen_input.proofs.tokens.enums.EnumMembersObjectMembers.read_member.Goals as goal

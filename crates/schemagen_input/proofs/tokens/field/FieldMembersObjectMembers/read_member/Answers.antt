@@ -1,9 +1,6 @@
 -- The member of each name adds what it says.
 use Rattle.std.proofs.Common.{◌≡◌, codes, false, refl, sym, subst, rules}
-use Rattle.std.specs.Str.{bytes_eq}
-use Rattle.serde_json.specs.Data.{object, put}
-use Rattle.schemagen_json.specs.BorrowedValue.{data_of}
-use Rattle.schemagen_input.specs.Gathered.{AreOfField}
+use Rattle.schemagen_input.proofs.Words.{bytes_eq, object, put, data_of, AreOfField}
 use Rattle.schemagen_input.specs.declared.tokens.field.FieldMembers.{FieldMembers}
 use Rattle.schemagen_input.proofs.Gathering.{field_follows, field_stays}
 use Rattle.schemagen_input.proofs.tokens.field.FieldMembersObjectMembers.read_member.Goals as goal

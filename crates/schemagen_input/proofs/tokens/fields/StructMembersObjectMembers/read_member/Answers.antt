@@ -1,9 +1,6 @@
 -- The member of each name adds what it says.
 use Rattle.std.proofs.Common.{◌≡◌, codes, false, refl, sym, subst, rules}
-use Rattle.std.specs.Str.{bytes_eq}
-use Rattle.serde_json.specs.Data.{object, put}
-use Rattle.schemagen_json.specs.BorrowedValue.{data_of}
-use Rattle.schemagen_input.specs.Gathered.{AreOfStruct}
+use Rattle.schemagen_input.proofs.Words.{bytes_eq, object, put, data_of, AreOfStruct}
 use Rattle.schemagen_input.specs.declared.tokens.fields.StructMembers.{StructMembers}
 use Rattle.schemagen_input.proofs.Gathering.{struct_follows, struct_stays}
 use Rattle.schemagen_input.proofs.tokens.fields.StructMembersObjectMembers.read_member.Goals as goal

@@ -1,7 +1,6 @@
 -- A member keeps the name alone, or there are several.
 use Rattle.std.proofs.Common.{◌≡◌, true, false, rules}
-use Rattle.schemagen_json.specs.BorrowedValue.{data_of}
-use Rattle.schemagen_input.specs.Gathered.{can_be_lone}
+use Rattle.schemagen_input.proofs.Words.{data_of, can_be_lone}
 use Rattle.schemagen_input.proofs.Gathering.{lone_follows, several_follow}
 use Rattle.schemagen_input.proofs.tokens.tagged.TaggedMembersObjectMembers.read_member.Goals as goal
 

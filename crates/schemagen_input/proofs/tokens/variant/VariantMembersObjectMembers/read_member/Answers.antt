@@ -1,9 +1,6 @@
 -- The member of each name adds what it says.
 use Rattle.std.proofs.Common.{◌≡◌, codes, false, refl, sym, subst, rules}
-use Rattle.std.specs.Str.{bytes_eq}
-use Rattle.serde_json.specs.Data.{object, put}
-use Rattle.schemagen_json.specs.BorrowedValue.{data_of}
-use Rattle.schemagen_input.specs.Gathered.{AreOfVariant}
+use Rattle.schemagen_input.proofs.Words.{bytes_eq, object, put, data_of, AreOfVariant}
 use Rattle.schemagen_input.specs.declared.tokens.variant.VariantMembers.{VariantMembers}
 use Rattle.schemagen_input.proofs.Gathering.{variant_follows, variant_stays}
 use Rattle.schemagen_input.proofs.tokens.variant.VariantMembersObjectMembers.read_member.Goals as goal

@@ -1,11 +1,6 @@
 -- The one value of the list is that of the key taken out.
 use Rattle.std.proofs.Common.{Some, ap, ◌∙◌, codes}
-use Rattle.serde_json.specs.Data.{array}
-use Rattle.serde_json.specs.View.{view, items_view}
-use Rattle.serde_json.proofs.Views.{view-Array}
-use Rattle.schemars_schema.specs.SchemaData.{inserted}
-use Rattle.schemars_schema.specs.Edits.{removed}
-use Rattle.schemars_transform.specs.Built.{value_as_enum}
+use Rattle.schemars_transform.proofs.Words.{array, view, items_view, view-Array, inserted, removed, value_as_enum}
 use Rattle.schemars_transform.proofs.built_in.const_value.ReplaceConstValueChange.change.Goals as goal
 
 pub returns-in_ok-_old : goal.returns-in_ok-_old

@@ -1,8 +1,6 @@
 -- Null is taken out where the setting says so.
 use Rattle.std.proofs.Common.{sym, ap, ◌∙◌, codes}
-use Rattle.std.specs.Prelude.{if◌then◌else◌}
-use Rattle.serde_json.specs.Find.{get}
-use Rattle.schemars_transform.specs.Nullable.{null_taken_out}
+use Rattle.schemars_transform.proofs.Words.{if◌then◌else◌, get, null_taken_out}
 use Rattle.schemars_transform.proofs.built_in.nullable.AddNullable.null_among.Goals as goal
 
 pub returns-then-self : goal.returns-then-self

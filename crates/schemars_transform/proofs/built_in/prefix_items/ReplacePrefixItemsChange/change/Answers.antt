@@ -1,5 +1,5 @@
 use Rattle.std.proofs.Common.{ap, ◌∙◌, option_map, sym}
-use Rattle.serde_json.specs.View.{view}
+use Rattle.schemars_transform.proofs.Words.{view}
 use Rattle.schemars_transform.proofs.Moves.{both_moved}
 use Rattle.schemars_transform.proofs.built_in.prefix_items.ReplacePrefixItemsChange.change.Goals as goal
 

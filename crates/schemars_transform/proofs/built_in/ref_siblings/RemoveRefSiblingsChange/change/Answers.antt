@@ -1,12 +1,6 @@
 -- The reference that is taken out goes to the end of `allOf`.
 use Rattle.std.proofs.Common.{Some, sym, ap, ◌∙◌, codes}
-use Rattle.std.specs.Prelude.{if◌then◌else◌}
-use Rattle.std.proofs.lemmas.Result.{on_ok_weaker}
-use Rattle.serde_json.specs.Data.{object, array, no_items}
-use Rattle.serde_json.specs.Find.{get}
-use Rattle.serde_json.specs.View.{view, members_view}
-use Rattle.schemars_schema.specs.Edits.{removed, changed_at, with_last}
-use Rattle.schemars_transform.specs.Built.{referring, reference_moved}
+use Rattle.schemars_transform.proofs.Words.{if◌then◌else◌, on_ok_weaker, object, array, no_items, get, view, members_view, removed, changed_at, with_last, referring, reference_moved}
 use Rattle.schemars_transform.proofs.built_in.ref_siblings.RemoveRefSiblingsChange.change.Goals as goal
 
 pub returns : goal.returns

@@ -1,10 +1,6 @@
 -- The value moves from the one key to the other, and then the names are added.
 use Rattle.std.proofs.Common.{ap, ◌∙◌, codes}
-use Rattle.std.proofs.lemmas.Result.{on_ok_weaker}
-use Rattle.serde_json.specs.View.{view}
-use Rattle.schemars_schema.specs.SchemaData.{inserted}
-use Rattle.schemars_schema.specs.Edits.{removed}
-use Rattle.schemars_transform.specs.Unevaluated.{with_properties, closed_by}
+use Rattle.schemars_transform.proofs.Words.{on_ok_weaker, view, inserted, removed, with_properties, closed_by}
 use Rattle.schemars_transform.proofs.built_in.unevaluated.ReplaceUnevaluatedPropertiesChange.change.Goals as goal
 
 pub returns : goal.returns

@@ -1,5 +1,5 @@
 use Rattle.std.proofs.Common.{map, refl}
-use Rattle.schemars_types.specs.Found.{options_of}
+use Rattle.schemars_types.proofs.Words.{options_of}
 use Rattle.schemars_types.proofs.Adding.{pattern_joins}
 use Rattle.schemars_types.proofs.keys.options.KeyOptions.add_pattern.Goals as goal
 

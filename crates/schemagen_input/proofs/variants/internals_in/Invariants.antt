@@ -1,8 +1,0 @@
--- The variants so far, and then those that the rest says.
-use Rattle.schemars_shapes.specs.Shape.{internal_variant_of}
-use Rattle.schemagen_input.specs.Forms.{internal_variant_in}
-use Rattle.schemagen_input.proofs.Lists.{IsReadSoFar}
-use Rattle.schemagen_input.proofs.variants.internals_in.Given as goal
-
-abbrev pub invariant-loop-item : goal.invariant-loop-item
-invariant-loop-item l = IsReadSoFar internal_variant_of internal_variant_in l.items l.item-index l.variants.items

@@ -1,0 +1,10 @@
+use Rattle.std.proofs.Common.{◌∙◌, sym}
+use Rattle.schemars_assertions.proofs.Words.{number_view}
+use Rattle.schemars_assertions.proofs.Counts.{count_at_least}
+use Rattle.schemars_assertions.proofs.quantities.is_at_least.Goals as goal
+
+pub returns-in-Some : goal.returns-in-Some
+returns-in-Some c =
+    let n = number_view c.in-Some.number.now in
+    let same = count_at_least n c.args.count (sym c.is_count.ensures ∙ c.if-is_count.true) in
+    rw (c.numbers_le.ensures, c.from.ensures, ← c.in-Some.ensures) same

@@ -1,0 +1,23 @@
+//! What the keywords of JSON Schema that need no schema say of a value, decided.
+#![tactic(auto)]
+
+mod arrays;
+mod dialect;
+mod json;
+mod keys;
+mod members;
+mod numbers;
+mod patterns;
+mod quantities;
+mod scalars;
+mod verdict;
+
+pub use arrays::{contained_says, one_more};
+pub use dialect::Dialect;
+pub use json::look;
+pub use keys::{by_keys, dependent_required_says};
+pub use members::member;
+pub use numbers::{is_whole, numbers_le, size_in_64_bits};
+pub use patterns::{PatternList, Patterns};
+pub use scalars::by_itself;
+pub use verdict::{Verdict, all_of, both, opposite, unless_missing, verdict_of};

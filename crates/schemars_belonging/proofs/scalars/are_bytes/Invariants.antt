@@ -1,8 +1,0 @@
--- The items that are left decide.
-use Rattle.std.proofs.Common.{◌≡◌, drop}
-use Rattle.serde_json.specs.View.{items_view}
-use Rattle.schemars_types.specs.Meaning.{every_item, is_byte}
-use Rattle.schemars_belonging.proofs.scalars.are_bytes.Given as goal
-
-abbrev pub invariant-loop-item : goal.invariant-loop-item
-invariant-loop-item l = every_item is_byte (items_view (drop l.item-index l.items)) ≡ every_item is_byte (items_view l.items)

@@ -1,0 +1,4 @@
+pub mod GraphLemmas
+pub mod Reaching
+pub mod Heights
+mod Words

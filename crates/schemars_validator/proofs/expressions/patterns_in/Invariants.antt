@@ -1,8 +1,0 @@
--- The patterns so far, and those that are left.
-use Rattle.std.proofs.Common.{◌≡◌, ◌++◌, drop}
-use Rattle.schemars_validator.specs.Standing.{standing}
-use Rattle.schemars_validator.specs.Expressions.{asked_of, patterns_of}
-use Rattle.schemars_validator.proofs.expressions.patterns_in.Given as goal
-
-abbrev pub invariant-loop-schema : goal.invariant-loop-schema
-invariant-loop-schema l = asked_of l.asked.items ++ patterns_of (standing (drop l.schema-index l.schemas)) ≡ patterns_of (standing l.schemas)

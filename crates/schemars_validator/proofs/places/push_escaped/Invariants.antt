@@ -1,7 +1,0 @@
--- The characters so far are added.
-use Rattle.std.proofs.Common.{◌≡◌, ◌++◌, string_bytes}
-use Rattle.schemars_validator.specs.Standing.{escaped_characters}
-use Rattle.schemars_validator.proofs.places.push_escaped.Given as goal
-
-abbrev pub invariant-loop-c : goal.invariant-loop-c
-invariant-loop-c l = string_bytes l.whole ≡ string_bytes l.fn.whole ++ escaped_characters l.yielded
