@@ -5,7 +5,7 @@ use Rattle.std.specs.declared.alloc.Global.{Global}
 use Rattle.serde.specs.Event.{Sends, text, signed, unsigned, Then, WritesOption}
 use Rattle.serde.specs.declared.name.Case.TheVariants.{AsIs}
 use Rattle.schemars_shapes.specs.Shape as shape
-use Rattle.schemars_shapes.specs.Shape.{by_nothing, by_tag, by_tag_and_content}
+use Rattle.schemars_shapes.specs.Shape.{by_tag, by_tag_and_content}
 use Rattle.schemars_types.specs.Rows.{Row}
 use Rattle.schemars_types.specs.Faults.{IsChecked}
 use Rattle.schemars_written.specs.Gives.{Gives, Field, FieldIf, Done}

@@ -1,10 +1,10 @@
 -- A text says one table at most, so a verdict on that table is one on the text.
-use Rattle.std.proofs.Common.{◌≡◌, ℕ, List, Option, Some, None, Bool, true, false, true≢false, IsTrue, option_and_then, refl, sym, ap, ◌∙◌, subst}
-use Rattle.schemalint_run.proofs.Words.{◌↔◌, read, Row, IsAccepted, IsPlainTable, IsPlainUnder, plain_under, input_of, IsTableText, Judges, IsVerdictOf, is_under, verdict_for}
+use Rattle.std.proofs.Common.{◌≡◌, ℕ, List, Option, Some, None, Bool, true, false, IsTrue, option_and_then, refl, sym, ap, ◌∙◌, subst}
+use Rattle.schemalint_run.proofs.Words.{◌↔◌, Row, IsAccepted, IsPlainTable, IsPlainUnder, plain_under, input_of, IsTableText, Judges, IsVerdictOf, is_under, verdict_for}
 use Rattle.schemars_types.specs.declared.contract.Contract.{Contract}
 use Rattle.schemars_types.specs.declared.contract.Contract.TheVariants.{Deserialize, Serialize}
 use Rattle.schemalint_run.specs.declared.judging.Verdict.{Verdict}
-use Rattle.schemalint_run.specs.declared.judging.Verdict.TheVariants.{Refused, Plain}
+use Rattle.schemalint_run.specs.declared.judging.Verdict.TheVariants.{Plain}
 
 abbrev rows_or : List Row → Option (List Row × ℕ) → List Row
 rows_or rows None = rows

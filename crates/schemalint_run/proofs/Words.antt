@@ -6,7 +6,6 @@ pub use Rattle.schemars_documents.proofs.OpenStructs.{plain_under}
 pub use Rattle.schemars_documents.specs.PlainTable.{IsPlainTable, IsPlainUnder}
 pub use Rattle.schemars_types.specs.Faults.{IsAccepted}
 pub use Rattle.schemars_types.specs.Rows.{Row}
-pub use Rattle.serde_json.specs.Read.{read}
 pub use Rattle.std.proofs.lemmas.Bool.{and_parts}
 pub use Rattle.std.proofs.lemmas.Bool.Decides.{Decides-eqb}
 pub use Rattle.std.proofs.lemmas.List.{take-append-drop}

@@ -1,5 +1,5 @@
 -- A whole number and a float in order, exactly: the float's whole part tells, since a float of 2^53 or more has no fraction.
-use Rattle.std.proofs.Common.{◌≡◌, ℕ, zero, suc, ◌+◌, ◌*◌, ◌/◌, ◌%◌, ◌^◌, ◌<◌, ◌≤◌, ℤ, pos, negsuc, Bool, true, false, T, refl, sym, ap, ◌∙◌, arith, true≢false, div-add-mod', mod-lt, nat_le, nat_eq, div-le_self, mul-pos, div-lt_iff_lt-mul, mul-div_cancel, min, ltb, unsigned_abs}
+use Rattle.std.proofs.Common.{◌≡◌, ℕ, zero, suc, ◌*◌, ◌/◌, ◌%◌, ◌^◌, ◌<◌, ◌≤◌, ℤ, pos, negsuc, Bool, true, false, T, refl, sym, ap, ◌∙◌, arith, true≢false, div-add-mod', nat_le, div-le_self, mul-pos, div-lt_iff_lt-mul, min, unsigned_abs}
 use Rattle.schemars_assertions.proofs.Words.{nat_tests, Float, nan, inf, fin, binary64, two_to, minus_one, float_is_finite, float_with_sign, eq, le, lt, T_from_true, up, down, HasValue, round_whole, down_pos, ◌-◌, ◌==◌, Some, None, Option, is_some, option_and_then, nat_lt, int_le, if◌then◌else◌, Num, unsigned, negative, float, as_integer, as_u64, as_i64, is_float, to_float, num_of, is_valid, of_whole, value_of, number_le, whole_of, whole_of_float, with_sign, size_of_whole, size_in_64_bits, le-left, le-right, eq-left, le_whole, greatest-whole, some_same, none_some}
 use Rattle.std.specs.Float.Ieee
 use Rattle.serde_json.specs.declared.number.N.{N}

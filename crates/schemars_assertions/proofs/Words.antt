@@ -1,9 +1,8 @@
 -- Words that many proofs of this crate name.
 pub use Rattle.schemars_assertions.specs.Meant.{meant}
 pub use Rattle.schemars_assertions.specs.Texts.{are_texts, texts_of, with_text}
-pub use Rattle.schemars_definitions.proofs.Keys.{sorted-entries}
 pub use Rattle.schemars_schema.proofs.ByValue.{eq-left, greatest-whole, le-left, le-right, le_whole, least-whole, none_some, some_same}
-pub use Rattle.schemars_schema.proofs.SortedMembers.{IsSorted}
+pub use Rattle.schemars_schema.proofs.SortedMembers.{IsSorted, sorted-entries}
 pub use Rattle.schemars_schema.specs.Assertions.{are_type_names, const_says, enum_says, exclusive_maximum_says, exclusive_minimum_says, from_zero, have_all, is_null, is_of_some_type, is_true, max_items_says, max_length_says, maximum_says, min_items_says, min_length_says, minimum_says, multiple_of_says, pattern_says, required_says, texts_in, type_fits, type_says, types_in, unique_items_says}
 pub use Rattle.schemars_schema.specs.Edits.{holds_text, is_text}
 pub use Rattle.schemars_schema.specs.Json.{AreJson, AreJsonMembers, IsJson, Text, are_distinct, is_among}

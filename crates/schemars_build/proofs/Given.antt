@@ -1,6 +1,6 @@
 -- Names that are given stay, and are found.
 use Rattle.std.proofs.Common.{◌≡◌, ℕ, List, [], ◌∷◌, ◌++◌, Bool, true, false, Some, None, refl, sym, ap, ◌∙◌, arith, subst, find, option_map, append-nil, append_assoc}
-use Rattle.schemars_build.proofs.Words.{◌&&◌, nat_tests, Text, Row, NamedRow, Naming, is_of, name_of, GivesNames, ◌==◌, cond, is_same_contract, IsGiven, AreGiven}
+use Rattle.schemars_build.proofs.Words.{◌&&◌, nat_tests, Text, Row, NamedRow, Naming, is_of, name_of, GivesNames, ◌==◌, cond, is_same_contract, AreGiven}
 use Rattle.schemars_types.specs.declared.contract.Contract.{Contract}
 use Rattle.schemars_types.specs.declared.contract.Contract.TheVariants.{Deserialize, Serialize}
 use Rattle.schemars_build.proofs.NamingLemmas.{same_contract-equal}

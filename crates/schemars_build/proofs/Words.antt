@@ -13,7 +13,7 @@ pub use Rattle.schemars_build.specs.Placed.{IsDocument, IsFilled, IsPlaced, is_i
 unfoldable pub use Rattle.schemars_build.specs.Placed.{IsFilledWithin}
 pub use Rattle.schemars_build.specs.Plans.{plan_of}
 pub use Rattle.schemars_build.specs.Reached.{AreReached, IsReached, IsRootMet, by_definition, by_reference}
-pub use Rattle.schemars_build.specs.Registry.{AreGiven, GivesNames, IsAdded, IsDefinition, IsGiven, IsKey, Plan, Refers, Registry, Step, basis_of_plan, reference_to, rolled_back, without_all, without_last}
+pub use Rattle.schemars_build.specs.Registry.{AreGiven, GivesNames, IsAdded, IsDefinition, IsKey, Plan, Refers, Registry, Step, basis_of_plan, reference_to, rolled_back, without_all, without_last}
 pub use Rattle.schemars_cycles.proofs.GraphLemmas.{nothing_among}
 pub use Rattle.schemars_definitions.proofs.Members.{get_member-replaced_other, own_bytes, without-put, without-replaced, without-replaced_other}
 pub use Rattle.schemars_documents.proofs.OpenStructs.{no_option, parts_apart}
@@ -28,7 +28,7 @@ pub use Rattle.schemars_meaning.proofs.FieldsDescribed.{described_fields, descri
 pub use Rattle.schemars_meaning.proofs.Following.{closer}
 pub use Rattle.schemars_meaning.proofs.Mapping.{answered_map, answers_map, own_map}
 pub use Rattle.schemars_meaning.proofs.References.{parts_among}
-pub use Rattle.schemars_meaning.proofs.ReferencesKept.{Among, among_equal, among_left, references-root}
+pub use Rattle.schemars_meaning.proofs.ReferencesKept.{Among, among_left}
 pub use Rattle.schemars_meaning.proofs.Rows.{all_asks, contents_of, payload_contents}
 pub use Rattle.schemars_meaning.proofs.SettledTables.{IsSettled}
 pub use Rattle.schemars_schema.proofs.Members.{get_member-replaced}
@@ -36,8 +36,8 @@ pub use Rattle.schemars_schema.specs.Edits.{replaced, without}
 pub use Rattle.schemars_schema.specs.Json.{Text}
 pub use Rattle.schemars_schema.specs.References.{references}
 unfoldable pub use Rattle.schemars_schema.specs.References.{found_in}
-pub use Rattle.schemars_shapes.specs.Shape.{Entry, Field, Fields, Flattened, Payload, Shape, Variant, asked_numbers, flattened_numbers, flattened_rows, newtype_payload, no_payload, numbers_of, of_variants, option_of, payload_flattened, payload_numbers, payload_same, same_value_numbers, struct_payload, tuple_payload}
-pub use Rattle.schemars_templates.specs.Finished.{reference, root_document}
+pub use Rattle.schemars_shapes.specs.Shape.{Entry, Field, Flattened, Payload, Shape, Variant, asked_numbers, flattened_numbers, newtype_payload, no_payload, numbers_of, of_variants, option_of, payload_flattened, payload_numbers, payload_same, same_value_numbers, struct_payload, tuple_payload}
+pub use Rattle.schemars_templates.specs.Finished.{reference}
 pub use Rattle.schemars_templates.specs.Template.{Ask, asks_of, content, filled, members_of, part}
 pub use Rattle.schemars_templates.specs.View.{ask_of, template_view}
 pub use Rattle.schemars_text.proofs.Members.{bytes_eq_comm}

@@ -1,6 +1,6 @@
 -- What an object says of null and of other values once null is allowed.
 use Rattle.std.proofs.Common.{[], ◌≡◌, ◌⊎◌, inl, inr, List, ◌∷◌, Option, Some, None, Bool, true, false, refl, sym, ap, ◌∙◌, subst, true≢false, arith, suc, Ordering, Less, Equal, Greater, nat_cmp, is_eq}
-use Rattle.schemars_builders.proofs.Words.{codes, bytes_eq, ◌||◌, ◌&&◌, if◌then◌else◌, is_some, not, length, map, option_map, Data, null, boolean, number, string, array, object, Items, no_items, item, Members, no_members, member, put, get_member, slice_cmp, match_ordering, eqb-true, and_parts, or_parts, is_eq-slice_cmp, members_len, get_member-put, get_member-put_other, bytes_eq-Decides, and-false, or-false, or-true, same_Some, Verdict, Yes, No, Open, both, verdict, opposite, none_of, any_of, Text, json_eq, alike, IsSchema, Dialect, Patterns, Judge, Context, Raw, Reading, where_some, where_read, type_says, is_null, items_say, past_say, each_says, not_says, unevaluated_properties_say, judge, read_data, read_items, all_keywords, is_reference, reference_alone, both_some, nothing, without, both-yes, either-verdict, schema-judge, judge-object, says, says-agree, get_member-without, without-put, items_none, unevaluated_none, silent, null_schema, is_combined, is_null_choice, offers_null, type_with_null, null_in_type, enum_with_null, null_in_enum, const_or_null, null_in_const, null_in_values, or_null, allow_null, IsDraft, context_of, HasTypeForm, zero_schema, AcceptsNull, SomeAcceptsNull, OffersNull, IsChoice, HasPlainValues, IsPlain, IsNullable}
+use Rattle.schemars_builders.proofs.Words.{codes, bytes_eq, ◌||◌, ◌&&◌, if◌then◌else◌, is_some, not, length, map, option_map, Data, null, boolean, number, string, array, object, Items, no_items, item, Members, no_members, member, put, get_member, slice_cmp, match_ordering, eqb-true, and_parts, or_parts, is_eq-slice_cmp, members_len, get_member-put, get_member-put_other, bytes_eq-Decides, and-false, or-false, or-true, same_Some, Verdict, Yes, No, Open, both, verdict, opposite, none_of, any_of, Text, alike, IsSchema, Dialect, Patterns, Judge, Context, Raw, Reading, where_some, where_read, type_says, is_null, items_say, past_say, each_says, not_says, unevaluated_properties_say, judge, read_data, read_items, all_keywords, is_reference, reference_alone, both_some, nothing, without, both-yes, either-verdict, schema-judge, judge-object, says, says-agree, get_member-without, without-put, items_none, unevaluated_none, silent, null_schema, is_combined, is_null_choice, offers_null, type_with_null, null_in_type, enum_with_null, null_in_enum, const_or_null, null_in_const, null_in_values, or_null, allow_null, IsDraft, context_of, HasTypeForm, zero_schema, AcceptsNull, SomeAcceptsNull, OffersNull, IsChoice, HasPlainValues, IsPlain, IsNullable}
 use Rattle.schemars_builders.proofs.NullKeywords.{const_null, const_plus, enum_plus, type_null, type_other, type_plus, values_null, values_other, values_plus}
 
 -- ---- an object that is not combined

@@ -1,6 +1,6 @@
 -- The keys of a map ascend.
 use Rattle.std.proofs.Common.{◌≡◌, List, [], ◌∷◌, None, Less, nat_cmp, refl, string_cmp, String, Global, string_bytes}
-use Rattle.schemars_definitions.proofs.Words.{slice_cmp, AllByRecursion, IsStrictlySortedBy, keys_of, Data, get_member, view, members_view, Entry, IsAbove, IsSorted, members_by, HasKeysOnce}
+use Rattle.schemars_definitions.proofs.Words.{slice_cmp, AllByRecursion, IsStrictlySortedBy, keys_of, Data, get_member, view, Entry, members_by, HasKeysOnce}
 
 -- ---- so each is there once
 
@@ -18,15 +18,3 @@ entries_once data_of (e ∷ es) sorted = (absent_above data_of e.0 es sorted.0, 
 
 pub map_once : (es : List Entry) → IsStrictlySortedBy string_cmp (keys_of es) → HasKeysOnce (members_view es)
 map_once es sorted = entries_once view es sorted
-
--- ---- and members are in their order
-
-above-entries : (e : Entry) (es : List Entry) → AllByRecursion (λ l. string_cmp e.0 l ≡ Less) (keys_of es)
-    → IsAbove (string_bytes e.0) (members_view es)
-above-entries e [] h = tt
-above-entries e (f ∷ es) h = (h.0, above-entries e es h.1)
-
-pub sorted-entries : (es : List Entry) → IsStrictlySortedBy string_cmp (keys_of es) → IsSorted (members_view es)
-unfolding IsStrictlySortedBy
-sorted-entries [] h = tt
-sorted-entries (e ∷ es) h = (above-entries e es h.0, sorted-entries es h.1)

@@ -10,7 +10,7 @@ pub use Rattle.schemars_definitions.specs.Kept.{AreOrdered, IsOrdered, definitio
 pub use Rattle.schemars_definitions.specs.Keys.{HasKeysOnce}
 pub use Rattle.schemars_definitions.specs.Whole.{each_made, with_names}
 pub use Rattle.schemars_schema.proofs.Members.{get_member-replaced, get_member-replaced_other, get_member-without}
-pub use Rattle.schemars_schema.proofs.SortedMembers.{IsSorted, above-trans, get_member-above, same_members, sorted-put, sorted-put_members, sorted-replaced, sorted-without}
+pub use Rattle.schemars_schema.proofs.SortedMembers.{IsSorted, above-trans, get_member-above, same_members, sorted-entries, sorted-put, sorted-put_members, sorted-replaced, sorted-without}
 pub use Rattle.schemars_schema.specs.Edits.{replaced, without}
 pub use Rattle.schemars_schema.specs.Json.{AreWholeJson, AreWholeJsonMembers, IsAbove, IsWholeJson, Text}
 pub use Rattle.schemars_schema.specs.Numbers.{IsWholeNumber}

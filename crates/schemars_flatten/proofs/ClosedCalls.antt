@@ -1,6 +1,6 @@
 -- Whether a schema and those inside it let further members in, call by call.
 use Rattle.std.proofs.Common.{◌≡◌, ℕ, ◌+◌, ◌<◌, ◌≤◌, List, Some, None, Bool, true, false, length, get_or, drop, refl, sym, ap, ◌∙◌}
-use Rattle.schemars_flatten.proofs.Words.{◌||◌, Data, null, boolean, number, string, array, object, Items, no_items, item, Members, no_members, member, as_array, as_object, view, items_view, Text, array-as_array, not_array, object-as_object, not_object, nothing_left, from_here, closes, closed_at, closed_in, closed_in_items, closed_in_keywords}
+use Rattle.schemars_flatten.proofs.Words.{◌||◌, Data, array, object, Items, no_items, item, Members, no_members, member, as_array, as_object, view, items_view, Text, array-as_array, not_array, object-as_object, not_object, nothing_left, from_here, closes, closed_at, closed_in, closed_in_items, closed_in_keywords}
 use Rattle.serde_json.specs.declared.value.Value.{Value}
 
 pub closed_object : (d : Data) (ms : Members) → Some ms ≡ as_object d

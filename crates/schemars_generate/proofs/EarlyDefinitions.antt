@@ -1,6 +1,6 @@
 -- Definitions that the transforms of OpenAPI change one by one.
-use Rattle.std.proofs.Common.{◌≡◌, List, true, false, inr, Ok, refl, ap, ◌∙◌, subst}
-use Rattle.schemars_generate.proofs.Words.{Data, Members, no_members, TransformStep, ApplyInOrder, Transforms, null, boolean, object, member, AtSchema, for_openapi3, are_local, made_by, value_made_by, each_made_by, some_own, makes_in_order, each_made, transforms_openapi3, AreThrough, forms}
+use Rattle.std.proofs.Common.{◌≡◌, List, true, inr, Ok, refl, ap, ◌∙◌, subst}
+use Rattle.schemars_generate.proofs.Words.{Data, Members, no_members, TransformStep, ApplyInOrder, Transforms, null, boolean, object, member, AtSchema, for_openapi3, are_local, value_made_by, each_made_by, makes_in_order, each_made, transforms_openapi3, AreThrough, forms}
 use Rattle.schemars_transform.specs.declared.gen_transform.GenTransform.{GenTransform}
 
 pub local_openapi3 : (O : Type 0) → are_local {O = O} transforms_openapi3 ≡ true

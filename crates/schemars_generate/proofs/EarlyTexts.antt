@@ -1,6 +1,6 @@
 -- Definitions that the transforms of a draft change one by one, and what is left of the document.
-use Rattle.std.proofs.Common.{◌≡◌, List, ◌∷◌, true, false, Some, None, refl, sym, ap, ◌∙◌, subst}
-use Rattle.schemars_generate.proofs.Words.{Data, null, boolean, number, string, array, object, Members, no_members, member, put, get, get_member, get_member-put, get_member-put_other, is_listed, differ, Text, members_in, inserted, replaced, placed_at-defs, placed_at-definitions, are_local, made_by, value_made_by, each_made_by, some_own, IsApart, defs_apart, definitions_apart, made_in_parts, parted, HasNoDefinitions, HasPlaceAt, definition_keys, each_made, with_defs_at, with_names, at_each_key, replaced-put, Draft, Draft2020_12, Draft2019_09, Draft07, made_for, with_definitions, key_for, transforms_for, forms}
+use Rattle.std.proofs.Common.{◌≡◌, List, ◌∷◌, true, Some, None, refl, sym, ap, ◌∙◌, subst}
+use Rattle.schemars_generate.proofs.Words.{Data, null, boolean, number, string, array, object, Members, no_members, member, put, get, get_member, get_member-put, get_member-put_other, is_listed, differ, Text, members_in, inserted, replaced, placed_at-defs, placed_at-definitions, are_local, made_by, value_made_by, each_made_by, IsApart, defs_apart, definitions_apart, made_in_parts, parted, HasNoDefinitions, HasPlaceAt, definition_keys, each_made, with_defs_at, with_names, at_each_key, replaced-put, Draft, Draft2020_12, Draft2019_09, Draft07, made_for, with_definitions, key_for, transforms_for, forms}
 use Rattle.schemars_transform.specs.declared.gen_transform.GenTransform.{GenTransform}
 
 -- ---- the transforms of a draft

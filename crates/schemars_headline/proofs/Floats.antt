@@ -1,6 +1,6 @@
 -- A document has no float but those of its notes.
 use Rattle.std.proofs.Common.{◌≡◌, ℕ, List, [], ◌∷◌, map, Option, Some, None, Bool, true, false, refl, subst, Ordering, Less, Equal, Greater, nat_cmp}
-use Rattle.schemars_headline.proofs.Words.{codes, is_some, if◌then◌else◌, ◌&&◌, ◌||◌, bytes_eq, option_and_then, match_ordering, slice_cmp, AllByRecursion, Data, null, boolean, number, string, array, object, Items, no_items, item, Members, no_members, member, put, get_member, items_of, has_float, members_have_float, Text, put_members, members_in, put_all, is_null_choice, is_combined, or_null, allow_null, type_with_null, null_in_type, enum_with_null, null_in_enum, const_or_null, null_in_const, null_in_values, is_null, closed_where, has_null_type, internally_tagged_variant, Shape, Entry, Field, Fields, Variant, entry_at, annotated, with_title, with_meta_schema, root_document, Basis, Template, left, keyed, filled, filled_in, struct_template, template_of, entry_template, IsWritten, Describes, without, replaced, holds_text, with_member, with_first, placed_at, Plan, Registry, basis_of_plan, with_definitions, HasKeysOnce, either, left_all, first_all, option_map, items_have_float, is_schema, members_have_float-put, holds_null, unit_variant, first, templates_of, property, members_asked, content_template, title_alone, flattened-whole, flattened_part-whole, opened_inside-whole, fields_have_float, payload_has_float, variants_have_float, shape_has_float, EntryHasNoFloat, HasNoFloat, with_item, changed_at, placed, tokens_of, described_holds, written_holds, of_each, Law, shape_holds, Keywords, by_value, by_keyword, each, struct_holds, or_parts}
+use Rattle.schemars_headline.proofs.Words.{codes, is_some, if◌then◌else◌, ◌&&◌, ◌||◌, bytes_eq, option_and_then, match_ordering, slice_cmp, AllByRecursion, Data, null, boolean, number, string, array, object, Items, no_items, item, Members, no_members, member, put, get_member, items_of, has_float, members_have_float, Text, put_members, members_in, put_all, is_null_choice, is_combined, or_null, allow_null, type_with_null, null_in_type, enum_with_null, null_in_enum, const_or_null, null_in_const, null_in_values, is_null, closed_where, has_null_type, internally_tagged_variant, Shape, Entry, Field, Fields, Variant, entry_at, annotated, with_title, with_meta_schema, root_document, Basis, Template, left, keyed, filled, filled_in, struct_template, template_of, entry_template, Describes, without, replaced, holds_text, with_member, with_first, placed_at, Plan, Registry, basis_of_plan, with_definitions, HasKeysOnce, either, left_all, first_all, option_map, items_have_float, is_schema, members_have_float-put, holds_null, unit_variant, first, templates_of, property, members_asked, content_template, title_alone, flattened-whole, flattened_part-whole, opened_inside-whole, fields_have_float, payload_has_float, variants_have_float, shape_has_float, EntryHasNoFloat, HasNoFloat, with_item, changed_at, placed, tokens_of, described_holds, of_each, Law, shape_holds, Keywords, by_value, by_keyword, each, struct_holds, or_parts}
 use Rattle.schemars_builders.specs.Properties as properties
 use Rattle.schemars_types.specs.declared.contract.Contract.{Contract}
 use Rattle.schemars_templates.specs.Template.{asked}

@@ -74,7 +74,7 @@ pub use Rattle.schemars_meaning.proofs.Mapping.{describes-wider, written_map}
 pub use Rattle.schemars_meaning.proofs.Meanings.{IsSame}
 pub use Rattle.schemars_meaning.proofs.Notes.{judge-root}
 pub use Rattle.schemars_meaning.proofs.Opened.{no_parts}
-pub use Rattle.schemars_meaning.proofs.Parts.{described_holds, either, first_all, left_all, written_holds}
+pub use Rattle.schemars_meaning.proofs.Parts.{described_holds, either, first_all, left_all}
 pub use Rattle.schemars_meaning.proofs.PartsDescribed.{under_apart}
 pub use Rattle.schemars_meaning.proofs.ReferencesKept.{references-root}
 pub use Rattle.schemars_meaning.proofs.Referring.{IsReferring, described_refers, plain_rows, under_rows, written_refers}

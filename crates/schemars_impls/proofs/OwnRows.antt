@@ -1,6 +1,6 @@
 -- Rows that a type of one's own is made of besides those of other types, in tables that follow a dictionary.
 use Rattle.std.proofs.Common.{◌≡◌, ◌⊎◌, ◌≤◌, inl, inr, ℕ, List, [], ◌∷◌, ◌++◌, Bool, true, false, Option, Some, None, IsSome, length, find, nat_le, is_some, option_map, option_and_then, refl, ap, sym, ◌∙◌, subst, arith, ◌==◌, if◌then◌else◌}
-use Rattle.schemars_impls.proofs.Words.{nat_tests, Text, Entry, in_place, option, seq, set, tuple, array, array_of, map_from, option_id, option_name, seq_id, seq_name, set_id, set_name, array_id, array_name, map_id, map_name, Refuses, Registers, Row, place_of, id_at, name_at, reserved, defined, unknown_in, with_entry, place_of-below, nat_le-above, place_of-reserved, reserved-absent, place_of-defined, IsMade, Making, OfOne, OfArray, Told, Dictionary, IsNamed, Follows, TypeRow, IsTold, IsLeft, IsIn, IsInPart, KeepsTo, RefusesAs, RefusesPart, of_one, of_two, option_row, seq_row, set_row, array_row, map_row, RefusesNumbers, IsNumber, HasMap, IsMapOf, with_row, HasRow, HasRowOf, HasOptionOf, HasSeqOf, HasSetOf, IsReserved, IsCalled, called, IsMadeOf, IsOptionOf, IsSeqOf, IsSetOf, IsArrayOf, Keeps, KeepsRows}
+use Rattle.schemars_impls.proofs.Words.{nat_tests, Text, Entry, in_place, option, seq, set, tuple, array, array_of, map_from, option_name, seq_name, set_name, array_id, array_name, map_id, map_name, Refuses, Registers, Row, place_of, id_at, name_at, reserved, defined, unknown_in, with_entry, place_of-below, nat_le-above, place_of-reserved, reserved-absent, place_of-defined, IsMade, Told, Dictionary, IsNamed, Follows, TypeRow, IsTold, IsLeft, IsIn, IsInPart, KeepsTo, RefusesAs, RefusesPart, of_one, of_two, option_row, seq_row, set_row, array_row, map_row, RefusesNumbers, IsNumber, HasMap, IsMapOf, with_row, HasRow, HasRowOf, HasOptionOf, HasSeqOf, HasSetOf, IsReserved, IsCalled, called, IsMadeOf, IsOptionOf, IsSeqOf, IsSetOf, IsArrayOf, Keeps, KeepsRows}
 use Rattle.schemars_types.specs.declared.error.TypesError.{TypesError}
 use Rattle.schemars_types.specs.declared.error.TypesError.TheVariants.{OutOfMemory, UnknownType}
 use Rattle.schemars_types.specs.declared.error.TypesError.TheVariants as fault

@@ -1,6 +1,6 @@
 -- The fields of types of one's own: that their numbers are those of rows.
 use Rattle.std.proofs.Common.{◌≡◌, ◌<◌, ℕ, List, [], ◌∷◌, ◌++◌, Bool, true, false, Some, None, cond, length, find, nat_le, map, refl, sym, subst, ap, ◌∙◌, append-nil, append_assoc}
-use Rattle.schemars_impls.proofs.Words.{Text, Entry, Field, Flattened, Payload, bare_fields, no_payload, newtype_payload, tuple_payload, struct_payload, Required, Variant, payload_numbers, variant_numbers, Row, place_of, Dictionary, TypeRow, IsInPart, KeepsTo, RefusesAs, Describes, RefusesPart, nat_le-above, place_of-below, FieldsAreKnown, NumbersAreKnown, PartsAreKnown, VariantsAreKnown, bare_variant, fields_with, plain_field, part, Keeps, KeepsRows, IsReserved, IsOptionOf, IsSeqOf, IsSetOf, IsArrayOf, IsMapOf}
+use Rattle.schemars_impls.proofs.Words.{Text, Field, Flattened, bare_fields, no_payload, newtype_payload, tuple_payload, struct_payload, Required, Variant, payload_numbers, variant_numbers, Row, place_of, Dictionary, TypeRow, IsInPart, KeepsTo, RefusesAs, Describes, RefusesPart, nat_le-above, place_of-below, FieldsAreKnown, NumbersAreKnown, PartsAreKnown, VariantsAreKnown, bare_variant, fields_with, plain_field, part, Keeps, KeepsRows, IsReserved, IsOptionOf, IsSeqOf, IsSetOf, IsArrayOf, IsMapOf}
 use Rattle.schemars_types.specs.declared.error.TypesError.{TypesError}
 use Rattle.schemars_impls.proofs.Keeping.{keeps-refl, keeps-same, keeps-trans, numbers-kept, known-one, place_of-kept, reserved_keeps}
 use Rattle.schemars_impls.proofs.Placing.{known_more, place_added, adds_none, adds_then, adds_placed}

@@ -11,7 +11,7 @@ unfoldable pub use Rattle.schemars_impls.specs.OwnRows.{HasArrayOf, IsArrayOf, I
 pub use Rattle.schemars_schema.specs.Json.{Text}
 pub use Rattle.schemars_shapes.proofs.EqualEntries.{same_entry}
 pub use Rattle.schemars_shapes.specs.Equality.{entry_eq}
-pub use Rattle.schemars_shapes.specs.Shape.{Entry, Field, Flattened, Payload, Required, Variant, array, array_of, bare_fields, entry_of, field_of, in_place, internal_variant_of, map_from, newtype_payload, no_payload, option, payload_numbers, seq, set, struct_payload, tuple, tuple_payload, variant_numbers, variant_of}
+pub use Rattle.schemars_shapes.specs.Shape.{Entry, Field, Flattened, Required, Variant, array, array_of, bare_fields, entry_of, field_of, in_place, internal_variant_of, map_from, newtype_payload, no_payload, option, payload_numbers, seq, set, struct_payload, tuple, tuple_payload, variant_numbers, variant_of}
 pub use Rattle.schemars_types.proofs.Registered.{entry_at-joined, known_in_more, nat_le-above, place_of-below}
 pub use Rattle.schemars_types.proofs.TableLemmas.{place_of-defined, place_of-reserved, reserved-absent}
 pub use Rattle.schemars_types.specs.Names.{array_id, array_name, map_id, map_name, option_id, option_name, seq_id, seq_name, set_id, set_name}

@@ -1,5 +1,5 @@
 -- Rows that a type of one's own is made of besides those of other types: its own, and those that are made of it.
-use Rattle.std.specs.Prelude.{◌≡◌, ◌⊎◌, ◌++◌, ◌<◌, ℕ, false, List, [], ◌∷◌, Option, Some, None, IsSome, is_some, length, find, nat_le, option_map, if◌then◌else◌}
+use Rattle.std.specs.Prelude.{◌≡◌, ◌⊎◌, ◌++◌, ◌<◌, ℕ, false, List, [], ◌∷◌, Some, IsSome, is_some, length, find, nat_le, option_map, if◌then◌else◌}
 use Rattle.schemars_schema.specs.Json.{Text}
 use Rattle.schemars_shapes.specs.Shape.{Entry, in_place, option, seq, set, array_of, map_from}
 use Rattle.schemars_types.specs.declared.error.TypesError.{TypesError}

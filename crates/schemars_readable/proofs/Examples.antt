@@ -1,6 +1,6 @@
 -- The definitions at examples, computed.
 use Rattle.std.proofs.Common.{◌≡◌, negsuc, [], ◌∷◌, true, false, refl, map}
-use Rattle.schemars_readable.proofs.Words.{codes, chars, fin, le, lt, eq, digits, encode, Data, unsigned, float, boolean, number, string, array, object, Items, no_items, item, Members, no_members, member, Text, expression_of, schemas_at, schemas_inside, schemas_under, schemas_listed, schemas_named, unread_among, patterns_in}
+use Rattle.schemars_readable.proofs.Words.{codes, chars, fin, le, lt, eq, digits, encode, Data, unsigned, float, boolean, number, string, array, object, Items, no_items, item, Members, no_members, member, expression_of, schemas_at, schemas_inside, schemas_under, schemas_listed, schemas_named, unread_among, patterns_in}
 use Rattle.schemars_readable.specs.declared.draft.Draft.TheVariants.{Draft07, Draft2020_12, OpenApi3}
 
 -- ---- patterns

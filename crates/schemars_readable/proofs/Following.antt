@@ -1,5 +1,5 @@
 -- What is found stands in the document, and all that stands there is found.
-use Rattle.std.proofs.Common.{◌≡◌, ◌⊎◌, inl, inr, ℕ, zero, suc, ◌+◌, ◌<◌, ◌≤◌, List, [], ◌∷◌, ◌++◌, Bool, true, false, true≢false, Option, Some, None, length, get_or, take, refl, sym, ap, subst, ◌∙◌, arith, append-nil, append_assoc, length-append, ne_eqb, ◌≢◌, All, Contains, string_bytes, bytes_eq, String}
+use Rattle.std.proofs.Common.{◌≡◌, ℕ, zero, suc, ◌+◌, ◌<◌, ◌≤◌, List, [], ◌∷◌, ◌++◌, Bool, true, false, true≢false, Option, Some, None, length, get_or, take, refl, sym, ap, subst, ◌∙◌, arith, append-nil, append_assoc, length-append, ne_eqb, ◌≢◌, All, Contains, string_bytes, bytes_eq, String}
 use Rattle.schemars_readable.proofs.Words.{◌||◌, ◌&&◌, list_any, take-append-le, get_or_append_left, take_all, All-append, All-weaker, All-more, All-contains, All-contains_itself, Contains-append_left, Contains-append_right, bytes_eq-Decides, Data, Members, members_view, Text, standing, escaped_character, escaped_characters, schemas_at, schemas_referred, reference_of, StandsAt, inside, referred, leads_to, AreAmong, AreFollowed, IsGrown}
 use Rattle.schemars_readable.specs.declared.places.Place.{Place}
 

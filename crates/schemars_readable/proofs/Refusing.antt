@@ -1,6 +1,6 @@
 -- A document is taken, or refused for what stands in it.
-use Rattle.std.proofs.Common.{◌≡◌, ◌⊎◌, inl, inr, List, [], ◌∷◌, ◌++◌, true, length, refl, sym, ap, subst, ◌∙◌, arith, All, Contains, string_bytes, map}
-use Rattle.schemars_readable.proofs.Words.{All-contains, Contains-append_left, Contains-append_right, Contains-append_cases, Data, Members, Text, is_schema, StandsAt, unread_among, unread_of, told, with_new, IsUnreadAt, patterns_in, patterns_of, with_patterns, named, AreOwn, AreExpressionsOf, IsAskedAt, IsRefusalAmong, IsRead, IsRefusal}
+use Rattle.std.proofs.Common.{◌≡◌, ◌⊎◌, inl, inr, List, [], ◌∷◌, ◌++◌, true, length, refl, sym, subst, All, Contains, string_bytes}
+use Rattle.schemars_readable.proofs.Words.{All-contains, Contains-append_left, Contains-append_right, Contains-append_cases, Data, Members, Text, is_schema, StandsAt, unread_among, unread_of, told, with_new, IsUnreadAt, patterns_in, patterns_of, with_patterns, named, AreOwn, AreExpressionsOf, IsRefusalAmong, IsRead, IsRefusal}
 use Rattle.schemars_readable.specs.declared.draft.Draft.{Draft}
 use Rattle.schemars_readable.specs.declared.refusal.Unread.{Unread}
 use Rattle.schemars_readable.specs.declared.refusal.Refusal.{Refusal}

@@ -1,6 +1,6 @@
 -- Each keyword that is not read is told once.
-use Rattle.std.proofs.Common.{◌≡◌, ◌⊎◌, inl, inr, List, [], ◌∷◌, ◌++◌, Bool, true, false, refl, sym, ap, subst, ◌∙◌, arith, Contains}
-use Rattle.schemars_readable.proofs.Words.{◌||◌, ◌&&◌, if◌then◌else◌, bytes_eq, string_bytes, bytes_eq-Decides, Contains-append_left, Contains-append_right, Contains-append_cases, Contains-push, Contains-push_cases, Text, told, is_told, has_pair, with_new}
+use Rattle.std.proofs.Common.{◌≡◌, List, [], ◌∷◌, ◌++◌, true, false, refl, ap, ◌∙◌}
+use Rattle.schemars_readable.proofs.Words.{◌||◌, ◌&&◌, if◌then◌else◌, bytes_eq, string_bytes, Text, told, is_told, has_pair, with_new}
 use Rattle.schemars_readable.specs.declared.refusal.Unread.{Unread}
 
 abbrev Pair : Type 0

@@ -1,6 +1,6 @@
 -- A pattern is translated a character at a time.
 use Rattle.std.proofs.Common.{◌≡◌, ℕ, List, [], ◌∷◌, ◌++◌, refl, sym, ap, ◌∙◌, append_assoc, append-nil}
-use Rattle.schemars_readable.proofs.Words.{Text, written, after, written_from, place_after}
+use Rattle.schemars_readable.proofs.Words.{written, after, written_from, place_after}
 use Rattle.schemars_readable.specs.declared.ecma.Place.{Place}
 
 pub written-more : (p : Place) (cs : List ℕ) (c : ℕ) → written_from p (cs ++ c ∷ []) ≡ written_from p cs ++ written (place_after p cs) c

@@ -1,5 +1,5 @@
 -- Words that many proofs of this crate name.
-pub use Rattle.schemars_readable.specs.Expressions.{AreExpressionsOf, AreOwn, IsAskedAt, IsReadFrom, IsRefusalAmong, asked_of, each_name, named, patterns_in, patterns_of, with_patterns}
+pub use Rattle.schemars_readable.specs.Expressions.{AreExpressionsOf, AreOwn, IsReadFrom, IsRefusalAmong, asked_of, each_name, named, patterns_in, patterns_of, with_patterns}
 pub use Rattle.schemars_readable.specs.Following.{AreAmong, AreFollowed, IsGrown, leads_to}
 pub use Rattle.schemars_readable.specs.Refused.{IsRead, IsRefusal}
 pub use Rattle.schemars_readable.specs.Standing.{StandsAt, escaped_character, escaped_characters, inside, reference_of, referred, schemas_referred, standing}

@@ -1,5 +1,5 @@
 -- References that are followed, each once.
-use Rattle.std.specs.Prelude.{◌≡◌, Bool, true, List, [], ◌++◌, Option, Some, None, Contains, String, string_bytes, bytes_eq}
+use Rattle.std.specs.Prelude.{◌≡◌, true, List, [], ◌++◌, Option, Some, None, Contains, String, string_bytes, bytes_eq}
 use Rattle.std.specs.List.{list_any}
 use Rattle.serde_json.specs.Data.{Data, Members}
 use Rattle.schemars_schema.specs.Json.{Text}

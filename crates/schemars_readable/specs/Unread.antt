@@ -1,5 +1,5 @@
 -- What stands in a document and is not read.
-use Rattle.std.specs.Prelude.{◌≡◌, ◌&&◌, ◌||◌, ◌==◌, ℕ, Bool, true, false, not, is_some, length, List, [], ◌∷◌, ◌++◌, Option, Some, None, if◌then◌else◌, codes, map, bytes_eq, string_bytes, Contains}
+use Rattle.std.specs.Prelude.{◌&&◌, ◌||◌, ◌==◌, Bool, true, false, not, is_some, length, List, [], ◌∷◌, ◌++◌, Option, Some, None, if◌then◌else◌, codes, map, bytes_eq, string_bytes, Contains}
 use Rattle.serde_json.specs.Data.{Data, Num, unsigned, Members, no_members, member}
 use Rattle.serde_json.specs.Find.{as_str, as_number}
 use Rattle.schemars_text.specs.OrderedText.{is_listed}

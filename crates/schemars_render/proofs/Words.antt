@@ -4,7 +4,6 @@ pub use Rattle.json.specs.Token.{begin_object, end_object, key}
 pub use Rattle.schemars_builders.proofs.Nulls.{empty_accepts}
 pub use Rattle.schemars_builders.specs.AllowNull.{accepts_everything, enum_with_null, holds_null, null_in_const, null_in_enum, null_in_type, type_with_null}
 pub use Rattle.schemars_builders.specs.NullLaw.{text_items}
-pub use Rattle.schemars_definitions.proofs.Keys.{sorted-entries}
 pub use Rattle.schemars_definitions.proofs.ReadBack.{has_float-json}
 pub use Rattle.schemars_flatten.proofs.Parts.{appended_none}
 pub use Rattle.schemars_flatten.specs.Flatten.{appended}
@@ -12,7 +11,7 @@ pub use Rattle.schemars_render.specs.Answer.{leaf_view}
 pub use Rattle.schemars_render.specs.Assembled.{assembled_view, items_assembled, members_assembled, named_view, reference_to, there_or}
 pub use Rattle.schemars_render.specs.Changing.{IsBesideNull, IsScalar, changed_one, changed_place, forms_by, rules_of}
 pub use Rattle.schemars_render.specs.Searched.{BelongsAt, IsFoundAt}
-pub use Rattle.schemars_schema.proofs.SortedMembers.{IsSorted, above-trans, get_member-above, same_members, sorted-put, sorted-put_all, sorted-without}
+pub use Rattle.schemars_schema.proofs.SortedMembers.{IsSorted, above-trans, get_member-above, same_members, sorted-entries, sorted-put, sorted-put_all, sorted-without}
 pub use Rattle.schemars_schema.specs.Edits.{changed_at, holds_text, replaced, with_first, with_item, with_member, without}
 pub use Rattle.schemars_schema.specs.Json.{AreWholeJson, AreWholeJsonMembers, IsAbove, IsWholeJson, Text}
 pub use Rattle.schemars_schema.specs.References.{NoSchemas, OneSchema, Place, SchemaList, SchemaOrList, SchemasByName, place_under}

@@ -1,5 +1,5 @@
 -- A whole number against a float, exactly: the float's whole part tells, since a float of 2^53 or more has no fraction.
-use Rattle.std.proofs.Common.{◌≡◌, ℕ, zero, suc, ◌+◌, ◌*◌, ◌/◌, ◌%◌, ◌^◌, ◌<◌, ◌≤◌, ℤ, pos, negsuc, Bool, true, false, T, refl, sym, ap, ◌∙◌, arith, true≢false, div-add-mod', mod-lt, nat_eq, div-le_self, subst, mul-pos, div-lt_iff_lt-mul, mul-div_cancel, min, ltb, w64, le_trans, unsigned_abs}
+use Rattle.std.proofs.Common.{◌≡◌, ℕ, zero, suc, ◌*◌, ◌/◌, ◌%◌, ◌^◌, ◌<◌, ◌≤◌, ℤ, pos, negsuc, Bool, true, false, T, refl, sym, ap, ◌∙◌, arith, true≢false, div-add-mod', nat_eq, div-le_self, mul-pos, div-lt_iff_lt-mul, mul-div_cancel, unsigned_abs}
 use Rattle.schemars_schema.proofs.Words.{nat_tests, Float, nan, inf, fin, binary64, two_to, minus_one, eq, T_from_true, HasValue, round_whole, down_pos, Some, None, is_some, int_eq, Num, unsigned, negative, float, as_integer, as_u64, as_i64, is_float, to_float, num_of, is_valid, of_whole, value_of, number_eq}
 use Rattle.std.specs.Float.Ieee
 use lib.Ieee.{up, down}

@@ -1,6 +1,6 @@
 -- Members in the order of their keys, each once.
-use Rattle.std.proofs.Common.{◌≡◌, List, [], ◌∷◌, Some, None, Bool, true, false, Ordering, Less, Equal, Greater, nat_cmp, refl, sym, ap, ◌∙◌}
-use Rattle.schemars_schema.proofs.Words.{nat_list_cmp_total, exact_bytes, bytes_eq-Decides, bytes_eq, if◌then◌else◌, ⊤, match_ordering, ordering_reverse, slice_cmp, Data, Members, no_members, member, put, get_member, Text, IsAbove, put_all, put_members, replaced, without, get_member-here, get_member-later}
+use Rattle.std.proofs.Common.{◌≡◌, List, [], ◌∷◌, Some, None, Bool, true, false, Ordering, Less, Equal, Greater, nat_cmp, string_cmp, String, Global, string_bytes, refl, sym, ap, ◌∙◌}
+use Rattle.schemars_schema.proofs.Words.{nat_list_cmp_total, exact_bytes, bytes_eq-Decides, bytes_eq, if◌then◌else◌, ⊤, match_ordering, ordering_reverse, slice_cmp, AllByRecursion, IsStrictlySortedBy, keys_of, members_view, Entry, Data, Members, no_members, member, put, get_member, Text, IsAbove, put_all, put_members, replaced, without, get_member-here, get_member-later}
 
 -- members in the order of their keys, each once
 abbrev pub IsSorted : Members → Type 0
@@ -117,3 +117,15 @@ same_members (member k d ms) (member l e ns) h i same =
         below q false at =
             let name : k ≡ l = exact_bytes k l is in
             sym (get_member-later q k d ms at) ∙ (same q ∙ get_member-later q l e ns (ap (bytes_eq q) (sym name) ∙ at))
+
+-- ---- members of a map are in the order of its keys
+
+above-entries : (e : Entry) (es : List Entry) → AllByRecursion (λ l. string_cmp e.0 l ≡ Less) (keys_of es)
+    → IsAbove (string_bytes e.0) (members_view es)
+above-entries e [] h = tt
+above-entries e (f ∷ es) h = (h.0, above-entries e es h.1)
+
+pub sorted-entries : (es : List Entry) → IsStrictlySortedBy string_cmp (keys_of es) → IsSorted (members_view es)
+unfolding IsStrictlySortedBy
+sorted-entries [] h = tt
+sorted-entries (e ∷ es) h = (above-entries e es h.0, sorted-entries es h.1)

@@ -60,8 +60,9 @@ pub use Rattle.std.specs.Float.{Float, binary64, fin, inf, minus_one, nan, two_t
 unfoldable pub use Rattle.std.specs.Float.{float_is_finite}
 pub use Rattle.std.specs.Float.Ieee.{down, up}
 unfoldable pub use Rattle.std.specs.Float.Ieee.{eq, le, lt}
-pub use Rattle.std.specs.List.{list_all, onto_first, slice_split}
-pub use Rattle.std.specs.Map.{remove_entry, set_value}
+pub use Rattle.std.specs.List.{AllByRecursion, list_all, onto_first, slice_split}
+unfoldable pub use Rattle.std.specs.List.Sorted.{IsStrictlySortedBy}
+pub use Rattle.std.specs.Map.{keys_of, remove_entry, set_value}
 pub use Rattle.std.specs.Option.{ghost_name_of}
 pub use Rattle.std.specs.Ordering.{int_eq, match_ordering, ordering_reverse}
 pub use Rattle.std.specs.Prelude.{All, Err, IfOk, IsTrue, IsUtf8, None, Ok, OnSome, Option, Result, Some, bytes_eq, codes, if◌then◌else◌, int_le, is_some, nat_le, nat_lt, negsuc, not, option_and_then, option_map, pos, ⊤, ◌&&◌, ◌==◌, ◌||◌}

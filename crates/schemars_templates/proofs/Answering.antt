@@ -1,5 +1,5 @@
 -- A template with the keywords of answers put in: what it asks, and how it is filled.
-use Rattle.std.proofs.Common.{rules, Box, Vec, Global, ◌≡◌, List, [], ◌∷◌, ◌++◌, map, refl, sym, ap, ◌∙◌, append-nil, append_assoc}
+use Rattle.std.proofs.Common.{rules, Box, Vec, Global, ◌≡◌, List, [], ◌∷◌, ◌++◌, map, sym, ap, ◌∙◌, append-nil, append_assoc}
 use Rattle.schemars_templates.proofs.Words.{Data, Ask, Template, finished, asked, with_keywords, asks_of, filled, left, ask_of, template_view, node_view, with_answers}
 use Rattle.schemars_templates.specs.declared.template.Ask as src-ask
 use Rattle.schemars_templates.specs.declared.template.SchemaTemplate.{SchemaTemplate}

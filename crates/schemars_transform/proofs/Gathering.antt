@@ -1,6 +1,6 @@
 -- The names that a schema and those inside it add, call by call.
 use Rattle.std.proofs.Common.{◌≡◌, ℕ, ◌+◌, ◌<◌, ◌≤◌, Some, None, List, [], ◌∷◌, ◌++◌, length, get_or, drop, Bool, true, false, IsTrue, codes, refl, sym, ap, ◌∙◌, subst}
-use Rattle.schemars_transform.proofs.Words.{false≢true, Data, null, boolean, number, string, array, object, Items, no_items, item, Members, no_members, member, as_array, as_object, view, items_view, members_view, Entry, Text, inserted, put_missing, array-as_array, not_array, object-as_object, not_object, from_here, names_in, names_in_items, names_in_keywords, names_under, with_names, properties_made}
+use Rattle.schemars_transform.proofs.Words.{false≢true, Data, boolean, array, object, Items, no_items, item, Members, no_members, member, as_array, as_object, view, items_view, members_view, Entry, Text, inserted, put_missing, array-as_array, not_array, object-as_object, not_object, from_here, names_in, names_in_items, names_in_keywords, names_under, with_names, properties_made}
 use Rattle.serde_json.specs.declared.value.Value.{Value}
 use Rattle.schemars_text.proofs.Lists.{nothing_left as none_left}
 

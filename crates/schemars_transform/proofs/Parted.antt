@@ -1,5 +1,5 @@
 -- What built-in transforms make of a document is what they make of its definitions, each by itself, and of what is left.
-use Rattle.std.proofs.Common.{◌≡◌, Bool, true, false, List, [], ◌∷◌, Some, Option, None, option_map, codes, refl, sym, ap, ◌∙◌, subst}
+use Rattle.std.proofs.Common.{◌≡◌, Bool, true, false, List, [], ◌∷◌, Some, None, option_map, codes, refl, sym, ap, ◌∙◌, subst}
 use Rattle.schemars_transform.proofs.Words.{and_parts, ◌&&◌, is_some, if◌then◌else◌, Data, null, boolean, number, string, array, object, Members, no_members, member, get_member, as_bool, Text, IsSchema, members_in, replaced, NoSchemas, SchemasByName, place_under, Rules, rewritten, everywhere, all_changed, form_at, forms, in_names, in_keywords, bool_rules, replace_bool_schemas, without_siblings, with_single_example, const_as_enum, prefix_as_items, with_nullable, unevaluated_as_additional, function_of, made_by, value_made_by, each_made_by, is_local, are_local}
 use Rattle.schemars_transform.specs.declared.built_in.bool_schemas.ReplaceBoolSchemas as bools
 use Rattle.schemars_transform.specs.declared.gen_transform.GenTransform.{GenTransform}

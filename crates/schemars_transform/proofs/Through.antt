@@ -1,6 +1,6 @@
 -- Two rewrites whose rules say the same, where one knows more than it needs.
-use Rattle.std.proofs.Common.{◌≡◌, refl, ap, ◌∙◌}
-use Rattle.schemars_transform.proofs.Words.{Data, boolean, array, object, Items, no_items, item, Members, no_members, member, Text, Forms, Rules, rewritten, form_at, forms, in_items, in_names, in_keywords}
+use Rattle.std.proofs.Common.{◌≡◌, refl, ap}
+use Rattle.schemars_transform.proofs.Words.{Data, boolean, array, object, Items, no_items, item, Members, no_members, member, Text, Forms, Rules, rewritten, forms, in_items, in_names, in_keywords}
 
 module _ {R S : Type 0} (ρ : Rules R) (σ : Rules S) (f : R → S) (inside : (r : R) (d : Data) → σ.inside (f r) d ≡ f (ρ.inside r d))
     (place : (r : R) (k : Text) (d : Data) → σ.place (f r) k d ≡ ρ.place r k d) (finish : (r : R) (d : Data)

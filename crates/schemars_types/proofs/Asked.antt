@@ -1,6 +1,6 @@
 -- The rows whose options a row's own depend on.
 use Rattle.std.proofs.Common.{◌≡◌, ◌<◌, ◌∙◌, inl, inr, ℕ, zero, suc, List, [], ◌∷◌, Option, Some, None, length, get_or, map, Contains, refl, ap, sym, subst, arith}
-use Rattle.schemars_types.proofs.Words.{option_and_then, option_map_or, Contains-append_left, Contains-append_right, Contains-append_cases, Shape, Entry, Tagging, by_name, by_nothing, by_tag, by_tag_and_content, Variant, Payload, no_payload, newtype_payload, tuple_payload, struct_payload, flattened_rows, payload_numbers, payload_flattened, payload_same, payload_same_by, payload_beside, of_variants, variant_numbers, numbers_of, same_value_numbers, flattened_numbers, asked_numbers, option_of, variant_of, payload_of, Row, entry_at, RefersWithin, SameValueEdge, numbers_at, same_value_numbers_at, option_at, nothing_among}
+use Rattle.schemars_types.proofs.Words.{option_and_then, option_map_or, Contains-append_left, Contains-append_right, Contains-append_cases, Shape, Entry, Tagging, by_name, by_nothing, by_tag, by_tag_and_content, Variant, Payload, no_payload, newtype_payload, tuple_payload, struct_payload, flattened_rows, payload_numbers, payload_flattened, payload_same, payload_same_by, payload_beside, of_variants, numbers_of, same_value_numbers, flattened_numbers, asked_numbers, option_of, variant_of, payload_of, Row, entry_at, RefersWithin, SameValueEdge, numbers_at, same_value_numbers_at, option_at, nothing_among}
 use Rattle.schemars_shapes.specs.declared.variant.Variant as src-variant
 use Rattle.schemars_shapes.specs.Shape as shape
 

@@ -18,7 +18,7 @@ pub use Rattle.schemars_shapes.proofs.SelfEqual.{entry_eq-refl}
 pub use Rattle.schemars_shapes.specs.Decimals.{entry_has_float}
 pub use Rattle.schemars_shapes.specs.Equality.{entry_eq}
 pub use Rattle.schemars_shapes.specs.Repeated.{AreDistinctLists, IsFirstRepeated, IsRepeated}
-pub use Rattle.schemars_shapes.specs.Shape.{Entry, Field, Fields, Payload, Shape, Tagging, Variant, adjacent_view, any, asked_numbers, bare_fields, by_name, by_nothing, by_tag, by_tag_and_content, entry_of, enum, flattened_numbers, flattened_rows, in_place, int, internal_variant_of, internal_view, literal, names_of, needed, newtype, newtype_payload, no_payload, non_zero, numbers_of, of_variants, option_of, payload_beside, payload_flattened, payload_numbers, payload_of, payload_same, payload_same_by, same_value_numbers, shape_of, struct, struct_payload, tuple, tuple_payload, variant_numbers, variant_of, without_notes}
+pub use Rattle.schemars_shapes.specs.Shape.{Entry, Field, Fields, Payload, Shape, Tagging, Variant, adjacent_view, any, asked_numbers, bare_fields, by_name, by_nothing, by_tag, by_tag_and_content, entry_of, enum, flattened_numbers, flattened_rows, in_place, int, internal_variant_of, internal_view, literal, names_of, needed, newtype, newtype_payload, no_payload, non_zero, numbers_of, of_variants, option_of, payload_beside, payload_flattened, payload_numbers, payload_of, payload_same, payload_same_by, same_value_numbers, shape_of, struct, struct_payload, tuple, tuple_payload, variant_of, without_notes}
 pub use Rattle.schemars_shapes.specs.Units.{is_bare_unit}
 pub use Rattle.schemars_text.proofs.Members.{bytes_eq_comm}
 pub use Rattle.schemars_types.specs.EdgeKind.{Ascends, LeadsOn, targets_along, targets_from}

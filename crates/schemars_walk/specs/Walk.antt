@@ -1,6 +1,6 @@
 -- What a walk over subschemas does, for every transform: which schemas it reaches, in which order, and what it makes of them.
 use Rattle.std.specs.Prelude.{◌≡◌, ℕ, zero, suc, ◌⊎◌, Bool, true, false, Result, Ok, Err, OnOk}
-use Rattle.serde_json.specs.Data.{Data, null, boolean, number, string, array, object, Items, no_items, item, Members, no_members, member}
+use Rattle.serde_json.specs.Data.{Data, boolean, array, object, Items, no_items, item, Members, no_members, member}
 use Rattle.schemars_schema.specs.Json.{Text}
 use Rattle.schemars_schema.specs.References.{NoSchemas, OneSchema, SchemaList, SchemaOrList, SchemasByName, place_under}
 use Rattle.schemars_schema.specs.References as references

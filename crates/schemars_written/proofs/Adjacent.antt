@@ -1,6 +1,6 @@
 -- Variants of enums whose names stand beside a content, under keys of their own.
 use Rattle.std.proofs.Common.{◌≡◌, ◌⊎◌, inl, inr, ℕ, suc, ◌*◌, ◌<◌, ◌≤◌, List, [], ◌∷◌, length, Bool, true, false, not, Some, None, refl, sym, ap, ◌∙◌, subst, arith}
-use Rattle.schemars_written.proofs.Words.{bytes_eq, Contains, is_some, ◌&&◌, if◌then◌else◌, IsDistinct, option_map_or, mul-le, bytes_eq-Decides, Json, Event, Log, Logs, spelled, Data, string, Members, no_members, member, members_depth, depth, get_member, of_json, of_members, get_member-here, Text, Patterns, AllMembers, by_tag_and_content, Payload, no_payload, newtype_payload, tuple_payload, struct_payload, payload_numbers, Row, rank, IsChecked, expanded_payload, flattened_in, part_enums, belongs_within, choices_within, has_payload, has_beside, every_member, Member, member_named, must_have, tag_member, IsPlain, Gives, GivesMembers, Named, Beside, Tagged, Struct, IsObject, FirstMember, NoMembers, Done, MeansUnder, HasVariantAt}
+use Rattle.schemars_written.proofs.Words.{bytes_eq, Contains, is_some, ◌&&◌, if◌then◌else◌, IsDistinct, option_map_or, mul-le, bytes_eq-Decides, Json, Log, Logs, spelled, Data, string, Members, no_members, member, members_depth, depth, get_member, of_json, of_members, get_member-here, Text, Patterns, AllMembers, by_tag_and_content, Payload, no_payload, newtype_payload, tuple_payload, struct_payload, payload_numbers, Row, rank, IsChecked, expanded_payload, flattened_in, part_enums, belongs_within, choices_within, has_payload, has_beside, every_member, Member, member_named, must_have, tag_member, Gives, Beside, Struct, IsObject, FirstMember, NoMembers, Done, MeansUnder, HasVariantAt}
 use Rattle.json.specs.Json as json
 use Rattle.serde.specs.Event as event
 use Rattle.serde.specs.declared.name.Case.{Case}

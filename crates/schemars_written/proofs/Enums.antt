@@ -1,6 +1,6 @@
 -- Variants of enums, by how their names are written.
 use Rattle.std.proofs.Common.{◌≡◌, ◌⊎◌, inl, inr, ℕ, suc, ◌+◌, ◌*◌, ◌<◌, ◌≤◌, List, [], ◌∷◌, ◌++◌, length, map, Bool, true, false, not, Option, Some, None, refl, sym, ap, ◌∙◌, subst, arith, append-nil}
-use Rattle.schemars_written.proofs.Words.{bytes_eq, Contains, is_some, ◌&&◌, if◌then◌else◌, IsDistinct, option_map_or, common_steps, bytes_eq-Decides, Json, Event, Log, Logs, spelled, Data, string, object, Members, no_members, member, members_depth, depth, put, get_member, of_json, of_members, get_member-here, Text, Patterns, AllMembers, Field, Tagging, by_name, by_nothing, by_tag, by_tag_and_content, Variant, Payload, no_payload, newtype_payload, tuple_payload, struct_payload, payload_numbers, payload_same, Row, rank, IsChecked, expanded_variant, expanded_payload, flattened_in, part_enums, belongs_within, choices_within, has_variant, has_payload, has_tagged, field_named, is_text, every_member, Member, member_named, must_have, tag_member, field_member, has_member, Gives, GivesMembers, Named, Beside, Tagged, Struct, IsObject, FirstMember, NoMembers, Done, Fits, MeansUnder, HasVariantAt, AvoidsTag}
+use Rattle.schemars_written.proofs.Words.{bytes_eq, Contains, is_some, ◌&&◌, if◌then◌else◌, IsDistinct, option_map_or, common_steps, bytes_eq-Decides, Json, Log, Logs, spelled, Data, string, object, Members, no_members, member, members_depth, depth, put, get_member, of_json, of_members, get_member-here, Text, Patterns, AllMembers, Field, Tagging, by_name, by_nothing, by_tag, Variant, Payload, no_payload, newtype_payload, tuple_payload, struct_payload, payload_numbers, payload_same, Row, rank, IsChecked, expanded_variant, expanded_payload, flattened_in, part_enums, belongs_within, choices_within, has_variant, has_payload, has_tagged, field_named, is_text, every_member, Member, member_named, must_have, tag_member, field_member, has_member, Gives, GivesMembers, Named, Beside, Tagged, Struct, IsObject, FirstMember, NoMembers, Done, Fits, MeansUnder, HasVariantAt, AvoidsTag}
 use Rattle.json.specs.Json as json
 use Rattle.serde.specs.Event as event
 use Rattle.serde.specs.declared.name.Case.{Case}

@@ -1,6 +1,6 @@
 -- The laws of implementations, in the form in which they are cited.
 use Rattle.std.proofs.Common.{◌≡◌, inl, inr, ℕ, ◌<◌, ◌^◌, ℤ, pos, negsuc, List, [], ◌∷◌, length, Bool, true, Option, Float, refl, arith}
-use Rattle.schemars_written.proofs.Words.{All, FitsSigned, IsTrue, float_is_finite, w8, w16, w32, w64, ints, nat_tests, Log, Logs, WritesEach, WritesSeq, WritesOption, WritesMap, InSeq, Then, number_event, num_of, is_valid, number_view, Text, Patterns, Field, Row, IsChecked, Gives, GivesAsKey, GivesMembers, Done, Struct, NoMembers, NoItems, IsArray, AnyReading, IsWithin64, IsNumberRow, HasShape, IsArrayRow, HasFields, NextField, NextOptional, LastField, MeansUnder, Means, IsKeyUnder, OfSome}
+use Rattle.schemars_written.proofs.Words.{All, FitsSigned, IsTrue, float_is_finite, w8, w16, w32, w64, ints, nat_tests, Log, Logs, WritesEach, WritesSeq, WritesOption, WritesMap, InSeq, Then, number_event, num_of, is_valid, number_view, Text, Patterns, Field, Row, IsChecked, Gives, GivesAsKey, GivesMembers, Done, Struct, NoItems, IsArray, AnyReading, IsWithin64, IsNumberRow, HasShape, IsArrayRow, HasFields, NextField, NextOptional, LastField, MeansUnder, Means, IsKeyUnder, OfSome}
 use Rattle.serde.specs.Event as event
 use Rattle.serde_json.specs.declared.number.N.{N}
 use Rattle.serde_json.specs.declared.number.N.TheVariants as kept

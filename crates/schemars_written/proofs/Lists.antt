@@ -1,6 +1,6 @@
 -- Options, lists and tuples.
 use Rattle.std.proofs.Common.{◌≡◌, ℕ, zero, suc, ◌+◌, ◌*◌, ◌<◌, ◌≤◌, List, [], ◌∷◌, ◌++◌, length, Bool, true, false, ◌&&◌, ◌||◌, ◌==◌, Option, Some, None, refl, sym, ap, ◌∙◌, subst, arith, append_assoc, append-nil, mul-le-mul_right}
-use Rattle.schemars_written.proofs.Words.{All, option_map, option_and_then, Contains, common_steps, All-head, All-tail, mul-le, Json, json_tokens, items_tokens, Event, Log, Logs, WritesEach, WritesSeq, WritesOption, InSeq, Then, Data, depth, items_depth, null, array, Items, no_items, item, items_len, of_json, of_items, TakesAll, Patterns, is_null, Shape, Entry, numbers_of, Row, rank, IsChecked, belongs_within, every_item, each_of, IsPlain, Gives, GivesItems, First, NoItems, Each, IsArray, AnyReading, Fits, MeansUnder, Means, HasShape, OfSome}
+use Rattle.schemars_written.proofs.Words.{All, option_map, option_and_then, Contains, common_steps, All-head, All-tail, mul-le, Json, json_tokens, items_tokens, Log, Logs, WritesEach, WritesSeq, WritesOption, InSeq, Then, Data, depth, items_depth, null, array, Items, no_items, item, items_len, of_json, of_items, TakesAll, Patterns, is_null, Row, rank, IsChecked, belongs_within, every_item, each_of, IsPlain, Gives, GivesItems, First, NoItems, Each, IsArray, AnyReading, Fits, MeansUnder, Means, HasShape, OfSome}
 use Rattle.json.specs.Json as json
 use Rattle.json.specs.Token as token
 use Rattle.serde.specs.Event as event

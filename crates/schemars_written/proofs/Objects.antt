@@ -1,6 +1,6 @@
 -- Maps and structs.
 use Rattle.std.proofs.Common.{◌≡◌, ◌⊎◌, inl, inr, ℕ, suc, ◌*◌, ◌<◌, ◌≤◌, List, [], ◌∷◌, ◌++◌, length, map, Bool, true, false, not, ◌||◌, Option, Some, None, is_some, refl, sym, ap, ◌∙◌, subst, arith, append_assoc, append-nil}
-use Rattle.schemars_written.proofs.Words.{option_map, option_and_then, Contains, bytes_eq, if◌then◌else◌, IsDistinct, AllByRecursion, option_map_or, common_steps, bytes_eq-Decides, Json, json_tokens, members_tokens, Event, Log, Logs, WritesEach, WritesEntry, WritesMap, Then, spelled-AsIs, Data, depth, members_depth, object, Members, no_members, member, put, get_member, of_json, of_members, State, Takes, TakesAll, get_member-put, get_member-put_other, Text, Patterns, differ, Shape, Entry, Field, numbers_of, names_of, AreDistinctLists, AllMembers, all_put, Row, rank, IsChecked, belongs_within, every_member, field_named, has_fields, is_required, IsPlain, Gives, GivesMembers, SpellsMembers, LeadsMembers, NoMembers, FirstMember, IsObject, Done, Struct, Fits, MeansUnder, HasShape}
+use Rattle.schemars_written.proofs.Words.{option_map, option_and_then, Contains, bytes_eq, if◌then◌else◌, IsDistinct, AllByRecursion, option_map_or, common_steps, bytes_eq-Decides, Json, json_tokens, members_tokens, Event, Log, Logs, spelled-AsIs, Data, depth, members_depth, object, Members, no_members, member, put, get_member, of_json, of_members, State, Takes, TakesAll, get_member-put, get_member-put_other, Text, Patterns, differ, Entry, Field, names_of, AreDistinctLists, AllMembers, all_put, Row, rank, IsChecked, belongs_within, every_member, field_named, has_fields, is_required, IsPlain, Gives, GivesMembers, SpellsMembers, NoMembers, FirstMember, IsObject, Struct, Fits, MeansUnder, HasShape}
 use Rattle.json.specs.Json as json
 use Rattle.json.specs.Token as token
 use Rattle.serde.specs.Event as event

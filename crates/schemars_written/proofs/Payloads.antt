@@ -1,6 +1,6 @@
 -- What a variant has beside its name.
 use Rattle.std.proofs.Common.{◌≡◌, inl, inr, ℕ, suc, ◌+◌, ◌*◌, ◌<◌, ◌≤◌, List, [], ◌∷◌, ◌++◌, length, map, Bool, true, false, ◌||◌, Some, refl, sym, ap, ◌∙◌, subst, arith}
-use Rattle.schemars_written.proofs.Words.{bytes_eq, Contains, IsDistinct, list_any, option_map_or, Contains-append_left, Contains-append_right, Json, Data, null, depth, items_depth, as_array, of_json, of_items, Text, Patterns, is_null, Shape, Entry, Field, Flattened, Tagging, by_name, by_nothing, by_tag, by_tag_and_content, Variant, Payload, no_payload, newtype_payload, tuple_payload, struct_payload, payload_numbers, payload_names, of_variants, variant_names, tagging_keys, names_of, numbers_of, AreDistinctLists, Row, rank, IsChecked, expanded_payload, flattened_fields, flattened_enums, flattened_in, part_enums, enum_at, belongs_within, choices_within, each_of, has_fields, has_payload, holds, matches_of, IsArray, IsObject, MeansUnder, HasShape, HasVariant}
+use Rattle.schemars_written.proofs.Words.{bytes_eq, Contains, IsDistinct, list_any, option_map_or, Contains-append_left, Contains-append_right, Json, Data, null, depth, items_depth, as_array, of_json, of_items, Text, Patterns, is_null, Entry, Field, Flattened, Tagging, by_tag_and_content, Variant, Payload, no_payload, newtype_payload, tuple_payload, struct_payload, payload_numbers, payload_names, of_variants, variant_names, tagging_keys, names_of, AreDistinctLists, Row, rank, IsChecked, expanded_payload, flattened_fields, flattened_enums, flattened_in, part_enums, enum_at, belongs_within, choices_within, each_of, has_fields, has_payload, holds, matches_of, IsArray, IsObject, MeansUnder, HasShape, HasVariant}
 use Rattle.json.specs.Json as json
 use Rattle.schemars_shapes.specs.Shape as shape
 use Rattle.schemars_types.specs.declared.contract.Contract.TheVariants.{Serialize}

@@ -1,6 +1,6 @@
 -- What values are read as, and that different values are read as different JSON.
 use Rattle.std.proofs.Common.{◌≡◌, ℕ, ◌<◌, ◌^◌, ℤ, pos, negsuc, List, [], ◌∷◌, ◌++◌, Bool, true, false, Some, Ordering, Less, Equal, nat_cmp, is_eq, encode_utf8, refl, sym, ap, ◌∙◌, arith}
-use Rattle.schemars_written.proofs.Words.{option_map, bytes_eq, FitsSigned, String, string_bytes, signed_decimal, w8, w16, w32, w64, int_cmp, int_eq, bool_cmp, ordering_reverse, string_cmp, slice_cmp, nat_list_cmp_total, nat_cmp_total, int_cmp_total, tied_itself, common_steps, ints, nat_tests, bytes_eq-Decides, encodes_same, Log, Logs, unsigned, boolean, number, string, of_integer, of_json, alike, json_eq, value_of, of_whole, eq_whole, Row, IsChecked, is_of_kind, Gives, AnyReading, IsWithin64, MeansJust, HasShape}
+use Rattle.schemars_written.proofs.Words.{option_map, bytes_eq, FitsSigned, String, string_bytes, signed_decimal, w8, w16, w32, w64, int_cmp, int_eq, bool_cmp, ordering_reverse, string_cmp, slice_cmp, nat_list_cmp_total, nat_cmp_total, int_cmp_total, tied_itself, common_steps, ints, nat_tests, bytes_eq-Decides, encodes_same, Logs, unsigned, boolean, number, string, of_integer, of_json, alike, json_eq, value_of, of_whole, eq_whole, Row, IsChecked, is_of_kind, Gives, AnyReading, IsWithin64, MeansJust, HasShape}
 use Rattle.std.specs.declared.alloc.Global.{Global}
 use Rattle.json.specs.Json as json
 use Rattle.serde.specs.Event as event

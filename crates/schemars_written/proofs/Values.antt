@@ -1,6 +1,6 @@
 -- JSON values, and numbers.
 use Rattle.std.proofs.Common.{◌≡◌, inl, inr, ℕ, List, true, false, Option, Some, None, Float, refl, subst, arith}
-use Rattle.schemars_written.proofs.Words.{option_map, codes, float_is_finite, common_steps, Json, Event, Log, Logs, InSeq, Then, Num, unsigned, negative, float, Data, null, boolean, number, string, array, object, Items, no_items, item, Members, no_members, member, number_event, items_len, members_len, SendsValue, SendsItems, SendsMembers, get, get_member, number_of, State, Takes, TakesFloat, ReadsAsSingle, ReadsAsDouble, Text, where_given, Row, IsPlain, Gives, GivesItems, GivesMembers, Done, Struct, IsArray, IsObject, First, FirstMember, NoItems, NoMembers, Fits, Means, HasShape, HasNumbers, IsFreeOfBounds, IsNumberRow}
+use Rattle.schemars_written.proofs.Words.{option_map, codes, float_is_finite, common_steps, Json, Log, Logs, InSeq, Then, Num, unsigned, negative, float, Data, null, boolean, number, string, array, object, Items, no_items, item, Members, no_members, member, number_event, items_len, members_len, SendsValue, SendsItems, SendsMembers, get, get_member, number_of, State, Takes, TakesFloat, ReadsAsSingle, ReadsAsDouble, Text, where_given, Row, IsPlain, Gives, GivesItems, GivesMembers, Done, Struct, IsArray, IsObject, First, FirstMember, NoItems, NoMembers, Fits, Means, HasShape, HasNumbers, IsFreeOfBounds, IsNumberRow}
 use Rattle.json.specs.Json as json
 use Rattle.serde.specs.Event as event
 use Rattle.serde.specs.declared.name.Case.TheVariants.{AsIs}

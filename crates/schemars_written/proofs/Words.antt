@@ -37,7 +37,7 @@ pub use Rattle.schemars_types.specs.Meaning.{Member, choices_within, each_of, ev
 unfoldable pub use Rattle.schemars_types.specs.Meaning.{belongs_within}
 pub use Rattle.schemars_types.specs.Rows.{Row, entry_at}
 pub use Rattle.schemars_written.specs.Fits.{AreApart, AvoidsTag, Fits, HasFields, HasFlattened, HasList, HasNewtype, HasNumbers, HasOwnFields, HasPart, HasShape, HasStruct, HasTuple, HasUnit, HasVariant, HasVariantAt, IsArrayRow, IsFreeOfBounds, IsKeyUnder, IsNumberRow, LastField, LastItem, Means, MeansJust, MeansJustUnder, MeansUnder, NextField, NextItem, NextOptional, OfSome}
-pub use Rattle.schemars_written.specs.Gives.{Beside, Done, Each, EachEntry, First, FirstMember, Gives, GivesAsKey, GivesItems, GivesMembers, IsArray, IsAtKey, IsObject, IsPlain, LeadsMembers, Named, NoItems, NoMembers, SpellsMembers, Struct, Tagged}
+pub use Rattle.schemars_written.specs.Gives.{Beside, Done, Each, EachEntry, First, FirstMember, Gives, GivesAsKey, GivesItems, GivesMembers, IsArray, IsAtKey, IsObject, IsPlain, Named, NoItems, NoMembers, SpellsMembers, Struct, Tagged}
 pub use Rattle.schemars_written.specs.Readings.{AnyReading, IsAmong, IsWithin64, Readings, TakesInteger, TakesNatural, TakesWholeNumbers, both, every, inside, of_each, of_entries, of_some, those}
 pub use Rattle.schemars_written.specs.Writes.{BelongsAsReadUnder, BelongsUnder}
 pub use Rattle.serde.proofs.Spellings.{spelled-AsIs}

@@ -3,7 +3,7 @@ use Rattle.schemars_impls.proofs.Words.{in_place, map_from, map_id, map_name, Re
 use Rattle.schemars_types.specs.declared.error.TypesError.TheVariants.{OutOfMemory}
 use Rattle.schemars_impls.proofs.Keeping.{keeps-same, keeps-trans, reserved_keeps, place_of-kept, known-two}
 use Rattle.schemars_impls.proofs.Following.{id-there}
-use Rattle.schemars_impls.proofs.OwnRows.{row-made, row-present, made-memory, row_of_keeps}
+use Rattle.schemars_impls.proofs.OwnRows.{row-made, made-memory, row_of_keeps}
 use Rattle.schemars_impls.proofs.rows.map_from.Goals as goal
 
 pub returns-clause-has : goal.returns-clause-has

@@ -1,4 +1,3 @@
-use Rattle.std.proofs.Common.{◌≡◌}
 use Rattle.schemars_impls.proofs.Keeping.{keeps-trans}
 use Rattle.schemars_impls.proofs.OwnRows.{row_number, map_follows}
 use Rattle.schemars_impls.proofs.rows.map_of.Goals as goal

@@ -1,5 +1,5 @@
 use Rattle.schemars_render.proofs.Words.{has_float-json, assembled_view}
-use Rattle.std.proofs.Common.{refl, rules}
+use Rattle.std.proofs.Common.{refl}
 use Rattle.schemars_render.proofs.rendering.written.Goals as goal
 
 pub returns : goal.returns

@@ -1,5 +1,5 @@
 -- What each schema of a list adds.
-use Rattle.std.proofs.Common.{◌<◌, length, arith}
+use Rattle.std.proofs.Common.{arith}
 use Rattle.schemars_transform.proofs.Words.{members_view, items_view, items_shallow, with_names, names_in_items}
 use Rattle.schemars_transform.proofs.Gathering.{items_turn, items_end}
 use Rattle.schemars_transform.proofs.built_in.unevaluated.+names.Goals as goal
