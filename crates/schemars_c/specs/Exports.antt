@@ -1,5 +1,5 @@
 -- What the exports hand out, and their numbers.
-use Rattle.std.specs.Prelude.{zero, suc, ◌≡◌, ◌⊎◌, ℕ, ◌<◌, List, [], ◌∷◌, ◌++◌, drop, length, codes, map, string_bytes, String}
+use Rattle.std.specs.Prelude.{zero, suc, ◌≡◌, ◌≢◌, ◌⊎◌, ◌↔◌, ℕ, ◌<◌, ◌≤◌, List, [], ◌∷◌, ◌++◌, drop, length, codes, map, string_bytes, String}
 use Rattle.std.specs.declared.alloc.Global.{Global}
 use Rattle.schemars_schema.specs.Json.{Text}
 use Rattle.schemagen_run.specs.declared.fault.Fault.{Fault}
@@ -7,7 +7,7 @@ use Rattle.schemagen_run.specs.declared.fault.Fault.TheVariants.{Usage, Refused}
 use Rattle.schemars_generate.specs.declared.error.TheConstants.{OUT_OF_MEMORY, DEFINITIONS_PATH}
 use Rattle.schemagen_run.specs.declared.fault.TheConstants.{NOT_JSON, BAD_TABLE, NOT_WHOLE, WRITE}
 use Rattle.schemagen_run.specs.Fault.{IsTableFault}
-use Rattle.schemagen_run.specs.Run.{IsLineFor, IsUnplacedFor}
+use Rattle.schemagen_run.specs.Run.{IsBadTable, IsFaultyTable, IsLineFor, IsNoJson, IsNotWhole, IsUnplacedFor}
 use Rattle.schemalint_run.specs.declared.judging.Verdict.{Verdict}
 use Rattle.schemalint_run.specs.declared.judging.Verdict.TheVariants as verdicts
 use Rattle.schemalint_run.specs.Lint.{AreLines, verdict_line}
@@ -98,3 +98,25 @@ IsTypesRefusal n =
 -- why there is no document of an example
 abbrev pub IsSampleRefusal : ℕ → Type 0
 IsSampleRefusal n = (n ≡ USAGE) ⊎ WantsMemory n ⊎ (n ≡ NOT_JSON) ⊎ (n ≡ NOT_WHOLE)
+
+-- ---- what is handed out, and what a number tells
+
+-- there is a line, which the buffer has or is too short for, or there is none for a reason that has a number
+pub record HandsOut (IsLine : List ℕ → Type 0) (IsRefusal : ℕ → Type 0) (n needed : ℕ) (old new : List ℕ) : Type 0 where
+  pub done : n ≡ DONE → (line : List ℕ) × IsLine line × Fills line needed old new
+  pub no_room : n ≡ NO_ROOM → (line : List ℕ) × IsLine line × LacksRoom line needed old new
+  pub refused : n ≢ DONE → n ≢ NO_ROOM → LeavesAll needed old new × IsRefusal n
+
+-- what the number of a refusal says of the numbers that were given, and of the bytes of a table
+pub record TellsOfTable (dialect flags : ℕ) (table : List ℕ) (n : ℕ) : Type 0 where
+  pub usage : (n ≡ USAGE) ↔ ((4 ≤ dialect) ⊎ (4 ≤ flags))
+  pub not_json : n ≡ NOT_JSON → IsNoJson table
+  pub bad_table : n ≡ BAD_TABLE → IsBadTable table
+  pub faulty : IsTableFault (Refused n) → IsFaultyTable (Refused n) table
+  pub unplaced : n ≡ DEFINITIONS_PATH → IsUnplacedTable (table_words dialect flags) table
+
+-- what it says of the number of a dialect, and of the bytes of an example
+pub record TellsOfExample (dialect : ℕ) (example : List ℕ) (n : ℕ) : Type 0 where
+  pub usage : (n ≡ USAGE) ↔ (4 ≤ dialect)
+  pub not_json : n ≡ NOT_JSON → IsNoJson example
+  pub not_whole : n ≡ NOT_WHOLE → IsNotWhole example

@@ -3,4 +3,4 @@ pub use Rattle.schemagen_run.specs.CommandLine.{AreCommands, AskForSample, AskFo
 pub use Rattle.schemagen_run.specs.Fault.{IsFault, IsOutside, IsTableFault}
 pub use Rattle.schemagen_run.specs.Run.{IsAcceptedText, IsBadTable, IsFaultyTable, IsLineFor, IsNoJson, IsNotWhole, IsNotedText, IsSampleText, IsUnplacedFor}
 pub use Rattle.schemalint_run.specs.Lint.{IsPlainText, IsTextPlainUnder, is_under}
-pub use Rattle.schemars_c.specs.Exports.{Fills, IsHandedOut, IsProgramLine, IsReport, IsSampleRefusal, IsTypesRefusal, IsUnplacedTable, LacksRoom, LeavesAll, WantsMemory, example_words, fault_number, table_words, verdict_number}
+pub use Rattle.schemars_c.specs.Exports.{Fills, HandsOut, IsHandedOut, IsProgramLine, IsReport, IsSampleRefusal, IsTypesRefusal, LacksRoom, LeavesAll, TellsOfExample, TellsOfTable, WantsMemory, example_words, fault_number, table_words, verdict_number}

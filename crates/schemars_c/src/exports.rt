@@ -1,11 +1,11 @@
 //! What C calls for documents.
-ghost use Rattle.std.specs.Prelude.{◌≡◌, ◌≢◌, ◌⊎◌, ◌↔◌, ◌<◌, ◌≤◌, ℕ, List, Err, IfOk, IfErr, OnOk};
-ghost use Rattle.schemars_c.specs.Vocabulary.{IsNoJson, IsBadTable, IsFaultyTable, IsNotWhole, IsAcceptedText, IsNotedText, IsSampleText, IsTableFault, table_words, example_words, IsProgramLine, IsUnplacedTable, Fills, LacksRoom, LeavesAll, IsHandedOut, WantsMemory, IsTypesRefusal, IsSampleRefusal, fault_number};
+ghost use Rattle.std.specs.Prelude.{◌≡◌, ◌⊎◌, ◌<◌, IfOk, IfErr, OnOk};
+ghost use Rattle.schemars_c.specs.Vocabulary.{IsAcceptedText, IsNotedText, IsSampleText, table_words, example_words, IsProgramLine, HandsOut, TellsOfTable, TellsOfExample, IsHandedOut, WantsMemory, IsTypesRefusal, IsSampleRefusal, fault_number};
 
-use crate::handing::{DONE, NO_ROOM, USAGE, hand_out};
+use crate::handing::{USAGE, hand_out};
 use crate::memory::answer;
 use crate::words::{example_words, table_words};
-use schemagen_run::fault::{BAD_TABLE, DEFINITIONS_PATH, Fault, NOT_JSON, NOT_WHOLE};
+use schemagen_run::fault::{DEFINITIONS_PATH, Fault};
 use std::alloc::Global;
 
 /// The document of a table's root, or, for OpenAPI, its definitions: what `schemagen types` writes.
@@ -22,21 +22,9 @@ pub extern "C" fn schemars_types(
     out: &mut [u8],
     needed: &mut usize,
 ) -> u32
-    ensures done { result ≡ DONE → (line : List ℕ)
-        × IsProgramLine (table_words dialect flags) table.now line
-        × Fills line needed.new out.old out.new }
-    ensures no_room { result ≡ NO_ROOM → (line : List ℕ)
-        × IsProgramLine (table_words dialect flags) table.now line
-        × LacksRoom line needed.new out.old out.new }
-    ensures refused { result ≢ DONE → result ≢ NO_ROOM
-        → LeavesAll needed.new out.old out.new × IsTypesRefusal result }
-    ensures usage { (result ≡ USAGE) ↔ ((4 ≤ dialect) ⊎ (4 ≤ flags)) }
-    ensures not_json { result ≡ NOT_JSON → IsNoJson table.now }
-    ensures bad_table { result ≡ BAD_TABLE → IsBadTable table.now }
-    ensures faulty { IsTableFault (Fault.Refused result)
-        → IsFaultyTable (Fault.Refused result) table.now }
-    ensures unplaced { result ≡ DEFINITIONS_PATH
-        → IsUnplacedTable (table_words dialect flags) table.now }
+    ensures handed { HandsOut (IsProgramLine (table_words dialect flags) table.now) IsTypesRefusal
+        result needed.new out.old out.new }
+    ensures told { TellsOfTable dialect flags table.now result }
     ensures accepted { dialect < 4 → flags < 4 → IsAcceptedText table.now
         → IsHandedOut result ⊎ WantsMemory result ⊎ (result ≡ DEFINITIONS_PATH) }
     ensures noted { dialect < 4 → flags < 4 → IsNotedText table.now
@@ -63,17 +51,9 @@ pub extern "C" fn schemars_sample(
     out: &mut [u8],
     needed: &mut usize,
 ) -> u32
-    ensures done { result ≡ DONE → (line : List ℕ)
-        × IsProgramLine (example_words dialect) example.now line
-        × Fills line needed.new out.old out.new }
-    ensures no_room { result ≡ NO_ROOM → (line : List ℕ)
-        × IsProgramLine (example_words dialect) example.now line
-        × LacksRoom line needed.new out.old out.new }
-    ensures refused { result ≢ DONE → result ≢ NO_ROOM
-        → LeavesAll needed.new out.old out.new × IsSampleRefusal result }
-    ensures usage { (result ≡ USAGE) ↔ (4 ≤ dialect) }
-    ensures not_json { result ≡ NOT_JSON → IsNoJson example.now }
-    ensures not_whole { result ≡ NOT_WHOLE → IsNotWhole example.now }
+    ensures handed { HandsOut (IsProgramLine (example_words dialect) example.now) IsSampleRefusal
+        result needed.new out.old out.new }
+    ensures told { TellsOfExample dialect example.now result }
     ensures whole { dialect < 4 → IsSampleText example.now
         → IsHandedOut result ⊎ WantsMemory result }
 {
@@ -92,13 +72,7 @@ fn table_line(alloc: Global, dialect: u32, flags: u32, table: &[u8]) -> Result<V
         (λ line. IsProgramLine (table_words dialect flags) table.now line.items) }
     ensures known { OnOk result ((dialect < 4) × (flags < 4)) }
     ensures refused { IfErr result IsTypesRefusal }
-    ensures usage { (result ≡ Err USAGE) ↔ ((4 ≤ dialect) ⊎ (4 ≤ flags)) }
-    ensures not_json { result ≡ Err NOT_JSON → IsNoJson table.now }
-    ensures bad_table { result ≡ Err BAD_TABLE → IsBadTable table.now }
-    ensures faulty { IfErr result (λ n. IsTableFault (Fault.Refused n)
-        → IsFaultyTable (Fault.Refused n) table.now) }
-    ensures unplaced { result ≡ Err DEFINITIONS_PATH
-        → IsUnplacedTable (table_words dialect flags) table.now }
+    ensures told { IfErr result (TellsOfTable dialect flags table.now) }
     ensures accepted { dialect < 4 → flags < 4 → IsAcceptedText table.now
         → IfErr result (λ n. WantsMemory n ⊎ (n ≡ DEFINITIONS_PATH)) }
     ensures noted { dialect < 4 → flags < 4 → IsNotedText table.now → IfErr result WantsMemory }
@@ -118,9 +92,7 @@ fn example_line(alloc: Global, dialect: u32, example: &[u8]) -> Result<Vec<u8>, 
         (λ line. IsProgramLine (example_words dialect) example.now line.items) }
     ensures known { OnOk result (dialect < 4) }
     ensures refused { IfErr result IsSampleRefusal }
-    ensures usage { (result ≡ Err USAGE) ↔ (4 ≤ dialect) }
-    ensures not_json { result ≡ Err NOT_JSON → IsNoJson example.now }
-    ensures not_whole { result ≡ Err NOT_WHOLE → IsNotWhole example.now }
+    ensures told { IfErr result (TellsOfExample dialect example.now) }
     ensures whole { dialect < 4 → IsSampleText example.now → IfErr result WantsMemory }
 {
     match example_words(alloc, dialect) {
