@@ -84,7 +84,7 @@ fn are_named_and_plain<V: AnyVariant>(
     ensures { IfOk result (λ b. IsTrue b ↔ IsPlainShape (expanded_shape_in types.now
         (enum by_name (map V.says variants.now)))) }
 {
-    if !are_distinct_variants(variants) {
+    if !are_distinct_variants(alloc, variants)? {
         return Ok(false);
     }
     are_plain_variants(alloc, types, variants)
