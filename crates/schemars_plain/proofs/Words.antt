@@ -27,7 +27,8 @@ pub use Rattle.std.proofs.lemmas.Grind.{common_steps}
 pub use Rattle.std.proofs.lemmas.List.{drop_more, map-append, take_rest}
 pub use Rattle.std.proofs.lemmas.Map.Keys.{sorted_head, sorted_tail}
 pub use Rattle.std.proofs.lemmas.Result.{IfOk-weaker, on_ok_weaker}
-pub use Rattle.std.specs.List.{AllByRecursion, IsDistinct, list_all}
+pub use Rattle.std.specs.List.{AllByRecursion, list_all}
+unfoldable pub use Rattle.std.specs.List.{IsDistinct}
 pub use Rattle.std.specs.List.Sorted.{IsStrictlySortedBy}
 pub use Rattle.std.specs.Option.{option_map_or}
 pub use Rattle.std.specs.Prelude.{IsTrue, String, bytes_eq, codes, if◌then◌else◌, is_some, nat_le, not, option_and_then, option_map, string_bytes, string_cmp, suc, ℕ, ◌&&◌, ◌||◌, ◌↔◌}
