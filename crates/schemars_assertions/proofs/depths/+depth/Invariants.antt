@@ -1,7 +1,8 @@
 -- The deepest so far, and what is left.
 use Rattle.std.proofs.Common.{◌≡◌, drop, max}
-use Rattle.schemars_validate.proofs.Words.{items_depth, members_depth, items_view, members_view}
-use Rattle.schemars_validate.proofs.document.+depth.Given as goal
+use Rattle.serde_json.specs.Data.{items_depth, members_depth}
+use Rattle.schemars_assertions.proofs.Words.{items_view, members_view}
+use Rattle.schemars_assertions.proofs.depths.+depth.Given as goal
 
 abbrev pub invariant-items_depth-loop-item : goal.invariant-items_depth-loop-item
 invariant-items_depth-loop-item l =
