@@ -3,7 +3,7 @@ use Rattle.std.proofs.Common.{◌≡◌, List, [], Option, Some, None, Bool, tru
 use Rattle.std.proofs.Math.Bool.{or-false}
 use Rattle.schemars_literals.proofs.Words.{Items, is_listed, Text, holds_text, Patterns, when, are_texts, texts_of, texts_found, holds_listed, KeyOptions, keys, any_text, texts_options, said, any_said}
 
-options : Option (List Text) → KeyOptions
+abbrev options : Option (List Text) → KeyOptions
 options o = elim o [ Some ts ↦ keys false ts None [] | None ↦ any_text ]
 
 found_options : (ds : Items) (b : Bool) → are_texts ds ≡ b → texts_options ds ≡ options (when b (texts_of ds))
