@@ -4,7 +4,8 @@ use Rattle.std.proofs.lemmas.List.{nil_from_length}
 use Rattle.schemars_validate.proofs.Words.{◌||◌, if◌then◌else◌, is_some, option_map, option_and_then, max, map, Data, Items, no_items, item, Members, member, depth, items_depth, members_depth, view, items_view, members_view, get_member, Entry, iter_rest, iter_steps, Text, is_schema, schema_only, Verdict, Yes, No, Open, both, all_of, Context, Judge, Patterns, where_some, Part, by_patterns, matches_some, schema_named, beside_members, one_more, judged_by_some, judge, with_schema, both-assoc, marked, each_unmarked, each_unmarked_item, is_marked, judged_by_one, first_of, judge_at, judges_of, named_judges_in, each_item, member_by}
 use Rattle.serde_json.specs.declared.value.Value.{Value}
 use Rattle.schemars_validate.proofs.Measures.{depth_at, members_depth_at, member_shallow}
-use Rattle.schemars_validate.proofs.Judging.{marked_none, next_marks}
+use Rattle.schemars_validate.proofs.MarkedAlike.{marked_none}
+use Rattle.schemars_validate.proofs.OneSchema.{next_marks}
 use Rattle.schemars_validate.proofs.Readings.{schema_named-judges, named-judges}
 
 -- what is said so far, with what one more says, and then what the others say
