@@ -40,7 +40,8 @@ pub fn max_items_says(most: Option<&Value>, value: &Value) -> Verdict
     }
 }
 
-fn are_distinct(items: &[Value]) -> bool
+/// Whether no two of the items are equal.
+pub fn are_distinct(items: &[Value]) -> bool
     ensures { result ≡ are_distinct (items_view items.now) }
 {
     for (n, item) in items.iter().enumerate() {

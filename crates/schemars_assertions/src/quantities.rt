@@ -147,7 +147,7 @@ fn is_count(number: Number) -> bool
     is_whole(number) && numbers_le(Number::from(0u64), number)
 }
 
-/// Whether a keyword's count is at most this one, if its value is a count.
+/// Whether a keyword's value is at most this count, if it is a count itself.
 pub fn is_at_most(value: &Value, count: u64) -> Option<bool>
     ensures { result ≡ option_map (λ m. nat_le m count) (count_of_number (view value.now)) }
 {
@@ -157,6 +157,7 @@ pub fn is_at_most(value: &Value, count: u64) -> Option<bool>
     }
 }
 
+/// Whether a keyword's value is at least this count, if it is a count itself.
 pub fn is_at_least(value: &Value, count: u64) -> Option<bool>
     ensures { result ≡ option_map (λ m. nat_le count m) (count_of_number (view value.now)) }
 {
@@ -168,7 +169,8 @@ pub fn is_at_least(value: &Value, count: u64) -> Option<bool>
 
 // ---- texts
 
-fn code_points(text: &str) -> usize
+/// The number of code points of a text.
+pub fn code_points(text: &str) -> usize
     ensures { result ≡ code_points text.now }
 {
     let mut count = 0;

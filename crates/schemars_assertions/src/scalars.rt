@@ -1,6 +1,6 @@
 //! Keywords that judge a value by itself.
 ghost use Rattle.std.specs.Prelude.{◌≡◌, Some, option_map, ◌&&◌};
-ghost use Rattle.schemars_assertions.specs.Words.{string, array, get_member, view, items_view, members_view, is_among, is_of_type, is_of_some_type, are_type_names, is_true, is_null, type_says, const_says, enum_says, all_of, meant, are_texts, texts_of, by_itself};
+ghost use Rattle.schemars_assertions.specs.Words.{string, array, is_listed, type_names, get_member, view, items_view, members_view, is_among, is_of_type, is_of_some_type, are_type_names, is_true, is_null, type_says, const_says, enum_says, all_of, meant, are_texts, texts_of, by_itself};
 
 use crate::arrays::{max_items_says, min_items_says, unique_items_says};
 use crate::dialect::Dialect;
@@ -95,7 +95,7 @@ fn named_type_says(
     ensures { meant result ≡ type_says reads_nullable (Some (string name.now))
         (option_map (λ v. view v.now) nullable.entry) (view value.now) }
 {
-    if !is_listed(name, &TYPES) {
+    if !is_type_name(name) {
         return Verdict::Yes;
     }
     if reads_nullable && (name == "null" || lets_null_pass(nullable, value)) {
@@ -141,7 +141,15 @@ fn lets_null_pass(nullable: Option<&Value>, value: &Value) -> bool
     }
 }
 
-fn is_of_type(name: &str, value: &Value) -> bool
+/// Whether the text is the name of a type.
+pub fn is_type_name(name: &str) -> bool
+    ensures { result ≡ is_listed name.now type_names }
+{
+    is_listed(name, &TYPES)
+}
+
+/// Whether the value is of the type of this name.
+pub fn is_of_type(name: &str, value: &Value) -> bool
     ensures { result ≡ is_of_type name.now (view value.now) }
 {
     match value {
@@ -166,13 +174,13 @@ pub fn are_texts(values: &[Value]) -> bool
     true
 }
 
-// Whether each of the texts is the name of a type.
-fn are_type_names(values: &[Value]) -> bool
+/// Whether each of the texts in a list is the name of a type.
+pub fn are_type_names(values: &[Value]) -> bool
     ensures { result ≡ are_type_names (texts_of (items_view values.now)) }
 {
     for value in values {
         if let Some(name) = value.as_str()
-            && !is_listed(name, &TYPES)
+            && !is_type_name(name)
         {
             return false;
         }
@@ -180,7 +188,8 @@ fn are_type_names(values: &[Value]) -> bool
     true
 }
 
-fn is_of_some_type(names: &[Value], value: &Value) -> bool
+/// Whether the value is of a type that one of the texts in a list names.
+pub fn is_of_some_type(names: &[Value], value: &Value) -> bool
     ensures { result ≡ is_of_some_type (texts_of (items_view names.now)) (view value.now) }
 {
     for listed in names {

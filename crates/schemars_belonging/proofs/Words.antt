@@ -19,13 +19,12 @@ unfoldable pub use Rattle.schemars_types.specs.KeyOptions.{options_within}
 pub use Rattle.schemars_types.specs.Meaning.{Member, VariantMatch, are_members, claimed_by, each_of, every_item, every_member, every_part, exactly_one, excludes_key, external_choice, field_member, field_named, has_adjacent, has_each, has_external, has_fields, has_keys, has_member, has_members, has_members_with, has_tagged, has_variant, holds, internal_choice, is_key_of_match, is_required, is_tagged_map, is_text, matches_of, member_named, must_have, shape_choices, tag_member, tagged_fields}
 unfoldable pub use Rattle.schemars_types.specs.Meaning.{belongs_within, choices_within}
 pub use Rattle.schemars_types.specs.Rows.{Row, entry_at}
-pub use Rattle.schemars_validate.proofs.Stepping.{no_items_there}
 pub use Rattle.serde_json.proofs.Views.{view-Object}
 pub use Rattle.serde_json.specs.Data.{Data, Members, object}
 pub use Rattle.serde_json.specs.Find.{as_object, get_member}
 pub use Rattle.serde_json.specs.View.{items_view, members_view, view}
 pub use Rattle.std.proofs.Math.Bool.{or-false}
-pub use Rattle.std.proofs.lemmas.List.{drop_more, map-append}
+pub use Rattle.std.proofs.lemmas.List.{drop_more, map-append, nil_from_length}
 pub use Rattle.std.proofs.lemmas.List.Folds.{list_any-append}
 pub use Rattle.std.proofs.lemmas.Result.{on_ok_weaker}
 pub use Rattle.std.proofs.lemmas.Slice.Eq.{bytes_eq-Decides}

@@ -12,10 +12,10 @@ use crate::decide::internal::any_internal;
 use crate::decide::lists::{items, tuple};
 use crate::decide::maps::{bound, has_fields, has_keys, one_of, range};
 use crate::decide::variants::{By, any_variant};
+use schemars_assertions::Patterns;
 use schemars_literals::{Limit, has_literal, is_bytes, is_char, is_int, is_non_zero, is_null};
 use schemars_schema::Schema;
 use schemars_types::{Contract, Shape, TypeNo, Types};
-use schemars_validate::Patterns;
 use serde_json::Value;
 use std::alloc::{AllocError, Global};
 

@@ -3,10 +3,10 @@ ghost use Rattle.std.specs.Prelude.{◌≡◌, None, Some, if◌then◌else◌, 
 ghost use Rattle.schemars_belonging.specs.Words.{list_all, is_listed, shape_of, variant_of, payload_of, is_bare_unit, is_key_allowed, key_options, options_within, shape_options, external_options, untagged_options, members_options, member_options, said_of, said_by, any_said, allowed};
 ghost use Rattle.schemars_schema.specs.Judges as accepting;
 
+use schemars_assertions::Patterns;
 use schemars_literals::{Said, any_said, either_said, found_said, integers_said, literal_says};
 use schemars_shapes::is_bare_unit;
 use schemars_types::{IntegerKeys, Payload, Shape, TypeNo, Types, Variant};
-use schemars_validate::Patterns;
 
 /// Whether a map may have a key whose keys are of row `n`.
 #[tactic(auto, using(crate::proofs::KeyOptions::any_key))]

@@ -3,8 +3,8 @@ ghost use Rattle.std.specs.Prelude.{◌≡◌, ◌+◌, ◌*◌, length, IfOk, I
 ghost use Rattle.schemars_belonging.specs.Words.{depth, view, belongs};
 
 use crate::decide::{Table, row};
+use schemars_assertions::{Patterns, depth};
 use schemars_types::{Contract, TypeNo, Types};
-use schemars_validate::{Patterns, depth};
 use serde_json::Value;
 use std::alloc::{AllocError, Global};
 

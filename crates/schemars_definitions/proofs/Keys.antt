@@ -1,6 +1,6 @@
 -- The keys of a map ascend.
 use Rattle.std.proofs.Common.{◌≡◌, List, [], ◌∷◌, None, Less, nat_cmp, refl, string_cmp, String, Global, string_bytes}
-use Rattle.schemars_definitions.proofs.Words.{slice_cmp, AllByRecursion, IsStrictlySortedBy, keys_of, Data, get_member, view, Entry, members_by, HasKeysOnce}
+use Rattle.schemars_definitions.proofs.Words.{slice_cmp, AllByRecursion, IsStrictlySortedBy, keys_of, Data, get_member, view, members_view, Entry, members_by, HasKeysOnce}
 
 -- ---- so each is there once
 

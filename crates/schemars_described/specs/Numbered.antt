@@ -1,6 +1,7 @@
 -- Structs and enums of one's own: what they say, and how their entries are made of the numbers of their parts.
 use Rattle.std.specs.Prelude.{◌≡◌, ℕ, Bool, true, false, List, [], ◌∷◌, ◌++◌, Some, map, if◌then◌else◌}
 use Rattle.std.specs.Str.{bytes_eq}
+use Rattle.std.specs.List.{AllByRecursion}
 use Rattle.schemars_schema.specs.Json.{Text}
 use Rattle.schemars_shapes.specs.Shape.{Required, Field, Payload, no_payload, newtype_payload, tuple_payload, struct_payload, Variant, Tagging, struct, enum, Entry, without_notes, bare_fields}
 use Rattle.schemars_types.specs.Rows.{Row, place_of}
@@ -23,8 +24,7 @@ of_ids ids make = OfAll ids (λ ns. make (λ id. number_in id ids ns))
 
 -- these are the numbers of these ids
 abbrev pub AreNumbers : List Row → (Text → ℕ) → List Text → Type 0
-AreNumbers rows number [] = Unit {0}
-AreNumbers rows number (id ∷ ids) = (place_of id rows ≡ Some (number id)) × AreNumbers rows number ids
+AreNumbers rows number = AllByRecursion (λ id. place_of id rows ≡ Some (number id))
 
 -- a type of one's own with these parts, whose name is its id, which is not written in place, and whose entry is made so
 abbrev pub own_as : Text → Making → (Dictionary → Type 0) → TypeRow

@@ -1,12 +1,13 @@
 //! The values that a literal has.
-ghost use Rattle.std.specs.Prelude.{◌≡◌, Some, option_map, option_and_then, is_some, nat_le};
-ghost use Rattle.schemars_literals.specs.Words.{get_member, view, number_view, members_view, json_eq, whole_of, from_zero, count_of_number, where_given, has_literal, meets_each, is_of_types, is_in_list, is_from, is_up_to, is_as_long, is_no_longer, is_matched, has_as_many, has_no_more, meets_numbers, meets_texts, meets_lists};
+ghost use Rattle.std.specs.Prelude.{◌≡◌, option_map, nat_le};
+ghost use Rattle.schemars_literals.specs.Words.{get_member, view, members_view, json_eq, count_of_number, where_given, has_literal, meets_each, is_of_types, is_in_list, is_from, is_up_to, is_as_long, is_no_longer, is_matched, has_as_many, has_no_more, meets_numbers, meets_texts, meets_lists};
 
 use crate::named_types::is_of_types;
-use crate::scalars::{code_points, is_among};
-use schemars_assertions::{Patterns, is_whole, member, numbers_le};
+use schemars_assertions::{
+    Patterns, code_points, is_among, is_at_least, is_at_most, member, numbers_le,
+};
 use schemars_schema::json_eq;
-use serde_json::{Map, Number, Value};
+use serde_json::{Map, Value};
 
 /// Whether a literal, given as a schema, has a value.
 pub fn has_literal<P: Patterns>(patterns: &P, schema: &Value, value: &Value) -> bool
@@ -117,31 +118,18 @@ fn is_up_to(most: Option<&Value>, value: &Value) -> bool
 
 // ---- counts
 
-// Whether the number is whole, and not below zero.
-fn is_count(number: Number) -> bool
-    ensures { result ≡ is_some (option_and_then from_zero (whole_of (number_view number))) }
-{
-    is_whole(number) && numbers_le(Number::from(0u64), number)
-}
-
 // Whether a count is at most this one. What is no count is.
 fn counts_to(value: &Value, count: u64) -> bool
     ensures { result ≡ where_given (count_of_number (view value.now)) (λ m. nat_le m count) }
 {
-    match value.as_number() {
-        Some(number) if is_count(*number) => numbers_le(*number, Number::from(count)),
-        _ => true,
-    }
+    is_at_most(value, count).unwrap_or(true)
 }
 
 // Whether a count is at least this one. What is no count is.
 fn counts_from(value: &Value, count: u64) -> bool
     ensures { result ≡ where_given (count_of_number (view value.now)) (λ m. nat_le count m) }
 {
-    match value.as_number() {
-        Some(number) if is_count(*number) => numbers_le(Number::from(count), *number),
-        _ => true,
-    }
+    is_at_least(value, count).unwrap_or(true)
 }
 
 // ---- texts

@@ -1,10 +1,10 @@
 //! What a literal says of one key.
-ghost use Rattle.std.specs.Prelude.{◌≡◌, is_some, option_map, option_and_then};
-ghost use Rattle.schemars_literals.specs.Words.{get, as_str, items_view, texts_in, literal_options, typed_options, literal_texts, texts_options, literal_integers, said_of, said, said_by};
+ghost use Rattle.std.specs.Prelude.{◌≡◌, option_map, option_and_then};
+ghost use Rattle.schemars_literals.specs.Words.{get, as_str, items_view, literal_options, typed_options, literal_texts, texts_options, literal_integers, said_of, said, said_by};
 ghost use Rattle.schemars_schema.specs.Judges as accepting;
 
 use crate::said::{Said, any_said, found_said, integers_said};
-use schemars_assertions::Patterns;
+use schemars_assertions::{Patterns, are_texts};
 use schemars_schema::Schema;
 use schemars_schema::edits::holds_text;
 use schemars_types::IntegerKeys;
@@ -57,17 +57,6 @@ fn listed_say(values: &[Value], key: &str) -> Said
     } else {
         any_said()
     }
-}
-
-fn are_texts(values: &[Value]) -> bool
-    ensures { result ≡ is_some (texts_in (items_view values.now)) }
-{
-    for value in values {
-        if value.as_str().is_none() {
-            return false;
-        }
-    }
-    true
 }
 
 // The text under a keyword.

@@ -1,10 +1,10 @@
 //! Values of shapes that have no rows inside.
 ghost use Rattle.std.specs.Prelude.{◌≡◌, ◌&&◌, ◌||◌, ◌==◌, not};
-ghost use Rattle.schemars_literals.specs.Words.{unsigned, as_str, as_array, view, number_view, items_view, is_among, are_distinct, code_points, is_null, whole_number, holds, every_item, is_byte, is_byte_text, is_of_kind, is_text, is_zero, least_of, greatest_of, number_eq, within, is_number_of_kind};
+ghost use Rattle.schemars_literals.specs.Words.{unsigned, as_str, as_array, view, number_view, items_view, code_points, is_null, whole_number, holds, every_item, is_byte, is_byte_text, is_of_kind, is_text, is_zero, least_of, greatest_of, number_eq, within, is_number_of_kind};
 ghost use Rattle.schemars_literals.specs.Kinds.{is_from, is_up_to};
 
-use schemars_assertions::{is_whole, numbers_le};
-use schemars_schema::{json_eq, numbers_eq};
+use schemars_assertions::{are_distinct, code_points, is_whole, numbers_le};
+use schemars_schema::numbers_eq;
 use schemars_types::{Contract, IntKind};
 use serde_json::{Number, Value};
 
@@ -123,19 +123,6 @@ pub fn is_char(value: &Value) -> bool
     }
 }
 
-/// The number of code points of a text.
-pub fn code_points(text: &str) -> usize
-    ensures { result ≡ code_points text.now }
-{
-    let mut count = 0;
-    for byte in text.as_bytes() {
-        if *byte < 128 || *byte > 191 {
-            count += 1;
-        }
-    }
-    count
-}
-
 /// Whether a value is a list of bytes, or a text where values are read.
 pub fn is_bytes(contract: Contract, value: &Value) -> bool
     ensures { result ≡ (holds (as_array (view value.now)) (every_item is_byte)
@@ -207,28 +194,4 @@ pub fn is_text(text: &str, value: &Value) -> bool
         Some(found) => text == found,
         None => false,
     }
-}
-
-// Whether no two of the items are equal.
-fn are_distinct(items: &[Value]) -> bool
-    ensures { result ≡ are_distinct (items_view items.now) }
-{
-    for (n, item) in items.iter().enumerate() {
-        if is_among(&items[n + 1..], item) {
-            return false;
-        }
-    }
-    true
-}
-
-/// Whether one of the items equals a value.
-pub fn is_among(items: &[Value], value: &Value) -> bool
-    ensures { result ≡ is_among (items_view items.now) (view value.now) }
-{
-    for item in items {
-        if json_eq(item, value) {
-            return true;
-        }
-    }
-    false
 }

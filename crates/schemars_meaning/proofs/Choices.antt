@@ -8,10 +8,7 @@ use Rattle.schemars_meaning.proofs.ByShape.{one_of_document, any_of_document, un
 use Rattle.schemars_meaning.proofs.Verdicts.{none_verdict, one_verdict}
 use Rattle.schemars_meaning.proofs.SmallMaps.{one_means, two_mean}
 
-module _ (patterns : Patterns) (f : Text → Judge) (basis : Basis) (M : ℕ → Data → Bool) where
-  abbrev contract : Contract
-  contract = basis.contract
-
+module _ (patterns : Patterns) (f : Text → Judge) where
   abbrev c : Context
   c = context2020_12 patterns f
 
@@ -79,8 +76,12 @@ module _ (patterns : Patterns) (f : Text → Judge) (basis : Basis) (M : ℕ →
   unit_says name (string s) = both-yes _
   unit_says name _ = refl
 
-  module _ (W : ℕ → Data → Type 0) (schemas : (j : ℕ) (t : Data) → W j t → IsSchema t) (v : Data) (json : IsJson v)
+  module _ (basis : Basis) (M : ℕ → Data → Bool) (W : ℕ → Data → Type 0) (schemas : (j : ℕ) (t : Data) → W j t → IsSchema t)
+      (v : Data) (json : IsJson v)
       (agree : (j : ℕ) (t w : Data) → W j t → IsJson w → depth w < depth v → (judge c t).fits w ≡ verdict (M j w)) where
+    abbrev contract : Contract
+    contract = basis.contract
+
     abbrev has : Bool → Text → ℕ → Bool
     has closed name n = has_member name (M n) closed v
 

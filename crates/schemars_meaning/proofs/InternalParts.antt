@@ -8,6 +8,14 @@ use Rattle.schemars_meaning.proofs.Offers.{one_object}
 use Rattle.schemars_meaning.proofs.Items.{IsItem, AnyItems}
 use Rattle.schemars_meaning.proofs.StructDocuments.{IsStruct}
 use Rattle.schemars_meaning.proofs.Tags.{tagged_item, tagged_unit}
+use Rattle.schemars_meaning.proofs.OneOf.{AreTold}
+
+-- units, and structs with plain fields that `Told` speaks of
+abbrev pub IsInside : (Fields → List Field) → (Fields → Type 0) → Payload → Type 0
+IsInside fields Told no_payload = Unit {0}
+IsInside fields Told (newtype_payload n) = ⊥
+IsInside fields Told (tuple_payload ns) = ⊥
+IsInside fields Told (struct_payload y) = Told y × AreDistinct (fields y) × AreNoted (fields y)
 
 module _ (c : Context) (on : c.dialect.reads_unevaluated ≡ true) (contract : Contract) (A : Ask → Data → Type 0) (M : ℕ → Data → Bool)
     (schemas : (j : ℕ) (t : Data) → A (part j) t → IsSchema t) (v : Data) (json : IsJson v)
@@ -16,17 +24,6 @@ module _ (c : Context) (on : c.dialect.reads_unevaluated ≡ true) (contract : C
     (fields : Fields → List Field) (Told : Fields → Type 0)
     (fills : (y : Fields) → Told y → (us : List Data) → Fit A (asks_of (struct_template contract y)) us
     → IsStruct c on contract (λ j. A (part j)) v (fields y) [] y.closed (filled (struct_template contract y) us)) where
-  -- the variants are units or structs, with plain fields
-  abbrev IsInside : Payload → Type 0
-  IsInside no_payload = Unit {0}
-  IsInside (newtype_payload n) = ⊥
-  IsInside (tuple_payload ns) = ⊥
-  IsInside (struct_payload y) = Told y × AreDistinct (fields y) × AreNoted (fields y)
-
-  abbrev pub AreInside : List Variant → Type 0
-  AreInside [] = Unit {0}
-  AreInside (x ∷ xs) = IsInside x.payload × AreNotes x.notes × AreInside xs
-
   -- a variant with the fields of flattened rows among its own
   abbrev with_fields : Variant → Variant
   with_fields x = record {
@@ -43,7 +40,7 @@ module _ (c : Context) (on : c.dialect.reads_unevaluated ≡ true) (contract : C
   abbrev pub offer : Text → Variant → VariantMatch
   offer tag x = internal_choice contract M tag v (with_fields x)
 
-  item_filled : (tag : Text) (closed : Bool) (name : Text) (p : Payload) (notes : Members) → IsInside p → AreNotes notes → (us : List Data)
+  item_filled : (tag : Text) (closed : Bool) (name : Text) (p : Payload) (notes : Members) → IsInside fields Told p → AreNotes notes → (us : List Data)
       → Fit A (asks_of (content_template contract p)) us
       → (b : Bool) × IsItem c on b (annotated notes (filled (tagged tag name closed (content_template contract p)) us))
       (offer tag (record { name = name; payload = p; notes = notes })) v
@@ -57,7 +54,7 @@ module _ (c : Context) (on : c.dialect.reads_unevaluated ≡ true) (contract : C
         (filled (struct_template contract y) us) plain h.1 h.2 (fills y h.0 us fit),
   )
 
-  items_filled : (tag : Text) (closed : Bool) (xs : List Variant) → AreInside xs → (us : List Data)
+  items_filled : (tag : Text) (closed : Bool) (xs : List Variant) → AreTold (IsInside fields Told) xs → (us : List Data)
       → Fit A (asks_in (templates_of (map (internal_item contract tag closed) xs))) us
       → AnyItems c on (filled_in (templates_of (map (internal_item contract tag closed) xs)) us) (map (offer tag) xs) v
   items_filled tag closed [] h us fit = tt
@@ -65,14 +62,14 @@ module _ (c : Context) (on : c.dialect.reads_unevaluated ≡ true) (contract : C
       let s = parted A (internal_item contract tag closed x)
       (asks_in (templates_of (map (internal_item contract tag closed) xs))) us fit in (
         subst (λ t. (b : Bool) × IsItem c on b t (offer tag x) v) (sym s.4)
-            (item_filled tag closed x.name x.payload x.notes h.0 h.1 s.0 s.2),
+            (item_filled tag closed x.name x.payload x.notes h.0.0 h.0.1 s.0 s.2),
         subst (λ ws. AnyItems c on (filled_in (templates_of (map (internal_item contract tag closed) xs)) ws) (map (offer tag) xs) v)
             (sym s.5)
-            (items_filled tag closed xs h.2 s.1 s.3),
+            (items_filled tag closed xs h.1 s.1 s.3),
       )
 
   -- the enum, which has a variant at least
-  pub internal_filled : (tag : Text) (closed : Bool) (x : Variant) (xs : List Variant) → AreInside (x ∷ xs) → (us : List Data)
+  pub internal_filled : (tag : Text) (closed : Bool) (x : Variant) (xs : List Variant) → AreTold (IsInside fields Told) (x ∷ xs) → (us : List Data)
       → Fit A (asks_of (internal_template contract tag closed (x ∷ xs))) us
       → (ts : List Data) × (filled (internal_template contract tag closed (x ∷ xs)) us ≡ one_object ts)
       × AnyItems c on ts (map (offer tag) (x ∷ xs)) v

@@ -28,6 +28,7 @@ pub mod StructFilled
 pub mod Structs
 pub mod EachShape
 pub mod Choices
+pub mod OneOf
 pub mod Enums
 pub mod Keyed
 pub mod UnitMembers

@@ -14,7 +14,8 @@ use Rattle.schemars_meaning.proofs.StructDocuments.{IsStruct, IsPart, noted_stru
 use Rattle.schemars_meaning.proofs.PartDocuments.{struct_part, optional_part, enum_part}
 use Rattle.schemars_meaning.proofs.StructFilled.{AllKnown, struct_fills, all_offers}
 use Rattle.schemars_meaning.proofs.Offers.{one_object}
-use Rattle.schemars_meaning.proofs.InternalParts.{AreInside, offer, internal_filled}
+use Rattle.schemars_meaning.proofs.InternalParts.{IsInside, offer, internal_filled}
+use Rattle.schemars_meaning.proofs.OneOf.{AreTold}
 use Rattle.schemars_meaning.proofs.ExternalParts.{IsKnown, AreKnown, external_part}
 use Rattle.schemars_meaning.proofs.SettledTables.{IsSettled}
 
@@ -257,23 +258,21 @@ module _ (c : Context) (on : c.dialect.reads_unevaluated ≡ true) (basis : Basi
 
     module _ (d : ℕ) (answers : PartsAnswer d) where
       abbrev Inside : List Variant → Type 0
-      Inside = AreInside c on contract (Answer d) M (schemas d) v json (agree d) unit_says (effective has) Plain (struct_filled d answers)
+      Inside = AreTold (IsInside (effective has) Plain)
 
       inside_each : (tag : Text) (xs : List Variant) → ArePlainVariants (map each_expanded xs)
           → AreTagged tag (map each_expanded xs) → VariantsHaveNoEnums rows xs → ArePartsUnder contract rows (variant_parts xs) → Inside xs
       inside_each tag [] plain tags none flat = tt
       inside_each tag (x ∷ xs) plain tags none flat =
           let flats = under_apart contract rows (payload_parts x.payload) (variant_parts xs) flat in
-          by x.name x.payload x.notes plain.0 plain.1 tags.0 none.0 flats.0 (inside_each tag xs plain.2 tags.1 none.1 flats.1)
+          ((by x.payload plain.1 tags.0 none.0 flats.0, plain.0), inside_each tag xs plain.2 tags.1 none.1 flats.1)
         where
-          by : (name : Text) (p : Payload) (notes : Members) → AreNotes notes → IsPlainPayload (spreads p)
-              → IsTagged tag (spreads p)
-              → HasNoEnums rows (payload_parts p) → ArePartsUnder contract rows (payload_parts p) → Inside xs
-              → Inside (record { name = name; payload = p; notes = notes } ∷ xs)
-          by name no_payload notes fine plain tagged none flat later = (tt, fine, later)
-          by name (newtype_payload n) notes fine plain tagged none flat later = absurd tagged
-          by name (tuple_payload ns) notes fine plain tagged none flat later = absurd tagged
-          by name (struct_payload y) notes fine plain tagged none flat later = (((flat, none), plain.0, plain.1), fine, later)
+          by : (p : Payload) → IsPlainPayload (spreads p) → IsTagged tag (spreads p) → HasNoEnums rows (payload_parts p)
+              → ArePartsUnder contract rows (payload_parts p) → IsInside (effective has) Plain p
+          by no_payload plain tagged none flat = tt
+          by (newtype_payload n) plain tagged none flat = absurd tagged
+          by (tuple_payload ns) plain tagged none flat = absurd tagged
+          by (struct_payload y) plain tagged none flat = ((flat, none), plain.0, plain.1)
 
       abbrev inside_offer : Text → Variant → VariantMatch
       inside_offer = offer c on contract (Answer d) M (schemas d) v json (agree d) unit_says (effective has) Plain (struct_filled d answers)

@@ -1,23 +1,25 @@
 -- In a table that is plain under its contract the documents of structs, payloads and shapes say under 2020-12 what they mean, with
 -- steps counted down, where those of smaller values do.
 use Rattle.std.proofs.Common.{◌≡◌, ◌⊎◌, inl, inr, ℕ, zero, suc, ◌+◌, ◌*◌, ◌<◌, ◌≤◌, List, [], ◌∷◌, Bool, map, refl, sym, ap, ◌∙◌, subst, arith, ◌++◌}
-use Rattle.schemars_meaning.proofs.Words.{mul-le-mul_right, ◌||◌, list_any, Data, depth, Text, IsJson, IsSchema, verdict, Context, Judge, Patterns, judge, context2020_12, ready-schema, IsReady, Field, Fields, Flattened, Payload, no_payload, newtype_payload, tuple_payload, struct_payload, Shape, Variant, Row, effective, flattened_in, flattened_enums, part_enums, enum_at, expanded_payload, expanded_variant, expanded_shape_in, VariantMatch, is_required, matches_of, has_payload, belongs_within, choices_within, has_shape, key_options, IsPlainPayload, ArePartsUnder, payload_parts, ArePlainVariants, IsTagged, AreTagged, IsPlainShape, parts_in, variant_parts, Basis, Ask, Template, members_of, asked, asks_of, filled, first, left, struct_template, payload_template, fields_template, with_flattened, template_of, IsAnswered, IsWritten, Describes, Fills, flattened-schema, IsPartUnder, with_keywords}
+use Rattle.schemars_meaning.proofs.Words.{mul-le-mul_right, Data, depth, Text, IsJson, IsSchema, verdict, Context, Judge, Patterns, judge, context2020_12, ready-schema, IsReady, Field, Fields, Flattened, Payload, no_payload, newtype_payload, tuple_payload, struct_payload, Shape, Variant, Row, effective, flattened_in, flattened_enums, part_enums, enum_at, expanded_payload, expanded_variant, expanded_shape_in, VariantMatch, is_required, matches_of, has_payload, belongs_within, choices_within, has_shape, key_options, IsPlainPayload, ArePartsUnder, payload_parts, ArePlainVariants, IsTagged, AreTagged, IsPlainShape, parts_in, variant_parts, Basis, Ask, Template, members_of, asked, asks_of, filled, first, left, struct_template, payload_template, fields_template, with_flattened, template_of, IsAnswered, IsWritten, Describes, Fills, flattened-schema, IsPartUnder, with_keywords}
 use Rattle.schemars_shapes.specs.Shape as shape
 use Rattle.schemars_types.specs.declared.contract.Contract.{Contract}
 use Rattle.schemars_meaning.proofs.Filling.{Fit}
 use Rattle.schemars_meaning.proofs.ByShape.{tuple_fills, tuple_document, others_fill}
 use Rattle.schemars_meaning.proofs.EachShape.{null_says, tuple_says}
-use Rattle.schemars_meaning.proofs.Choices.{unit_says, units_say}
+use Rattle.schemars_meaning.proofs.Choices.{unit_says}
 use Rattle.schemars_meaning.proofs.Ready.{tuple_ready}
 use Rattle.schemars_meaning.proofs.Schemas.{written_schema}
 use Rattle.schemars_meaning.proofs.StructDocuments.{IsStruct, means, both_empty}
 use Rattle.schemars_meaning.proofs.StructFilled.{struct_fills}
 use Rattle.schemars_meaning.proofs.PartsDescribed.{parts_answer, known_all, offered_all, choices_counted, under_apart}
 use Rattle.schemars_meaning.proofs.SettledTables.{IsSettled}
-use Rattle.schemars_meaning.proofs.Enums.{IsNewtypeIn, Tells, AllFit, untagged_says}
+use Rattle.schemars_meaning.proofs.OneOf.{AreTold, TellsInside}
+use Rattle.schemars_meaning.proofs.Enums.{IsNewtypeIn, PayloadTells, untagged_says}
 use Rattle.schemars_meaning.proofs.Meanings.{Inside, simple_says}
-use Rattle.schemars_meaning.proofs.ExternalSays.{AreTold, external_says}
-use Rattle.schemars_meaning.proofs.InternalSays.{IsInside, AreInside, internal_says}
+use Rattle.schemars_meaning.proofs.ExternalSays.{external_says}
+use Rattle.schemars_meaning.proofs.InternalParts.{IsInside}
+use Rattle.schemars_meaning.proofs.InternalSays.{internal_says}
 use Rattle.schemars_meaning.proofs.AdjacentSays.{adjacent_says}
 
 closer : (a b h m : ℕ) → a < b → b * h ≤ m → a * h + h ≤ m
@@ -91,10 +93,8 @@ module _ (patterns : Patterns) (f : Text → Judge) (basis : Basis) (Refers : �
 
     -- what payloads are to say inside v, after m steps
     abbrev pub Tell : Data → ℕ → ℕ → Type 0
-    Tell v m d = (p : Payload) → Told contract rows p → (us : List Data) → Fit (Answer d) (asks_of (payload_template contract p)) us
-        → IsSchema (filled (payload_template contract p) us)
-        × ((w : Data) → IsJson w → depth w < depth v → (judge c (filled (payload_template contract p) us)).fits w
-        ≡ verdict (has_payload contract (B m) (C m) (spreads p) w))
+    Tell v m d = (p : Payload) → IsTold p
+        → TellsInside patterns f (Answer d) v (payload_template contract p) (has_payload contract (B m) (C m) (spreads p))
 
     -- the document of a map with the fields of y, and with its enums
     abbrev pub IsStructOf : ℕ → Data → ℕ → Fields → Data → Type 0
@@ -121,7 +121,7 @@ module _ (patterns : Patterns) (f : Text → Judge) (basis : Basis) (Refers : �
     struct_stands w js within (suc m) enough d y (inr room) under tell us fit =
         let answers = parts_answer c refl basis Refers settled w (C (suc m)) (B m) (C m)
         (λ n e at. choices_counted rows contract patterns m n e w at) js (agree w within m (omega arith)) (null_says patterns f basis (B m))
-        (unit_says patterns f basis (B m)) (tell m (omega arith)) in
+        (unit_says patterns f) (tell m (omega arith)) in
         subst (λ os. IsStruct c refl contract (In d) w (effective (flattened_in rows) y) os y.closed
         (filled (struct_template contract y) us))
         (offered_all c refl basis Refers settled w (C (suc m)) y.flatten)
@@ -200,13 +200,16 @@ module _ (patterns : Patterns) (f : Text → Judge) (basis : Basis) (Refers : �
       told_each [] fine under = tt
       told_each (x ∷ xs) fine under =
           let apart = under_apart contract rows (payload_parts x.payload) (variant_parts xs) under in
-          ((fine.1, apart.0), fine.0, told_each xs fine.2 apart.1)
+          (((fine.1, apart.0), fine.0), told_each xs fine.2 apart.1)
 
       -- ---- untagged
 
+      abbrev TellsHere : Payload → Type 0
+      TellsHere = PayloadTells patterns f basis (Answer d) (B m) (C m) v (flattened_in rows) (part_enums rows)
+
       payload_tells : (p : Payload) → IsTold p → Room (payload_parts p)
           → ((n : ℕ) (t : Data) → p ≡ newtype_payload n → In d n t → (judge c t).fits v ≡ verdict (B m n v))
-          → Tells patterns f basis (Answer d) (B m) (payload_template contract p) (has_payload contract (B m) (C m) (spreads p) v) v
+          → TellsHere p
       payload_tells no_payload told room same us fit = (tt, null_says patterns f basis (B m) v)
       payload_tells (newtype_payload n) told room same [] fit = absurd fit
       payload_tells (newtype_payload n) told room same (t ∷ us) fit = (schemas d n t fit.0, same n t refl fit.0)
@@ -222,20 +225,14 @@ module _ (patterns : Patterns) (f : Text → Judge) (basis : Basis) (Refers : �
       payloads_tell : (xs : List Variant) → ArePlainVariants (map each xs) → ArePartsUnder contract rows (variant_parts xs)
           → Room (variant_parts xs)
           → ((n : ℕ) (t : Data) → IsNewtypeIn n xs → In d n t → (judge c t).fits v ≡ verdict (B m n v))
-          → AllFit patterns f basis (Answer d) (B m) xs (map (λ x. has_payload contract (B m) (C m) x.payload v) (map each xs)) v
+          → AreTold TellsHere xs
       payloads_tell [] fine under room same = tt
       payloads_tell (x ∷ xs) fine under room same =
           let apart = under_apart contract rows (payload_parts x.payload) (variant_parts xs) under in
           let rooms = room_apart ranks v m (payload_parts x.payload) (variant_parts xs) room in (
-            fine.0,
-            payload_tells x.payload (fine.1, apart.0) rooms.0 (λ n t e is. same n t (inl e) is),
+            (payload_tells x.payload (fine.1, apart.0) rooms.0 (λ n t e is. same n t (inl e) is), fine.0),
             payloads_tell xs fine.2 apart.1 rooms.1 (λ n t later is. same n t (inr later) is),
           )
-
-      any_same : (xs : List Variant) → list_any (λ b. b) (map (λ x. has_payload contract (B m) (C m) x.payload v) xs)
-          ≡ list_any (λ x. has_payload contract (B m) (C m) x.payload v) xs
-      any_same [] = refl
-      any_same (x ∷ xs) = ap (λ b. has_payload contract (B m) (C m) x.payload v || b) (any_same xs)
 
       -- ---- tagged inside
 
@@ -243,19 +240,19 @@ module _ (patterns : Patterns) (f : Text → Judge) (basis : Basis) (Refers : �
       StructTold y = ArePartsUnder contract rows y.flatten × Room y.flatten
 
       inside_one : (tag : Text) (p : Payload) → IsPlainPayload (spreads p) → IsTagged tag (spreads p)
-          → ArePartsUnder contract rows (payload_parts p) → Room (payload_parts p) → IsInside (flattened_in rows) StructTold p
+          → ArePartsUnder contract rows (payload_parts p) → Room (payload_parts p) → IsInside (effective (flattened_in rows)) StructTold p
       inside_one tag no_payload fine tagged under room = tt
       inside_one tag (newtype_payload n) fine tagged under room = absurd tagged
       inside_one tag (tuple_payload ns) fine tagged under room = absurd tagged
       inside_one tag (struct_payload y) fine tagged under room = ((under, room), fine.0, fine.1)
 
       inside_each : (tag : Text) (xs : List Variant) → ArePlainVariants (map each xs) → AreTagged tag (map each xs)
-          → ArePartsUnder contract rows (variant_parts xs) → Room (variant_parts xs) → AreInside (flattened_in rows) StructTold xs
+          → ArePartsUnder contract rows (variant_parts xs) → Room (variant_parts xs) → AreTold (IsInside (effective (flattened_in rows)) StructTold) xs
       inside_each tag [] fine tagged under room = tt
       inside_each tag (x ∷ xs) fine tagged under room =
           let apart = under_apart contract rows (payload_parts x.payload) (variant_parts xs) under in
           let rooms = room_apart ranks v m (payload_parts x.payload) (variant_parts xs) room in
-          (inside_one tag x.payload fine.1 tagged.0 apart.0 rooms.0, fine.0, inside_each tag xs fine.2 tagged.1 apart.1 rooms.1)
+          ((inside_one tag x.payload fine.1 tagged.0 apart.0 rooms.0, fine.0), inside_each tag xs fine.2 tagged.1 apart.1 rooms.1)
 
       -- ---- by shape
 
@@ -266,23 +263,19 @@ module _ (patterns : Patterns) (f : Text → Judge) (basis : Basis) (Refers : �
       shape_says (shape.struct x) room fine under s h agree =
           rw h.is (struct_says v json within m enough d x room (fine, under) tell h.parts h.answered)
       shape_says (shape.enum shape.by_name xs) room fine under s h agree =
-          rw h.is (external_says c refl contract (Answer d) (flattened_in rows) (part_enums rows) (B m) (C m) IsTold v json
-          (tell m enough d) (λ name. unit_says patterns f basis (B m) name v) (λ ks. units_say patterns f basis (B m) ks v) xs fine.0
-          (told_each xs fine.1 under) h.parts h.answered)
+          rw h.is (external_says patterns f contract (Answer d) (B m) (C m) v (flattened_in rows) (part_enums rows) IsTold json
+          (tell m enough d) xs fine.0 (told_each xs fine.1 under) h.parts h.answered).1
       shape_says (shape.enum shape.by_nothing xs) room fine under s h agree =
-          rw h.is (untagged_says patterns f basis (Answer d) (B m) xs
-          (map (λ x. has_payload contract (B m) (C m) x.payload v) (map each xs)) v
-          (payloads_tell xs fine under room (λ n t same w. agree n t v w json (inr (same, refl)))) h.parts h.answered
-          ∙ ap verdict (any_same (map each xs)))
+          rw h.is (untagged_says patterns f basis (Answer d) (B m) (C m) v (flattened_in rows) (part_enums rows) xs
+          (payloads_tell xs fine under room (λ n t same w. agree n t v w json (inr (same, refl)))) h.parts h.answered).1
       shape_says (shape.enum (shape.by_tag tag closed) xs) room fine under s h agree =
-          rw h.is (internal_says c refl contract (Answer d) (B m) (C m) (schemas d) v json
-          (λ j t w is js less. agree j t w is js (inl less)) (unit_says patterns f basis (B m)) (flattened_in rows)
-          (part_enums rows) StructTold
-          (λ y told us fit. struct_stands v json within m enough d y told.1 told.0 tell us fit) tag closed xs fine.0
-          (inside_each tag xs fine.1 fine.2 under room) h.parts h.answered)
+          rw h.is (internal_says patterns f contract (Answer d) (B m) (C m) v (flattened_in rows) (part_enums rows) tag closed StructTold
+          json (schemas d) (λ j t w is js less. agree j t w is js (inl less))
+          (λ y told us fit. struct_stands v json within m enough d y told.1 told.0 tell us fit) xs fine.0
+          (inside_each tag xs fine.1 fine.2 under room) h.parts h.answered).1
       shape_says (shape.enum (shape.by_tag_and_content tag key closed) xs) room fine under s h agree =
-          rw h.is (adjacent_says c refl contract (Answer d) (B m) (C m) v json (unit_says patterns f basis (B m)) (flattened_in rows)
-          (part_enums rows) IsTold (tell m enough d) tag key fine.0 closed xs fine.1 (told_each xs fine.2 under) h.parts h.answered)
+          rw h.is (adjacent_says patterns f contract (Answer d) (B m) (C m) v (flattened_in rows) (part_enums rows) tag key closed IsTold
+          json (tell m enough d) fine.0 xs fine.1 (told_each xs fine.2 under) h.parts h.answered).1
       shape_says kind room fine under s h agree =
           simple_says patterns f basis (Answer d) (B m) (C m) (flattened_in rows) (part_enums rows) (ready d) kind s tt fine
           (others_fill (Answer d) (flattened_in rows) basis kind s h.parts tt h.answered h.is) v json agree

@@ -14,7 +14,7 @@ use Rattle.schemars_meaning.proofs.StructDocuments.{IsPart}
 
 -- ---- variants in another order
 
-none-middle : (xs : List Bool) (b : Bool) (bs : List Bool) → none (xs ++ b ∷ bs) ≡ not b && none (xs ++ bs)
+pub none-middle : (xs : List Bool) (b : Bool) (bs : List Bool) → none (xs ++ b ∷ bs) ≡ not b && none (xs ++ bs)
 none-middle [] b bs = refl
 none-middle (a ∷ xs) b bs = ap (λ x. not a && x) (none-middle xs b bs) ∙ go (not a) (not b) (none (xs ++ bs))
   where
@@ -24,7 +24,7 @@ none-middle (a ∷ xs) b bs = ap (λ x. not a && x) (none-middle xs b bs) ∙ go
     go false true z = refl
     go false false z = refl
 
-one-middle : (xs : List Bool) (b : Bool) (bs : List Bool) → exactly_one (xs ++ b ∷ bs) ≡ exactly_one (b ∷ (xs ++ bs))
+pub one-middle : (xs : List Bool) (b : Bool) (bs : List Bool) → exactly_one (xs ++ b ∷ bs) ≡ exactly_one (b ∷ (xs ++ bs))
 one-middle [] b bs = refl
 one-middle (a ∷ xs) b bs = by a b (none-middle xs b bs) (one-middle xs b bs)
   where

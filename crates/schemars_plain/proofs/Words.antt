@@ -9,8 +9,10 @@ pub use Rattle.schemars_schema.specs.Json.{IsAbove, Text, are_distinct, is_among
 pub use Rattle.schemars_schema.specs.Judges.{when}
 pub use Rattle.schemars_schema.specs.Literal.{ArePlainMembers, is_null_type, names_types}
 pub use Rattle.schemars_shapes.specs.Shape.{Entry, Field, Fields, Flattened, Required, Variant, entry_of, field_of, fields_of, flattened_of, internal_variant_of, shape_of, struct, variant_of}
+pub use Rattle.schemars_shapes.specs.Repeated.{IsRepeated}
 pub use Rattle.schemars_text.proofs.Members.{bytes_eq_comm}
 pub use Rattle.schemars_text.specs.OrderedText.{is_listed}
+pub use Rattle.schemars_types.proofs.Names.{never_repeated}
 pub use Rattle.schemars_types.specs.Edges.{option_at}
 pub use Rattle.schemars_types.specs.Effective.{effective, enum_at, expanded_variant, flattened_enums, flattened_fields, flattened_in, part_enums, part_fields, required_only_if, shape_enums, shape_fields, without_options}
 unfoldable pub use Rattle.schemars_types.specs.Effective.{enums_within, fields_within}
@@ -26,6 +28,7 @@ pub use Rattle.std.proofs.lemmas.List.{drop_more, map-append, take_rest}
 pub use Rattle.std.proofs.lemmas.Map.Keys.{sorted_head, sorted_tail}
 pub use Rattle.std.proofs.lemmas.Result.{IfOk-weaker, on_ok_weaker}
 pub use Rattle.std.specs.List.{AllByRecursion, list_all}
+unfoldable pub use Rattle.std.specs.List.{IsDistinct}
 pub use Rattle.std.specs.List.Sorted.{IsStrictlySortedBy}
 pub use Rattle.std.specs.Option.{option_map_or}
 pub use Rattle.std.specs.Prelude.{IsTrue, String, bytes_eq, codes, if◌then◌else◌, is_some, nat_le, not, option_and_then, option_map, string_bytes, string_cmp, suc, ℕ, ◌&&◌, ◌||◌, ◌↔◌}

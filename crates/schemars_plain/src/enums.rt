@@ -4,8 +4,9 @@ ghost use Rattle.schemars_plain.specs.Words.{fields_of, flattened_of, shape_of, 
 
 use crate::fields::{all_fields, field_names};
 use crate::names::are_apart;
+use crate::variants::variant_names;
 use schemars_types::{
-    Fields, Flattened, Internal, InternalPayload, InternalVariant, Shape, TypeNo, Types, Variant,
+    Fields, Flattened, Internal, InternalPayload, InternalVariant, Shape, TypeNo, Types,
     without_options,
 };
 use std::alloc::{AllocError, Global};
@@ -89,17 +90,6 @@ fn names_in<'t>(
         Shape::Result(..) | Shape::Either(..) => Ok(Vec::new(alloc)),
         Shape::Bound(_) | Shape::Range(_) | Shape::Map(..) => Ok(Vec::new(alloc)),
     }
-}
-
-fn variant_names(alloc: Global, variants: &[Variant]) -> Result<Vec<&str>, AllocError>
-    ensures { IfOk result (λ v. map (λ n. n.now) v.items
-        ≡ map (λ x. x.name) (map variant_of variants.now)) }
-{
-    let mut names = Vec::new(alloc);
-    for variant in variants {
-        names.push(variant.name.as_str())?;
-    }
-    Ok(names)
 }
 
 // The tag of an internally tagged enum, and the names of the fields of its variants.

@@ -4,6 +4,7 @@ ghost use Rattle.schemars_plain.specs.Words.{field_of, fields_of, shape_of, fiel
 
 use crate::names::is_no_name;
 use crate::notes::are_notes;
+use schemars_shapes::first_repeated;
 use schemars_types::{Field, Fields, Shape, TypeNo, Types, without_options};
 use std::alloc::{AllocError, Global};
 
@@ -15,7 +16,7 @@ pub fn are_plain(alloc: Global, types: &Types, fields: &Fields) -> Result<bool, 
         × AreNoted (effective (flattened_in types.now) (fields_of fields.now)))) }
 {
     let found = all_fields(alloc, types, fields)?;
-    Ok(are_distinct(&found) && are_noted(&found))
+    Ok(are_distinct(alloc, &found)? && are_noted(&found))
 }
 
 /// Whether none of the fields, its own or flattened, has this name.
@@ -69,15 +70,12 @@ fn names<'t>(alloc: Global, fields: &[&'t Field]) -> Result<Vec<&'t str>, AllocE
     Ok(names)
 }
 
-fn are_distinct(fields: &[&Field]) -> bool
-    ensures { IsTrue result ↔ AreDistinct (map (λ f. field_of f.now) fields.now) }
+// Whether the names of the fields all differ.
+fn are_distinct(alloc: Global, fields: &[&Field]) -> Result<bool, AllocError>
+    ensures { IfOk result (λ b. IsTrue b ↔ AreDistinct (map (λ f. field_of f.now) fields.now)) }
 {
-    for (n, field) in fields.iter().enumerate() {
-        if !is_no_name(field.name.as_str(), &fields[n + 1..]) {
-            return false;
-        }
-    }
-    true
+    let names = names(alloc, fields)?;
+    Ok(first_repeated(alloc, &names)?.is_none())
 }
 
 fn are_noted(fields: &[&Field]) -> bool

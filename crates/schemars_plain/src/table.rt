@@ -84,7 +84,8 @@ fn are_named_and_plain<V: AnyVariant>(
     ensures { IfOk result (λ b. IsTrue b ↔ IsPlainShape (expanded_shape_in types.now
         (enum by_name (map V.says variants.now)))) }
 {
-    if !are_distinct_variants(variants) {
+    let is_distinct = are_distinct_variants(alloc, variants)?;
+    if !is_distinct {
         return Ok(false);
     }
     are_plain_variants(alloc, types, variants)

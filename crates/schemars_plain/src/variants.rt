@@ -1,10 +1,10 @@
 //! The variants of enums.
-ghost use Rattle.std.specs.Prelude.{◌↔◌, map, IsTrue, IfOk};
-ghost use Rattle.schemars_plain.specs.Words.{any_payload_of, flattened_in, part_enums, expanded_variant, expanded_payload, IsNoVariant, AreDistinctVariants, IsPlainPayload, ArePlainVariants, IsTagged, AreTagged, AreNotes};
+ghost use Rattle.std.specs.Prelude.{◌≡◌, ◌↔◌, map, IsTrue, IfOk};
+ghost use Rattle.schemars_plain.specs.Words.{any_payload_of, flattened_in, part_enums, expanded_variant, expanded_payload, AreDistinctVariants, IsPlainPayload, ArePlainVariants, IsTagged, AreTagged, AreNotes};
 
 use crate::fields::{are_plain, lacks};
 use crate::notes::are_notes;
-use schemars_shapes::{AnyPayload, AnyVariant};
+use schemars_shapes::{AnyPayload, AnyVariant, first_repeated};
 use schemars_types::Types;
 use std::alloc::{AllocError, Global};
 
@@ -58,27 +58,26 @@ fn is_plain_payload(
 }
 
 /// Whether the names of the variants all differ.
-pub fn are_distinct_variants<V: AnyVariant>(variants: &[V]) -> bool
-    ensures { IsTrue result ↔ AreDistinctVariants (map V.says variants.now) }
+pub fn are_distinct_variants<V: AnyVariant>(
+    alloc: Global,
+    variants: &[V],
+) -> Result<bool, AllocError>
+    ensures { IfOk result (λ b. IsTrue b ↔ AreDistinctVariants (map V.says variants.now)) }
 {
-    for (n, variant) in variants.iter().enumerate() {
-        if !is_no_variant(variant.name(), &variants[n + 1..]) {
-            return false;
-        }
-    }
-    true
+    let names = variant_names(alloc, variants)?;
+    Ok(first_repeated(alloc, &names)?.is_none())
 }
 
-// Whether no variant has this name.
-fn is_no_variant<V: AnyVariant>(name: &str, variants: &[V]) -> bool
-    ensures { IsTrue result ↔ IsNoVariant name.now (map V.says variants.now) }
+/// The names of variants.
+pub fn variant_names<V: AnyVariant>(alloc: Global, variants: &[V]) -> Result<Vec<&str>, AllocError>
+    ensures { IfOk result (λ v. map (λ n. n.now) v.items
+        ≡ map (λ x. x.name) (map V.says variants.now)) }
 {
+    let mut names = Vec::new(alloc);
     for variant in variants {
-        if variant.name() == name {
-            return false;
-        }
+        names.push(variant.name())?;
     }
-    true
+    Ok(names)
 }
 
 /// Whether each variant is a unit, or has fields of which none is named as the tag.

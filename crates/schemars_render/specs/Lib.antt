@@ -1,8 +1,4 @@
 -- The definitions that contracts cite.
 pub mod Answer
-pub mod Assembled
-pub mod Changing
 pub mod Rendered
-pub mod Searched
-pub mod Writing
 pub mod Words

@@ -2,9 +2,8 @@
 ghost use Rattle.std.specs.Prelude.{◌≡◌, map, string_bytes, IfOk};
 ghost use Rattle.schemars_render.specs.Words.{reference, filled, template_view, leaf_view, assembled_view};
 
-use crate::assembled::Assembled;
 use crate::assembling::assemble_schema;
-use crate::error::Stop;
+use schemars_parts::{Assembled, Stop};
 use schemars_schema::Schema;
 use schemars_templates::template::SchemaTemplate;
 use std::alloc::{AllocError, Global};

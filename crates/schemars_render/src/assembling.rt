@@ -2,12 +2,10 @@
 ghost use Rattle.std.specs.Prelude.{◌≡◌, map, IfOk, OnOk};
 ghost use Rattle.schemars_render.specs.Words.{array, object_of, text_items, type_alone, list, filled, left, first, behind, object_with, templates_of, template_view, node_view, value_view, keyword_view, property_view, scalar_view, scalar_keyword, assembled_view};
 
-use crate::assembled::Assembled;
-use crate::error::Stop;
 use crate::keywords::{annotate, titled};
-use crate::members::object_of;
 use crate::nulls::with_null;
 use crate::tagging::with_tag;
+use schemars_parts::{Assembled, Stop, object_of};
 use schemars_templates::template::{Scalar, SchemaNode, SchemaTemplate, ValueTemplate};
 use std::alloc::Global;
 use std::collections::VecDeque;

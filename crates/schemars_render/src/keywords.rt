@@ -2,9 +2,7 @@
 ghost use Rattle.std.specs.Prelude.{◌≡◌, IfOk};
 ghost use Rattle.schemars_render.specs.Words.{members_view, annotated, title_alone, assembled_view};
 
-use crate::assembled::Assembled;
-use crate::error::Stop;
-use crate::members::members_in;
+use schemars_parts::{Assembled, Stop, members_in};
 use serde_json::{Map, Value};
 use std::alloc::Global;
 

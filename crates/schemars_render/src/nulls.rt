@@ -1,11 +1,8 @@
 //! Schemas in parts that accept null too.
 ghost use Rattle.std.specs.Prelude.{◌≡◌, false, codes, Some, IfOk, OnOk};
-ghost use Rattle.schemars_render.specs.Words.{null, string, array, object, no_items, item, put, get_member, view, is_null, holds_text, allow_null, or_null, is_combined, accepts_everything, holds_null, null_in_type, type_with_null, null_in_values, null_in_enum, enum_with_null, assembled_view, items_assembled};
+ghost use Rattle.schemars_render.specs.Words.{null, string, array, object, no_items, item, put, get_member, view, is_null, allow_null, or_null, is_combined, accepts_everything, holds_null, null_in_type, type_with_null, null_in_values, null_in_enum, enum_with_null, assembled_view, items_assembled};
 
-use crate::assembled::Assembled;
-use crate::error::Stop;
-use crate::members::{MemberList, into_items, lone_object};
-use crate::tagging::is_text_part;
+use schemars_parts::{Assembled, MemberList, Stop, holds_text, into_items, lone_object};
 use serde_json::Value;
 use std::alloc::Global;
 
@@ -139,18 +136,6 @@ fn names_with_null<'t>(names: Vec<Assembled<'t>>) -> Result<Assembled<'t>, Stop>
     let mut names = names;
     names.push(Assembled::Text("null"))?;
     Ok(Assembled::List(names))
-}
-
-// Whether one of the parts is this text.
-pub(crate) fn holds_text(parts: &[Assembled<'_>], text: &str) -> bool
-    ensures { result ≡ holds_text text.now (items_assembled parts.now) }
-{
-    for part in parts {
-        if is_text_part(part, text) {
-            return true;
-        }
-    }
-    false
 }
 
 // Lets `const` and `enum` admit null.

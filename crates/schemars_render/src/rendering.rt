@@ -3,13 +3,8 @@ ghost use Rattle.std.specs.Prelude.{◌≡◌, map, IfOk, IfSome};
 ghost use Rattle.schemars_render.specs.Words.{IsWholeJson, filled, template_view, needs_of, assembled_view, IsRendered};
 
 use crate::answer::Answer;
-use crate::assembled::Assembled;
 use crate::assembling::assemble_schema;
-use crate::error::Stop;
-use crate::needs::needs_of;
-use crate::parts::Parts;
-use crate::whole::is_whole;
-use crate::writing::text_of;
+use schemars_parts::{Assembled, Parts, Stop, is_whole, needs_of, text_of};
 use schemars_templates::template::SchemaTemplate;
 use schemars_transform::Needs;
 use std::alloc::{AllocError, Global};
@@ -70,7 +65,7 @@ fn written<'t>(
     Ok(Rendered {
         text,
         needs,
-        schema: Parts { schema },
+        schema: Parts::of(schema),
     })
 }
 

@@ -1,11 +1,8 @@
 //! The tag of an internally tagged enum in a schema in parts.
-ghost use Rattle.std.specs.Prelude.{◌≡◌, codes, IfOk, OnOk};
-ghost use Rattle.schemars_render.specs.Words.{object, as_str, is_text, has_null_type, with_property, required_first, tagged, closed_where, internally_tagged_variant, unit_variant, assembled_view};
+ghost use Rattle.std.specs.Prelude.{◌≡◌, IfOk, OnOk};
+ghost use Rattle.schemars_render.specs.Words.{object, has_null_type, with_property, required_first, tagged, closed_where, internally_tagged_variant, unit_variant, assembled_view};
 
-use crate::assembled::Assembled;
-use crate::error::Stop;
-use crate::members::{MemberList, members_in, object_of};
-use schemars_schema::edits::is_text;
+use schemars_parts::{Assembled, MemberList, Stop, is_text_part, members_in, object_of};
 use schemars_templates::template::Tag;
 use std::alloc::Global;
 
@@ -31,17 +28,6 @@ fn has_null_type(members: &MemberList<'_>) -> bool
     members
         .find("type")
         .is_some_and(|part| is_text_part(part, "null"))
-}
-
-// Whether the part is this text.
-pub(crate) fn is_text_part(part: &Assembled<'_>, text: &str) -> bool
-    ensures { result ≡ is_text text.now (as_str (assembled_view part.now)) }
-{
-    match part {
-        Assembled::Text(found) => *found == text,
-        Assembled::Value(value) => is_text(value, text),
-        _ => false,
-    }
 }
 
 // Makes the keywords those of objects that have to have the tag.

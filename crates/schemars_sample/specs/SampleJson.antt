@@ -1,6 +1,7 @@
 -- The JSON of an example value, as serializers write it.
-use Rattle.std.specs.Prelude.{ℕ, Bool, true, nat_lt, ◌^◌, ◌-◌, ◌&&◌, ℤ, pos, negsuc, int_le, if◌then◌else◌, List, [], ◌∷◌, map, Option, Some, None, ◌≡◌, false, option_map, option_and_then, encode_utf8}
+use Rattle.std.specs.Prelude.{ℕ, Bool, nat_lt, ◌^◌, ◌-◌, ◌&&◌, ℤ, pos, negsuc, int_le, if◌then◌else◌, List, [], ◌∷◌, map, Option, Some, None, ◌≡◌, false, option_map, option_and_then, encode_utf8}
 use Rattle.std.specs.Option.{IfSome}
+use Rattle.std.specs.List.{list_all}
 use Rattle.serde_json.specs.Data.{Data, null, boolean, number, unsigned, string, array, object, Members, no_members, member, put}
 use Rattle.serde_json.specs.View.{items_of}
 use Rattle.serde_json.specs.Written.{has_float}
@@ -17,8 +18,7 @@ json_array ds = array (items_of ds)
 
 -- each is below 256
 abbrev pub are_bytes : List ℕ → Bool
-are_bytes [] = true
-are_bytes (b ∷ bs) = nat_lt b 256 && are_bytes bs
+are_bytes = list_all (λ b. nat_lt b 256)
 
 -- the one member of a variant
 abbrev pub json_named : Text → Data → Data

@@ -8,6 +8,7 @@ mod shape;
 mod variant;
 
 pub use any_variant::{AnyPayload, AnyVariant};
+pub use edges::names::first_repeated;
 pub use edges::rows::Rows;
 pub use edges::shape::{first_unknown, repeated_name, rows};
 pub use edges::unknown::first_unknown_among;

@@ -1,6 +1,6 @@
 -- Marks that are set one after another.
 use Rattle.std.proofs.Common.{◌≡◌, ℕ, zero, suc, ◌+◌, ◌<◌, ◌≤◌, min, List, [], ◌∷◌, ◌++◌, length, replicate, take, drop, set, get_or, Bool, true, false, Option, Some, None, refl, sym, ap, ◌∙◌, add-one, arith}
-use Rattle.schemars_validate.proofs.Words.{nat_tests, ◌&&◌, ◌||◌, if◌then◌else◌, nat_lt, is_some, Data, null, boolean, number, string, array, object, Items, no_items, item, Members, no_members, member, items_len, get_item, as_array, as_object, view, items_view, members_view, Entry, Text, Verdict, is_yes, Part, position, Judge, marked, unmarked, first_marked, keys_in, positions_in, parts_of, at_keys, at_positions, is_placed, fits_at}
+use Rattle.schemars_validate.proofs.Words.{nat_tests, ◌&&◌, ◌||◌, if◌then◌else◌, nat_lt, is_some, option_map, Data, null, boolean, number, string, array, object, Items, no_items, item, Members, no_members, member, items_len, get_item, as_array, as_object, view, items_view, members_view, Entry, Text, Verdict, is_yes, Part, position, Judge, marked, unmarked, first_marked, keys_in, positions_in, parts_of, at_keys, at_positions, is_placed, fits_at}
 use Rattle.serde_json.specs.declared.value.Value.{Value}
 
 or_off : (b : Bool) → (b || false) ≡ b
@@ -179,3 +179,7 @@ pub fitting_here : (counts : Bool) (s : Judge) (xs : List Value) (i : ℕ) (x : 
 fitting_here counts s xs i x says h is said =
     ap (λ y. counts && is_yes y) said
     ∙ sym (ap (λ o. counts && elim o [ None ↦ false | Some w ↦ is_yes (s.fits w) ]) (item_there xs i x h is))
+
+pub mapped_some : {A B : Type 0} (f : A → B) (o : Option A) → is_some o ≡ is_some (option_map f o)
+mapped_some f None = refl
+mapped_some f (Some a) = refl

@@ -1,18 +1,16 @@
 -- One turn of a loop over schemas, items or members.
 use Rattle.std.proofs.Common.{◌≡◌, ℕ, zero, suc, ◌+◌, ◌<◌, ◌≤◌, List, [], ◌∷◌, Bool, true, false, Option, Some, None, length, get_or, refl, sym, ap, ◌∙◌, arith, Bor, Iter}
+use Rattle.std.proofs.lemmas.List.{nil_from_length}
 use Rattle.schemars_validate.proofs.Words.{◌||◌, if◌then◌else◌, is_some, option_map, option_and_then, max, map, Data, Items, no_items, item, Members, member, depth, items_depth, members_depth, view, items_view, members_view, get_member, Entry, iter_rest, iter_steps, Text, is_schema, schema_only, Verdict, Yes, No, Open, both, all_of, Context, Judge, Patterns, where_some, Part, by_patterns, matches_some, schema_named, beside_members, one_more, judged_by_some, judge, with_schema, both-assoc, marked, each_unmarked, each_unmarked_item, is_marked, judged_by_one, first_of, judge_at, judges_of, named_judges_in, each_item, member_by}
 use Rattle.serde_json.specs.declared.value.Value.{Value}
 use Rattle.schemars_validate.proofs.Measures.{depth_at, members_depth_at, member_shallow}
-use Rattle.schemars_validate.proofs.Judging.{marked_none, next_marks}
+use Rattle.schemars_validate.proofs.MarkedAlike.{marked_none}
+use Rattle.schemars_validate.proofs.OneSchema.{next_marks}
 use Rattle.schemars_validate.proofs.Readings.{schema_named-judges, named-judges}
 
 -- what is said so far, with what one more says, and then what the others say
 pub one_more_said : (says one new rest all : Verdict) → new ≡ both says one → both says (both one rest) ≡ all → both new rest ≡ all
 one_more_said says one new rest all is before = ap (λ y. both y rest) is ∙ (both-assoc says one rest ∙ before)
-
-pub no_items_there : {A : Type 0} (xs : List A) → length xs ≡ 0 → xs ≡ []
-no_items_there [] h = refl
-no_items_there (x ∷ xs) h = absurd (omega arith)
 
 pub item_under : (xs : List Value) (i : ℕ) (x : Value) → i < length xs → x ≡ get_or xs i x → depth (view x) ≤ items_depth (items_view xs)
 item_under [] i x h is = absurd (omega arith)
@@ -35,7 +33,7 @@ pub item_says : (c : Context) (r : Option (Bor Value)) (s t : Iter Value) (other
     (each_item (judges_of c (items_view (iter_rest t))) (judge_at c others) vs)
 item_says c (Some x) s t others v vs step = ap (λ (xs : List Value). each_item (judges_of c (items_view xs)) (judge_at c others) (item v vs)) step
 item_says c None s t others v vs step =
-    let none = no_items_there (iter_rest s) step.0 in
+    let none = nil_from_length (iter_rest s) step.0 in
     ap (λ (xs : List Value). each_item (judges_of c (items_view xs)) (judge_at c others) (item v vs)) none
     ∙ ap (λ (xs : List Value). both (where_some (judge_at c others) (λ j. j.fits v)) (each_item (judges_of c (items_view xs)) (judge_at c others) vs))
     (sym none ∙ ap iter_rest (sym step.1))
@@ -64,7 +62,7 @@ unmarked_member_says c d (Some x) s t k w ms step =
     ap (each_unmarked (judge c d) (member k w ms)) step
     ∙ ap (λ (y : Verdict). both y (each_unmarked (judge c d) ms (iter_rest t))) (unmarked_says c d w x.now)
 unmarked_member_says c d None s t k w ms step =
-    let none = no_items_there (iter_rest s) step.0 in
+    let none = nil_from_length (iter_rest s) step.0 in
     ap (each_unmarked (judge c d) (member k w ms)) none
     ∙ ap (λ (bs : List Bool). both ((judge c d).fits w) (each_unmarked (judge c d) ms bs)) (sym none ∙ ap iter_rest (sym step.1))
 
@@ -76,7 +74,7 @@ unmarked_item_says c d (Some x) s t w ws step =
     ap (each_unmarked_item (judge c d) (item w ws)) step
     ∙ ap (λ (y : Verdict). both y (each_unmarked_item (judge c d) ws (iter_rest t))) (unmarked_says c d w x.now)
 unmarked_item_says c d None s t w ws step =
-    let none = no_items_there (iter_rest s) step.0 in
+    let none = nil_from_length (iter_rest s) step.0 in
     ap (each_unmarked_item (judge c d) (item w ws)) none
     ∙ ap (λ (bs : List Bool). both ((judge c d).fits w) (each_unmarked_item (judge c d) ws bs)) (sym none ∙ ap iter_rest (sym step.1))
 

@@ -1,11 +1,11 @@
 //! A whole document, or one of its schemas, asked about a value.
 ghost use Rattle.std.specs.Prelude.{◌≡◌, IfOk, IfSome};
-ghost use Rattle.schemars_validate.specs.Words.{depth, items_depth, members_depth, view, items_view, members_view, is_yes, accepts, bound, context, count_of_definitions, judge, marked, parts_of, unmarked, meant};
+ghost use Rattle.schemars_validate.specs.Words.{view, is_yes, accepts, bound, context, count_of_definitions, judge, marked, parts_of, unmarked, meant};
 
 use crate::judge::{Document, judge};
 use crate::marks::unmarked;
-use schemars_assertions::{Dialect, Patterns, Verdict};
-use serde_json::{Map, Value};
+use schemars_assertions::{Dialect, Patterns, Verdict, depth};
+use serde_json::Value;
 use std::alloc::{AllocError, Global};
 
 /// What a schema of a document says of a value, if at most `references` references within one
@@ -119,41 +119,4 @@ fn count_of_definitions(definitions: &str, document: &Value) -> u64
         Some(members) => members.len() as u64,
         None => 0,
     }
-}
-
-/// The height of a value: 0 for scalars, else one more than the greatest height inside.
-#[cycle(depth)]
-pub fn depth(value: &Value) -> Option<u64>
-    ensures { IfSome result (λ n. n ≡ depth (view value.now)) }
-{
-    match value {
-        Value::Null => Some(0),
-        Value::Bool(_) => Some(0),
-        Value::Number(_) => Some(0),
-        Value::String(_) => Some(0),
-        Value::Array(items) => items_depth(items)?.checked_add(1),
-        Value::Object(members) => members_depth(members)?.checked_add(1),
-    }
-}
-
-#[cycle(depth)]
-fn items_depth(items: &Vec<Value>) -> Option<u64>
-    ensures { IfSome result (λ n. n ≡ items_depth (items_view items.now.items)) }
-{
-    let mut deepest = 0;
-    for item in items {
-        deepest = deepest.max(depth(item)?);
-    }
-    Some(deepest)
-}
-
-#[cycle(depth)]
-fn members_depth(members: &Map<String, Value>) -> Option<u64>
-    ensures { IfSome result (λ n. n ≡ members_depth (members_view members.now.entries)) }
-{
-    let mut deepest = 0;
-    for (_, value) in members.iter() {
-        deepest = deepest.max(depth(value)?);
-    }
-    Some(deepest)
 }

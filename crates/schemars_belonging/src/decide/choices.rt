@@ -8,8 +8,8 @@ use crate::decide::maps::is_map_of;
 use crate::decide::variants::{beside, tag_alone};
 use crate::fields::field_members;
 use crate::given::tag_given;
+use schemars_assertions::Patterns;
 use schemars_types::{Fields, Internal, InternalPayload, Shape, TypeNo, Variant};
-use schemars_validate::Patterns;
 use serde_json::Value;
 use std::alloc::AllocError;
 

@@ -6,8 +6,8 @@ use crate::decide::maps::has_fields;
 use crate::decide::variants::tag_alone;
 use crate::decide::{Table, row};
 use crate::given::{has_tag, tag_given, without};
+use schemars_assertions::Patterns;
 use schemars_types::{Fields, Internal, InternalPayload, InternalVariant, TypeNo};
-use schemars_validate::Patterns;
 use serde_json::Value;
 use std::alloc::AllocError;
 

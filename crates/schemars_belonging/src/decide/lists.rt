@@ -3,9 +3,9 @@ ghost use Rattle.std.specs.Prelude.{◌≡◌, ◌&&◌, IfOk};
 ghost use Rattle.schemars_belonging.specs.Words.{as_array, view, items_view, holds, every_item, each_of, asked, has, within};
 
 use crate::decide::{Table, row};
+use schemars_assertions::Patterns;
 use schemars_literals::{Limit, is_within};
 use schemars_types::TypeNo;
-use schemars_validate::Patterns;
 use serde_json::Value;
 use std::alloc::AllocError;
 

@@ -10,9 +10,9 @@ use crate::enums::flattened_enums;
 use crate::fields::field_members;
 use crate::given::{Given, Values, given_named, has_each, is_allowed, needed};
 use crate::keys::is_key_allowed;
+use schemars_assertions::Patterns;
 use schemars_literals::is_text;
 use schemars_types::{Fields, TypeNo};
-use schemars_validate::Patterns;
 use serde_json::{Map, Value};
 use std::alloc::AllocError;
 

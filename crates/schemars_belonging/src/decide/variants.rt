@@ -7,9 +7,9 @@ use crate::decide::lists::tuple;
 use crate::decide::maps::{has_fields, is_map_of, values};
 use crate::decide::{Table, row};
 use crate::given::{Given, given_named, has_each_with, is_same, tag_given};
+use schemars_assertions::Patterns;
 use schemars_literals::{is_null, is_text};
 use schemars_types::{Adjacent, Payload, Variant};
-use schemars_validate::Patterns;
 use serde_json::Value;
 use std::alloc::AllocError;
 

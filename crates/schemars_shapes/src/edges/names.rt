@@ -9,8 +9,12 @@ use std::collections::BTreeSet;
 // Up to this many names are compared with one another, which takes less than a set of them.
 const FEW: usize = 16;
 
-// The first name that is met a second time.
-pub(crate) fn first_repeated(alloc: Global, names: &[&str]) -> Result<Option<String>, AllocError>
+/// The first name that is met a second time, if one is.
+///
+/// # Errors
+///
+/// Memory runs out.
+pub fn first_repeated(alloc: Global, names: &[&str]) -> Result<Option<String>, AllocError>
     ensures { IfOk result (λ r. MatchOption r (IsDistinct bytes_eq (map (λ n. n.now) names.now))
         (λ s. IsRepeated (map (λ n. n.now) names.now) (string_bytes s))) }
 {

@@ -1,6 +1,6 @@
 -- Each part answers what its contract says.
 use Rattle.std.proofs.Common.{◌≡◌, ◌∙◌, ◌+◌, ◌-◌, ◌++◌, ◌∷◌, [], suc, drop, get_or, List, Bool, true, false, sym, ap, map, arith, Option}
-use Rattle.schemars_belonging.proofs.Words.{◌&&◌, not, if◌then◌else◌, on_ok_weaker, drop_more, Members, view, items_view, members_view, iter_rest, Text, Variant, fields_of, flattened_of, payload_of, variant_of, internal_payload_of, internal_variant_of, internal_view, adjacent_view, effective, flattened_in, flattened_enums, part_enums, VariantMatch, every_member, exactly_one, has_each, must_have, holds, are_members, external_choice, internal_choice, is_tagged_map, tagged_fields, has_member, has_members, is_text, each_of, has_external, has_adjacent, Given, asked, bare, payload_in, variant_in, field_given, tag_given, has_beside_of, has_fields_of, has, offers, has_payload_of, given_of, member_of, member_says, allows, variants_in, claims, all_claims, external_claims, internal_claims, fits_of, one_of_seen, no_items_there}
+use Rattle.schemars_belonging.proofs.Words.{◌&&◌, not, if◌then◌else◌, on_ok_weaker, drop_more, Members, view, items_view, members_view, iter_rest, Text, Variant, fields_of, flattened_of, payload_of, variant_of, internal_payload_of, internal_variant_of, internal_view, adjacent_view, effective, flattened_in, flattened_enums, part_enums, VariantMatch, every_member, exactly_one, has_each, must_have, holds, are_members, external_choice, internal_choice, is_tagged_map, tagged_fields, has_member, has_members, is_text, each_of, has_external, has_adjacent, Given, asked, bare, payload_in, variant_in, field_given, tag_given, has_beside_of, has_fields_of, has, offers, has_payload_of, given_of, member_of, member_says, allows, variants_in, claims, all_claims, external_claims, internal_claims, fits_of, one_of_seen, nil_from_length}
 use Rattle.serde_json.specs.declared.value.Value.{Value}
 use Rattle.serde_json.proofs.Views.{Entry}
 use Rattle.schemars_shapes.specs.declared.variant.Variant as src
@@ -284,7 +284,7 @@ lists::each_of-returns-in_default g t c =
     let i = c.loop-n.n-index in
     let rest = drop (i + 1) ns in
     let here = drop_more ns i 0 c.loop-n-test.true in
-    let none = no_items_there (iter_rest c.loop-n.others) c.in_default.ensures.steps.0 in
+    let none = nil_from_length (iter_rest c.loop-n.others) c.in_default.ensures.steps.0 in
     sym (ap (λ (xs : List Value). each_of P (get_or ns i 0 ∷ rest) (items_view xs)) none)
     ∙ (sym (ap (λ ms. each_of P ms (items_view (iter_rest c.loop-n.others))) here) ∙ c.loop-n.invariant)
 

@@ -1,7 +1,7 @@
 use Rattle.std.proofs.Common.{◌≤◌, length, map, refl, ap, subst, ◌∙◌}
 use Rattle.schemars_render.proofs.Words.{string, array, items_of, no_more, assembled_view}
 use Rattle.schemars_render.proofs.Items.{texts_seen}
-use Rattle.schemars_render.proofs.PartViews.{seen_list}
+use Rattle.schemars_parts.proofs.PartViews.{seen_list}
 use Rattle.schemars_render.proofs.assembling.assemble_texts.Goals as goal
 
 pub returns : goal.returns

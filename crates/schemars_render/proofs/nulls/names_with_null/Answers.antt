@@ -2,7 +2,7 @@
 use Rattle.std.proofs.Common.{◌≡◌, false, ap, ◌∙◌, codes, rules}
 use Rattle.schemars_render.proofs.Words.{string, array, holds_text, with_item, items_assembled}
 use Rattle.schemars_render.proofs.Items.{pushed}
-use Rattle.schemars_render.proofs.PartViews.{seen_list, seen_text}
+use Rattle.schemars_parts.proofs.PartViews.{seen_list, seen_text}
 use Rattle.schemars_render.proofs.nulls.names_with_null.Goals as goal
 
 pub returns : goal.returns

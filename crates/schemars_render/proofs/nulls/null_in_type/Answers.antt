@@ -1,7 +1,7 @@
 -- What is there is taken out, and goes in again with null.
 use Rattle.std.proofs.Common.{codes, ap, ◌∙◌}
 use Rattle.schemars_render.proofs.Words.{on_ok_weaker, null_in_type, type_with_null, assembled_view}
-use Rattle.schemars_render.proofs.Changed.{retaken, without-missing}
+use Rattle.schemars_parts.proofs.Changed.{retaken, without-missing}
 use Rattle.schemars_render.proofs.nulls.null_in_type.Goals as goal
 
 pub returns-in_ok-with_null-in-Some : goal.returns-in_ok-with_null-in-Some

@@ -1,7 +1,7 @@
 -- Without a `const`, the `enum` decides.
 use Rattle.std.proofs.Common.{◌≡◌, codes, ap, ◌∙◌}
 use Rattle.schemars_render.proofs.Words.{on_ok_weaker, get_member, null_in_enum, null_in_const}
-use Rattle.schemars_render.proofs.Changed.{without-missing}
+use Rattle.schemars_parts.proofs.Changed.{without-missing}
 use Rattle.schemars_render.proofs.nulls.null_in_values.Goals as goal
 
 pub returns-in-None : goal.returns-in-None

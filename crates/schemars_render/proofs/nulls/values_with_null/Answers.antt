@@ -2,7 +2,7 @@
 use Rattle.std.proofs.Common.{◌≡◌, false, ap, ◌∙◌, rules}
 use Rattle.schemars_render.proofs.Words.{null, array, with_item, holds_null, items_assembled}
 use Rattle.schemars_render.proofs.Items.{pushed}
-use Rattle.schemars_render.proofs.PartViews.{seen_list, seen_null}
+use Rattle.schemars_parts.proofs.PartViews.{seen_list, seen_null}
 use Rattle.schemars_render.proofs.nulls.values_with_null.Goals as goal
 
 pub returns : goal.returns

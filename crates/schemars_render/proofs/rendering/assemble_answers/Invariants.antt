@@ -1,6 +1,6 @@
 -- The parts so far, and the answers that are left.
 use Rattle.std.proofs.Common.{◌≡◌, ◌++◌, map, drop}
-use Rattle.schemars_render.specs.Assembled.{assembled_view}
+use Rattle.schemars_parts.specs.Assembled.{assembled_view}
 use Rattle.schemars_render.proofs.rendering.assemble_answers.Given as goal
 
 abbrev pub invariant-loop-answer : goal.invariant-loop-answer

@@ -1,7 +1,7 @@
 -- The properties are taken out, and go in again with one more.
 use Rattle.std.proofs.Common.{◌≡◌, codes, ap, ◌∙◌}
 use Rattle.schemars_render.proofs.Words.{on_ok_weaker, object, no_members, put, with_member, assembled_view}
-use Rattle.schemars_render.proofs.Changed.{changed_again}
+use Rattle.schemars_parts.proofs.Changed.{changed_again}
 use Rattle.schemars_render.proofs.tagging.put_property.Goals as goal
 
 pub returns : goal.returns

@@ -1,9 +1,9 @@
 -- The names are taken out, and go in again with one more.
 use Rattle.std.proofs.Common.{◌≡◌, codes, ap, ◌∙◌}
 use Rattle.schemars_render.proofs.Words.{on_ok_weaker, string, array, no_items, item, put, with_first, assembled_view, items_assembled}
-use Rattle.schemars_render.specs.declared.assembled.Assembled as part
-use Rattle.schemars_render.proofs.Changed.{changed_again}
-use Rattle.schemars_render.proofs.PartViews.{seen_list, seen_text}
+use Rattle.schemars_parts.specs.declared.assembled.Assembled as part
+use Rattle.schemars_parts.proofs.Changed.{changed_again}
+use Rattle.schemars_parts.proofs.PartViews.{seen_list, seen_text}
 use Rattle.schemars_render.proofs.tagging.require_first.Goals as goal
 
 pub returns : goal.returns

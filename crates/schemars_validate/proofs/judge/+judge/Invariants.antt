@@ -11,81 +11,81 @@ decreases-judge g l = work l.left (view l.d.now.whole.now) (depth (view l.schema
 abbrev pub decreases-object : goal.decreases-object
 decreases-object g l = work l.left (view l.d.now.whole.now) (members_depth (members_view l.keywords.now.entries)) 15
 
-abbrev pub decreases-beside : goal.decreases-beside
-decreases-beside g l = work l.left (view l.d.now.whole.now) (members_depth (members_view l.keywords.now.entries)) 14
+abbrev pub decreases-keywords::beside : goal.decreases-keywords::beside
+decreases-keywords::beside g l = work l.left (view l.d.now.whole.now) (members_depth (members_view l.keywords.now.entries)) 14
 
-abbrev pub decreases-inside : goal.decreases-inside
-decreases-inside g l = work l.left (view l.d.now.whole.now) (members_depth (members_view l.keywords.now.entries)) 13
+abbrev pub decreases-keywords::inside : goal.decreases-keywords::inside
+decreases-keywords::inside g l = work l.left (view l.d.now.whole.now) (members_depth (members_view l.keywords.now.entries)) 13
 
-abbrev pub decreases-contains : goal.decreases-contains
-decreases-contains g l = work l.left (view l.d.now.whole.now) (members_depth (members_view l.keywords.now.entries)) 12
+abbrev pub decreases-lists::contains : goal.decreases-lists::contains
+decreases-lists::contains g l = work l.left (view l.d.now.whole.now) (members_depth (members_view l.keywords.now.entries)) 12
 
-abbrev pub decreases-count_of_fitting : goal.decreases-count_of_fitting
-decreases-count_of_fitting g l = work l.left (view l.d.now.whole.now) (depth (view l.schema.now)) 2
+abbrev pub decreases-lists::count_of_fitting : goal.decreases-lists::count_of_fitting
+decreases-lists::count_of_fitting g l = work l.left (view l.d.now.whole.now) (depth (view l.schema.now)) 2
 
-abbrev pub decreases-names : goal.decreases-names
-decreases-names g l = work l.left (view l.d.now.whole.now) (depth_at (option_map (λ s. view s.now) l.of_names)) 2
+abbrev pub decreases-objects::names : goal.decreases-objects::names
+decreases-objects::names g l = work l.left (view l.d.now.whole.now) (depth_at (option_map (λ s. view s.now) l.of_names)) 2
 
-abbrev pub decreases-condition : goal.decreases-condition
-decreases-condition g l = work l.left (view l.d.now.whole.now) (members_depth (members_view l.keywords.now.entries)) 12
+abbrev pub decreases-several::condition : goal.decreases-several::condition
+decreases-several::condition g l = work l.left (view l.d.now.whole.now) (members_depth (members_view l.keywords.now.entries)) 12
 
-abbrev pub decreases-branch : goal.decreases-branch
-decreases-branch g l = work l.left (view l.d.now.whole.now) (depth_at (option_map (λ s. view s.now) l.schema)) 3
+abbrev pub decreases-one::branch : goal.decreases-one::branch
+decreases-one::branch g l = work l.left (view l.d.now.whole.now) (depth_at (option_map (λ s. view s.now) l.schema)) 3
 
-abbrev pub decreases-dependents : goal.decreases-dependents
-decreases-dependents g l =
+abbrev pub decreases-several::dependents : goal.decreases-several::dependents
+decreases-several::dependents g l =
     work l.left (view l.d.now.whole.now) (members_depth_at (option_map (λ s. members_view s.now.entries) l.by_name)) 4
 
-abbrev pub decreases-reference : goal.decreases-reference
-decreases-reference g l = work l.left (view l.d.now.whole.now) (members_depth (members_view l.keywords.now.entries)) 13
+abbrev pub decreases-one::reference : goal.decreases-one::reference
+decreases-one::reference g l = work l.left (view l.d.now.whole.now) (members_depth (members_view l.keywords.now.entries)) 13
 
-abbrev pub decreases-fits : goal.decreases-fits
-decreases-fits g l = work l.left (view l.d.now.whole.now) (depth (view l.schema.now)) 2
+abbrev pub decreases-one::fits : goal.decreases-one::fits
+decreases-one::fits g l = work l.left (view l.d.now.whole.now) (depth (view l.schema.now)) 2
 
-abbrev pub decreases-alone : goal.decreases-alone
-decreases-alone g l = work l.left (view l.d.now.whole.now) (depth_at (option_map (λ s. view s.now) l.schema)) 1
+abbrev pub decreases-one::alone : goal.decreases-one::alone
+decreases-one::alone g l = work l.left (view l.d.now.whole.now) (depth_at (option_map (λ s. view s.now) l.schema)) 1
 
-abbrev pub decreases-items : goal.decreases-items
-decreases-items g l =
+abbrev pub decreases-lists::items : goal.decreases-lists::items
+decreases-lists::items g l =
     work l.left (view l.d.now.whole.now)
     (max (items_depth (items_view l.schemas.now.first.now)) (depth_at (option_map (λ s. view s.now) l.schemas.now.others))) 3
 
-abbrev pub decreases-members : goal.decreases-members
-decreases-members g l =
+abbrev pub decreases-objects::members : goal.decreases-objects::members
+decreases-objects::members g l =
     work l.left (view l.d.now.whole.now)
     (max (members_depth_at (option_map (λ s. members_view s.now.entries) l.schemas.now.named))
     (max (members_depth_at (option_map (λ s. members_view s.now.entries) l.schemas.now.by_pattern))
     (depth_at (option_map (λ s. view s.now) l.schemas.now.others)))) 4
 
-abbrev pub decreases-one_member : goal.decreases-one_member
-decreases-one_member g l =
+abbrev pub decreases-objects::one_member : goal.decreases-objects::one_member
+decreases-objects::one_member g l =
     work l.left (view l.d.now.whole.now)
     (max (members_depth_at (option_map (λ s. members_view s.now.entries) l.schemas.now.named))
     (max (members_depth_at (option_map (λ s. members_view s.now.entries) l.schemas.now.by_pattern))
     (depth_at (option_map (λ s. view s.now) l.schemas.now.others)))) 3
 
-abbrev pub decreases-matching : goal.decreases-matching
-decreases-matching g l =
+abbrev pub decreases-objects::matching : goal.decreases-objects::matching
+decreases-objects::matching g l =
     work l.left (view l.d.now.whole.now) (members_depth_at (option_map (λ s. members_view s.now.entries) l.by_pattern)) 2
 
-abbrev pub decreases-each : goal.decreases-each
-decreases-each g l =
+abbrev pub decreases-several::each : goal.decreases-several::each
+decreases-several::each g l =
     work l.left (view l.d.now.whole.now) (items_depth_at (option_map (λ s. items_view s.now.items) l.schemas)) 3
 
-abbrev pub decreases-dependencies : goal.decreases-dependencies
-decreases-dependencies g l = work l.left (view l.d.now.whole.now) (members_depth (members_view l.keywords.now.entries)) 13
+abbrev pub decreases-several::dependencies : goal.decreases-several::dependencies
+decreases-several::dependencies g l = work l.left (view l.d.now.whole.now) (members_depth (members_view l.keywords.now.entries)) 13
 
-abbrev pub decreases-unevaluated : goal.decreases-unevaluated
-decreases-unevaluated g l = work l.left (view l.d.now.whole.now) (depth (view l.schema.now)) 4
+abbrev pub decreases-rest::unevaluated : goal.decreases-rest::unevaluated
+decreases-rest::unevaluated g l = work l.left (view l.d.now.whole.now) (depth (view l.schema.now)) 4
 
-abbrev pub decreases-unevaluated_items : goal.decreases-unevaluated_items
-decreases-unevaluated_items g l = work l.left (view l.d.now.whole.now) (depth (view l.schema.now)) 3
+abbrev pub decreases-rest::unevaluated_items : goal.decreases-rest::unevaluated_items
+decreases-rest::unevaluated_items g l = work l.left (view l.d.now.whole.now) (depth (view l.schema.now)) 3
 
-abbrev pub decreases-unevaluated_members : goal.decreases-unevaluated_members
-decreases-unevaluated_members g l = work l.left (view l.d.now.whole.now) (depth (view l.schema.now)) 3
+abbrev pub decreases-rest::unevaluated_members : goal.decreases-rest::unevaluated_members
+decreases-rest::unevaluated_members g l = work l.left (view l.d.now.whole.now) (depth (view l.schema.now)) 3
 
-abbrev pub invariant-items-loop-item : goal.invariant-items-loop-item
-invariant-items-loop-item g l =
+abbrev pub invariant-lists::items-loop-item : goal.invariant-lists::items-loop-item
+invariant-lists::items-loop-item g l =
     let c = context l.d.dialect (view l.d.whole.now) (g.P.Patterns.reading l.d.patterns.now) l.left in
     let others = judge_at c (option_map (λ s. view s.now) l.schemas.others) in record {
       deep : items_depth (items_view (iter_rest l.first)) ≤ items_depth (items_view l.schemas.first.now);
@@ -93,8 +93,8 @@ invariant-items-loop-item g l =
           ≡ items_by (judges_of c (items_view l.schemas.first.now)) others (view l.value);
     }
 
-abbrev pub invariant-count_of_fitting-loop-place : goal.invariant-count_of_fitting-loop-place
-invariant-count_of_fitting-loop-place g l =
+abbrev pub invariant-lists::count_of_fitting-loop-place : goal.invariant-lists::count_of_fitting-loop-place
+invariant-lists::count_of_fitting-loop-place g l =
     let c = context l.d.dialect (view l.d.whole.now) (g.P.Patterns.reading l.d.patterns.now) l.left in
     let s = judge c (view l.schema) in
     let f = at_positions (fits_at l.d.dialect.reads_prefix_items s (items_view l.items)) in record {
@@ -104,15 +104,15 @@ invariant-count_of_fitting-loop-place g l =
           ≡ marked f (positions_in 0 (items_view l.items)) l.fn.marks.items;
     }
 
-abbrev pub invariant-names-loop-key : goal.invariant-names-loop-key
-invariant-names-loop-key g l =
+abbrev pub invariant-objects::names-loop-key : goal.invariant-objects::names-loop-key
+invariant-objects::names-loop-key g l =
     let c = context l.d.dialect (view l.d.whole.now) (g.P.Patterns.reading l.d.patterns.now) l.left in
     let names = judge_at c (option_map (λ s. view s.now) l.of_names) in
     both (meant l.says) (each_member (λ k w. where_some names (λ s. s.fits (string k))) (members_view l.key-iterator))
     ≡ names_by names (view l.value)
 
-abbrev pub invariant-dependents-loop-name : goal.invariant-dependents-loop-name
-invariant-dependents-loop-name g l =
+abbrev pub invariant-several::dependents-loop-name : goal.invariant-several::dependents-loop-name
+invariant-several::dependents-loop-name g l =
     let c = context l.d.dialect (view l.d.whole.now) (g.P.Patterns.reading l.d.patterns.now) l.left in
     let v = view l.value in
     let left = beside_members (judges_among c (members_view l.name-iterator)) (members_view l.members.entries) in
@@ -122,8 +122,8 @@ invariant-dependents-loop-name g l =
       judged : marked (judged_by_some left v) (parts_of v) l.marks.items ≡ marked (judged_beside_members all v) (parts_of v) l.fn.marks.items;
     }
 
-abbrev pub invariant-members-loop-key : goal.invariant-members-loop-key
-invariant-members-loop-key g l =
+abbrev pub invariant-objects::members-loop-key : goal.invariant-objects::members-loop-key
+invariant-objects::members-loop-key g l =
     let patterns = g.P.Patterns.reading l.d.patterns.now in
     let c = context l.d.dialect (view l.d.whole.now) patterns l.left in
     let named = named_judges_in c (option_map (λ s. members_view s.now.entries) l.schemas.named) in
@@ -132,8 +132,8 @@ invariant-members-loop-key g l =
     both (meant l.says) (each_member (member_by patterns named matched others) (members_view l.key-iterator))
     ≡ members_by patterns named matched others (view l.value)
 
-abbrev pub invariant-matching-loop-pattern : goal.invariant-matching-loop-pattern
-invariant-matching-loop-pattern g l =
+abbrev pub invariant-objects::matching-loop-pattern : goal.invariant-objects::matching-loop-pattern
+invariant-objects::matching-loop-pattern g l =
     let patterns = g.P.Patterns.reading l.d.patterns.now in
     let c = context l.d.dialect (view l.d.whole.now) patterns l.left in
     let all = named_judges_in c (option_map (λ s. members_view s.now.entries) l.by_pattern) in record {
@@ -143,8 +143,8 @@ invariant-matching-loop-pattern g l =
       some : (l.some || matches_some patterns (named_judges c (members_view l.pattern-iterator)) l.key) ≡ matches_some patterns all l.key;
     }
 
-abbrev pub invariant-each-loop-schema : goal.invariant-each-loop-schema
-invariant-each-loop-schema g l =
+abbrev pub invariant-several::each-loop-schema : goal.invariant-several::each-loop-schema
+invariant-several::each-loop-schema g l =
     let c = context l.d.dialect (view l.d.whole.now) (g.P.Patterns.reading l.d.patterns.now) l.left in
     let left = items_view (drop l.schema-index l.schema-items) in record {
       deep : items_depth (items_view l.schema-items) ≤ items_depth_at (option_map (λ s. items_view s.now.items) l.schemas);
@@ -156,14 +156,14 @@ invariant-each-loop-schema g l =
           l.fn.marks.items;
     }
 
-abbrev pub invariant-unevaluated_items-loop-item : goal.invariant-unevaluated_items-loop-item
-invariant-unevaluated_items-loop-item g l =
+abbrev pub invariant-rest::unevaluated_items-loop-item : goal.invariant-rest::unevaluated_items-loop-item
+invariant-rest::unevaluated_items-loop-item g l =
     let c = context l.d.dialect (view l.d.whole.now) (g.P.Patterns.reading l.d.patterns.now) l.left in
     both (meant l.says) (each_unmarked_item (judge c (view l.schema)) (items_view (drop l.item-index l.items)) (iter_rest l.marks))
     ≡ each_unmarked_item (judge c (view l.schema)) (items_view l.items) l.judged
 
-abbrev pub invariant-unevaluated_members-loop-member : goal.invariant-unevaluated_members-loop-member
-invariant-unevaluated_members-loop-member g l =
+abbrev pub invariant-rest::unevaluated_members-loop-member : goal.invariant-rest::unevaluated_members-loop-member
+invariant-rest::unevaluated_members-loop-member g l =
     let c = context l.d.dialect (view l.d.whole.now) (g.P.Patterns.reading l.d.patterns.now) l.left in
     both (meant l.says) (each_unmarked (judge c (view l.schema)) (members_view l.member-iterator) (iter_rest l.marks))
     ≡ each_unmarked (judge c (view l.schema)) (members_view l.members.entries) l.judged

@@ -1,7 +1,6 @@
 use Rattle.std.proofs.Common.{◌∙◌, min, option_map}
 use Rattle.schemars_validate.proofs.Words.{if◌then◌else◌, items_len, view, items_view, is_placed}
-use Rattle.schemars_validate.proofs.Marking.{no_item_marked, placed_marks}
-use Rattle.schemars_validate.proofs.Judging.{mapped_some}
+use Rattle.schemars_validate.proofs.Marking.{no_item_marked, placed_marks, mapped_some}
 use Rattle.schemars_validate.proofs.marks.mark_items.Goals as goal
 
 pub returns-in_default : goal.returns-in_default

@@ -1,8 +1,0 @@
--- The items that are left decide.
-use Rattle.std.proofs.Common.{◌≡◌, drop}
-use Rattle.schemars_literals.proofs.Words.{items_view, are_type_names, texts_of}
-use Rattle.schemars_literals.proofs.named_types.are_type_names.Given as goal
-
-abbrev pub invariant-loop-value : goal.invariant-loop-value
-invariant-loop-value l =
-    are_type_names (texts_of (items_view (drop l.value-index l.values))) ≡ are_type_names (texts_of (items_view l.values))

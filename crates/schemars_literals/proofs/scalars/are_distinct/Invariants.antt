@@ -1,7 +1,0 @@
--- The items that are left decide.
-use Rattle.std.proofs.Common.{◌≡◌, drop}
-use Rattle.schemars_literals.proofs.Words.{items_view, are_distinct}
-use Rattle.schemars_literals.proofs.scalars.are_distinct.Given as goal
-
-abbrev pub invariant-loop-n : goal.invariant-loop-n
-invariant-loop-n l = are_distinct (items_view (drop l.n l.items)) ≡ are_distinct (items_view l.items)

@@ -1,0 +1,74 @@
+//! The keyword for the parts that nothing else judges.
+ghost use Rattle.std.specs.Prelude.{◌≡◌, IfOk};
+ghost use Rattle.schemars_validate.specs.Words.{view, items_view, members_view, context, judge, meant, each_unmarked, each_unmarked_item, unmarked_by};
+
+use crate::judge::Document;
+use crate::judge::one::alone;
+use crate::marks::unless_marked;
+use schemars_assertions::{Patterns, Verdict, both};
+use serde_json::{Map, Value};
+use std::alloc::AllocError;
+
+/// A schema for the parts that are not marked.
+#[cycle(judge)]
+pub fn unevaluated<P: Patterns>(
+    d: &Document<'_, P>,
+    left: u64,
+    schema: &Value,
+    value: &Value,
+    judged: &[bool],
+) -> Result<Verdict, AllocError>
+    ensures { let c = context d.now.dialect (view d.now.whole.now) (P.reading d.now.patterns.now) left in
+        IfOk result (λ says. meant says
+        ≡ unmarked_by (judge c (view schema.now)) (view value.now) judged.now) }
+{
+    match value {
+        Value::Array(items) => unevaluated_items(d, left, schema, items, judged),
+        Value::Object(members) => unevaluated_members(d, left, schema, members, judged),
+        _ => Ok(Verdict::Yes),
+    }
+}
+
+#[cycle(judge)]
+fn unevaluated_items<P: Patterns>(
+    d: &Document<'_, P>,
+    left: u64,
+    schema: &Value,
+    items: &[Value],
+    judged: &[bool],
+) -> Result<Verdict, AllocError>
+    ensures { let c = context d.now.dialect (view d.now.whole.now) (P.reading d.now.patterns.now) left in
+        IfOk result (λ says. meant says
+        ≡ each_unmarked_item (judge c (view schema.now)) (items_view items.now) judged.now) }
+{
+    let mut says = Verdict::Yes;
+    let mut marks = judged.iter();
+    for item in items {
+        let mark = marks.next();
+        let asked = unless_marked(mark, schema);
+        says = both(says, alone(d, left, asked, item)?);
+    }
+    Ok(says)
+}
+
+#[cycle(judge)]
+fn unevaluated_members<P: Patterns>(
+    d: &Document<'_, P>,
+    left: u64,
+    schema: &Value,
+    members: &Map<String, Value>,
+    judged: &[bool],
+) -> Result<Verdict, AllocError>
+    ensures { let c = context d.now.dialect (view d.now.whole.now) (P.reading d.now.patterns.now) left in
+        IfOk result (λ says. meant says
+        ≡ each_unmarked (judge c (view schema.now)) (members_view members.now.entries) judged.now) }
+{
+    let mut says = Verdict::Yes;
+    let mut marks = judged.iter();
+    for (_, member) in members.iter() {
+        let mark = marks.next();
+        let asked = unless_marked(mark, schema);
+        says = both(says, alone(d, left, asked, member)?);
+    }
+    Ok(says)
+}
