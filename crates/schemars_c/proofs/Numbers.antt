@@ -4,7 +4,6 @@ use Rattle.schemars_types.specs.declared.contract.Contract.{Contract}
 use Rattle.schemars_types.specs.declared.contract.Contract.TheVariants.{Deserialize, Serialize}
 use Rattle.schemagen_run.specs.declared.fault.Fault.{Fault}
 use Rattle.schemagen_run.specs.declared.fault.Fault.TheVariants.{Usage, Refused}
-use Rattle.schemars_generate.specs.declared.error.TheConstants.{DEFINITIONS_PATH}
 use Rattle.schemagen_run.specs.declared.fault.TheConstants.{READ}
 use Rattle.schemars_c.proofs.Vocabulary.{IsFault, IsReadFault, IsLineFault, IsTableFault, IsOutside, IsDialect, AreFlagsFor, AskForTypes, AskForSample, names_2020_12, names_2019_09, names_draft_07, names_openapi3, ask_for_types, ask_for_sample, dialect_word, flag_words, table_words, example_words, fault_number, WantsMemory}
 use Rattle.schemars_c.specs.declared.handing.TheConstants.{USAGE}
@@ -81,10 +80,10 @@ pub of_table_number : (e : Fault) (n : ℕ) → n ≡ fault_number e → IsTable
 of_table_number Usage n is table = absurd (true≢false (sym (small_table (Refused n) table) ∙ ap (λ m. nat_lt m 25) is))
 of_table_number (Refused m) n is table = ap Refused (sym is)
 
--- so is that of a table whose definitions have no place
-pub of_path_number : (e : Fault) (n : ℕ) → n ≡ fault_number e → n ≡ DEFINITIONS_PATH → e ≡ Refused DEFINITIONS_PATH
-of_path_number Usage n is path = absurd (true≢false (ap (λ m. nat_lt m 25) (sym path ∙ is)))
-of_path_number (Refused m) n is path = ap Refused (sym is ∙ path)
+-- so is each small number
+pub of_number : (e : Fault) (n m : ℕ) → nat_lt m 25 ≡ true → n ≡ fault_number e → n ≡ m → e ≡ Refused m
+of_number Usage n m below is told = absurd (true≢false (sym below ∙ ap (λ k. nat_lt k 25) (sym told ∙ is)))
+of_number (Refused k) n m below is told = ap Refused (sym is ∙ told)
 
 -- a fault from outside, where the source never fails
 pub wants_memory : (e : Fault) (n : ℕ) → n ≡ fault_number e → e ≢ Refused READ → IsOutside e → WantsMemory n
