@@ -1,5 +1,5 @@
 # On a machine with the Rattle kit. `make help` lists the targets.
-.PHONY: help run lint validate derive program library install wheel node page openapi-example test test-bindings
+.PHONY: help run lint validate derive program library install wheel node page openapi-example check test test-bindings
 
 TABLE = examples/vec-option-u8.json
 DIALECT = 2020-12
@@ -12,19 +12,18 @@ validator = crates/schemavalid/out/schemavalid
 deriver = crates/schemaderive/out/schemaderive
 retries = crates/schemars_retries/out/schemars_retries
 library = out/library
-# the crates below the programs, lowest first
-libraries = $(shell sed -n '/^schemagen:/q; s/^\([a-z_]*\):.*/\1/p' crates.txt) schemalint_run schemars_readable schemars_validator schemars_membership $(shell sed -n 's/^\(schemaderive_[a-z]*\):.*/\1/p' crates.txt | grep -v '_cases\|_proved')
 
 help:
 	@echo 'make run [TABLE="FILE.."] [DIALECT=..] [FLAGS=..] prints the document of each table, without proofs'
 	@echo 'make lint [TABLE="FILE.."]                      tells what is wrong with each table, and whether it is plain'
 	@echo 'make validate SCHEMA=FILE VALUES=FILE [DIALECT=..] tells which values the document accepts, and why not the others'
 	@echo 'make derive                                     writes the generated implementations anew, from their declarations'
-	@echo 'make program                                    proves everything below the programs, and builds them'
+	@echo 'make program                                    proves the programs and all below them, and builds them'
 	@echo 'make library [PREFIX=/usr/local]                builds the C library of what is proved, in out/library'
 	@echo 'make install [PREFIX=/usr/local]                copies the programs, the C library and their manual pages'
 	@echo 'make wheel, make node, make page                build the packages for Python and node, and the page, in out'
 	@echo 'make openapi-example                            writes examples/openapi/openapi.json anew'
+	@echo 'make check                                      all cases, outputs and tests by checked runs, without proofs'
 	@echo 'make test                                       the merge gate'
 	@echo 'make test-bindings                              the tests of Python, node, the page and Rust'
 
@@ -52,19 +51,10 @@ validate:
 derive: $(deriver)
 	@tools/derived $(deriver)
 
-# Proves the libraries, which takes some two hours on two cores, and builds the programs.
+# Proves the programs and the crates below them, and builds them. What `rt ci` has proved of the same files on this machine is
+# taken from what it kept; from nothing it takes some two hours on two cores.
 program:
-	@started=$$(date +%s); done=0; all=$(words $(libraries)); \
-	for crate in $(libraries); do \
-	    done=$$((done + 1)); \
-	    echo "proving $$crate ($$done of $$all, $$(( ($$(date +%s) - started) / 60 )) minutes so far)" >&2; \
-	    (cd crates/$$crate && rt check >/dev/null) || exit 1; \
-	done; \
-	echo "proving the programs, after $$(( ($$(date +%s) - started) / 60 )) minutes" >&2
-	@cd crates/schemavalid && rt run < stdin -- 2020-12 data/schema.json >/dev/null || [ $$? = 1 ]
-	@cd $(program) && rt run < ../../examples/vec-option-u8.json -- types 2020-12 >/dev/null
-	@cd crates/schemalint && rt run < ../../examples/linked-list.json >/dev/null
-	@cd crates/schemaderive && rt run < stdin -- --table Config >/dev/null
+	tools/kept schemagen schemalint schemavalid schemaderive
 	@echo 'built: $(built) types 2020-12 < TABLE' >&2
 	@echo 'built: $(linter) TABLE' >&2
 	@echo 'built: $(validator) 2020-12 SCHEMA VALUES' >&2
@@ -117,15 +107,20 @@ page: out/node/schemars.wasm
 openapi-example: $(built)
 	@$(built) types openapi3 < examples/openapi/table.json | examples/openapi/join
 
-# The merge gate: every proof from nothing, the must-fail edits, the tests and the programs. What pages
-# and examples show has to be what the case files have, and the files, lines and words that pages name
-# have to be there. The generated implementations have to be what the program writes now. Then the C library
-# is built and called, the memory and the instructions that a row costs are measured, and each growth of the memory of the
-# programs that were built is refused in turn.
-test:
+# All cases, stored outputs and tests by checked runs, without proofs. What pages and examples show has to be what the case files
+# have, and the files, lines and words that pages name have to be there.
+check:
 	tools/cases --check
 	tools/places --check
+	tools/check
+
+# The merge gate: what `check` does, every proof from nothing, the programs, and the edits. The generated implementations have to
+# be what the program writes now. Then the C library is built and called, the memory and the instructions that a row costs are
+# measured, and each growth of the memory of the programs that were built is refused in turn.
+test: check
 	rt ci
+	tools/edits --self-test
+	tools/edits
 	tools/derived --check $(deriver)
 	@$(MAKE) --no-print-directory library
 	tools/library $(library)
