@@ -1,6 +1,6 @@
 -- The root document of a type accepts what is written.
 use Rattle.std.proofs.Common.{◌≡◌, ℕ, List, Some, inl, sym, ap, ◌∙◌}
-use Rattle.schemars_accepted.proofs.Words.{Data, IsJson, Patterns, verdict, belongs, Row, place_of, IsChecked, IsPlainTable, Draft, Settings, stripped, MeansType, IsJoined, Dictionary, TypeRow, IsIn, BelongsUnder, AreAsTold, IsToldIn, follows_told, AcceptsWritten}
+use Rattle.schemars_accepted.proofs.Words.{Data, IsJson, Patterns, verdict, belongs, Row, place_of, IsChecked, IsPlainTable, Draft, Settings, stripped, MeansType, IsJoined, Dictionary, TypeRow, IsIn, BelongsUnder, AreAsTold, IsToldIn, follows_told, AcceptsWritten, HasRoot, HasOwnDefinitions, KeepsDefinitions, TransformStep, Generator, IsRootOfType, held_transforms, state, with_rows}
 use Rattle.schemars_types.specs.declared.contract.Contract.TheVariants.{Serialize}
 
 -- the row of a type that has joined a table describes the type
@@ -11,6 +11,16 @@ joined_row t told R is_in described old new n is joined checked =
     let d = is.dictionary in
     let follows = joined.registered.follows.each d (is_in d is.tells) is.follows in
     described d new n is.tells (follows_told d new follows) checked joined.registered.added.number
+
+-- what a root document leaves, by the clauses of its call
+pub has_root : {O : Type 0} (Q : TransformStep O) (t : TypeRow) (old new : Generator O) (document : Data)
+    → IsRootOfType Q (held_transforms old) (held_transforms new) t (state old) (state new) document
+    → (HasOwnDefinitions (state old) → HasOwnDefinitions (with_rows new.rows (state old)))
+    → KeepsDefinitions (with_rows new.rows (state old)) (state new)
+    → HasRoot Q (held_transforms old) (held_transforms new) t (state old) (state new) document
+has_root Q t old new document root own keeps =
+    let (d, (untransformed, w, is, same), made) = root.is.made.through in
+    record { root = root; settings = ap (λ s. s.settings) same; own = λ before. keeps.own (own before) }
 
 -- a document that means the type accepts what belongs to its row
 pub root_accepts : (reading : Patterns → Type 0) (draft : Draft) (t : TypeRow) (s : Settings) (rows : List Row) (n : ℕ) (document v : Data)

@@ -1,5 +1,5 @@
 -- Definitions that are taken for OpenAPI accept what is written.
-use Rattle.std.proofs.Common.{◌≡◌, ◌<◌, ℕ, zero, suc, [], List, Option, Some, None, true, false, inr, IfOk, Result, Ok, Err, refl, sym, ap, arith, ◌∙◌, subst}
+use Rattle.std.proofs.Common.{◌≡◌, ◌<◌, ℕ, zero, suc, [], List, Option, Some, None, true, false, inr, IfOk, IfErr, Result, Ok, Err, refl, sym, ap, arith, ◌∙◌, subst}
 use Rattle.schemars_accepted.proofs.Words.{is_some, Data, number, array, object, Members, no_members, get_member, Text, IsJson, resolved, IsSchema, verdict, Yes, No, Dialect, openapi3, Patterns, accepts, bound, read_data, follow, plain-components, resolved-definition, belongs, Row, place_of, is_inline_at, TypeRow, reference, IsPlainTable, IsOneToOne, name_of, is_in_place, IsKey, reference_to, components, components_of, components-found, TransformStep, IsReferenceOf, State, path_of, HasOwnDefinitions, MeanTheirRows, TakenHeadline, HasSameKeys, KeepsDefinitions, IsJoined, IsSubschemaOfType, with_rows, Generator, Transforms, held_transforms, settings_of, state, AreTransformed, AreGone, IsTakeRefusal, BelongsUnder, IsForOpenApi, DefinitionAccepts, ReferenceAccepts, TakenAccepts, HasJoined, AreTaken, IsNotTaken, IsTakenRefusal}
 use Rattle.serde_json.specs.Data.{null, boolean, string}
 use Rattle.schemars_types.specs.declared.contract.Contract.TheVariants.{Serialize}
@@ -126,6 +126,12 @@ reference_of_new Q ts us reading t old new taken schema v made is empty none apa
 pub of_both : {T E : Type 0} (r : Result T E) (P Q R : T → Type 0) → ((x : T) → P x → Q x → R x) → IfOk r P → IfOk r Q → IfOk r R
 of_both (Ok x) P Q R both p q = both x p q
 of_both (Err e) P Q R both p q = tt
+
+-- and of an error
+pub refused_and_left : {T E : Type 0} (r : Result T E) (P Q R : E → Type 0) → ((e : E) → P e → Q e → R e) → IfErr r P → IfErr r Q
+    → IfErr r R
+refused_and_left (Ok x) P Q R both p q = tt
+refused_and_left (Err e) P Q R both p q = both e p q
 
 -- ---- what the calls leave
 

@@ -10,8 +10,8 @@ pub use Rattle.json.specs.Token.{Token, bad, begin_array, begin_object, boolean,
 pub use Rattle.json.specs.Word.{after_number, ends_word, head, is_operator, is_space, number_before}
 unfoldable pub use Rattle.json.specs.Word.{word}
 pub use Rattle.schemars_accepted.specs.Accepted.{IsAcceptedAsRead, IsAcceptedUnder}
-pub use Rattle.schemars_accepted.specs.Rooted.{AcceptsWritten, AreForWriting, RefusesRoot}
-pub use Rattle.schemars_accepted.specs.Taken.{AreForOpenApi, AreTaken, DefinitionAccepts, HasJoined, IsForOpenApi, IsNotTaken, IsTakenRefusal, ReferenceAccepts, TakenAccepts}
+pub use Rattle.schemars_accepted.specs.Rooted.{AcceptsWritten, AreForWriting, HasRoot, IsLeftWithRoot, IsMade, RefusesRoot}
+pub use Rattle.schemars_accepted.specs.Taken.{AreForOpenApi, AreTaken, DefinitionAccepts, HasJoined, IsForOpenApi, IsLeft, IsNotTaken, IsTakenRefusal, ReferenceAccepts, TakenAccepts}
 pub use Rattle.schemars_build.specs.Naming.{IsOneToOne, name_of}
 pub use Rattle.schemars_build.specs.Placed.{is_in_place}
 pub use Rattle.schemars_build.specs.Registry.{IsKey, reference_to}
@@ -19,7 +19,7 @@ pub use Rattle.schemars_described.specs.Laws.{follows_told, told_in_empty}
 pub use Rattle.schemars_described.specs.Told.{AreAsTold, IsToldIn}
 pub use Rattle.schemars_documents.specs.PlainTable.{IsPlainTable}
 pub use Rattle.schemars_generate.specs.Answers.{KeepsDefinitions}
-pub use Rattle.schemars_generate.specs.ByType.{IsJoined, IsRootOfTypeRefusal, IsSubschemaOfType, with_rows}
+pub use Rattle.schemars_generate.specs.ByType.{IsJoined, IsRootOfType, IsRootOfTypeRefusal, IsSubschemaOfType, with_rows}
 unfoldable pub use Rattle.schemars_generate.specs.ByType.{MeansType}
 pub use Rattle.schemars_generate.specs.Generator.{Generator, Transforms, held_transforms, settings_of, state}
 pub use Rattle.schemars_generate.specs.Settings.{settings07, settings2019_09, settings_openapi3, transforms07, transforms2019_09, transforms_openapi3}

@@ -10,12 +10,15 @@ use Rattle.schemars_types.specs.declared.contract.Contract.TheVariants.{Serializ
 use Rattle.schemars_documents.specs.PlainTable.{IsPlainTable}
 use Rattle.schemars_headline.specs.Drafts.{Draft, dialect_of}
 use Rattle.schemars_headline.specs.Headline.{IsDraftPath}
-use Rattle.schemars_headline.specs.State.{HasOwnDefinitions, stripped}
-use Rattle.schemars_generate.specs.Generator.{Generator, settings_of, state}
+use Rattle.schemars_headline.specs.State.{State, HasOwnDefinitions, stripped}
+use Rattle.schemars_impls.specs.Dictionary.{TypeRow}
+use Rattle.schemars_walk.specs.Walk.{TransformStep}
+use Rattle.schemars_generate.specs.ByType.{IsRootOfType}
+use Rattle.schemars_generate.specs.Generator.{Generator, Transforms, held_transforms, settings_of, state}
 use Rattle.schemars_generate.specs.declared.error.GenerateError.{GenerateError}
 use Rattle.schemars_generate.specs.declared.settings.SchemaSettings.{SchemaSettings}
 use Rattle.schemars_generate.specs.Settings.{transforms_for}
-use Rattle.schemars_agreement.specs.declared.error.WriteError.TheVariants.{NotInJson}
+use Rattle.schemars_agreement.specs.declared.error.WriteError.TheVariants.{NotInJson, Json}
 use Rattle.schemars_accepted.specs.declared.error.RootError.{RootError}
 use Rattle.schemars_accepted.specs.declared.error.RootError.TheVariants.{OutOfMemory, NotPlain, Generate, Write}
 
@@ -44,9 +47,23 @@ RefusesRoot Cause Valid rows NotPlain = IsPlainTable rows → ⊥
 RefusesRoot Cause Valid rows (Generate e) = Cause e
 RefusesRoot Cause Valid rows (Write e) = e ≡ NotInJson → Valid → ⊥
 
--- a refusal before the document is made, or because it is not
-abbrev pub IsBeforeDocument : RootError → Type 0
-IsBeforeDocument OutOfMemory = ⊥
-IsBeforeDocument NotPlain = ⊥
-IsBeforeDocument (Generate e) = Unit {0}
-IsBeforeDocument (Write e) = e ≡ NotInJson
+-- The type has joined a generator, whose settings are as before. This is its root document, whose definitions the generator holds beside
+-- those that it held.
+pub record HasRoot {O : Type 0} (Q : TransformStep O) (ts us : Transforms O) (t : TypeRow) (old new : State) (document : Data)
+    : Type 0 where
+  pub root : IsRootOfType Q ts us t old new document
+  pub settings : new.settings ≡ old.settings
+  pub own : HasOwnDefinitions old → HasOwnDefinitions new
+
+-- the type has joined the generator, and its root document was made
+abbrev pub IsMade : {O : Type 0} → TransformStep O → TypeRow → Generator O → Generator O → Type 0
+IsMade Q t old new = (document : Data) × HasRoot Q (held_transforms old) (held_transforms new) t (state old) (state new) document
+
+-- What the generator is after a refusal. A value that JSON does not have leaves it unchanged. A document that is not made leaves it
+-- unchanged, apart from its transforms. Else the type has joined it, and the document was made.
+abbrev pub IsLeftWithRoot : {O : Type 0} → TransformStep O → TypeRow → Generator O → Generator O → RootError → Type 0
+IsLeftWithRoot Q t old new OutOfMemory = IsMade Q t old new
+IsLeftWithRoot Q t old new NotPlain = IsMade Q t old new
+IsLeftWithRoot Q t old new (Generate e) = state new ≡ state old
+IsLeftWithRoot Q t old new (Write NotInJson) = new ≡ old
+IsLeftWithRoot Q t old new (Write (Json e)) = IsMade Q t old new

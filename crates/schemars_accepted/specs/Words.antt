@@ -1,6 +1,6 @@
 -- Words that many contracts of this crate name.
 pub use Rattle.schemars_accepted.specs.Accepted.{IsAcceptedAsRead, IsAcceptedUnder}
-pub use Rattle.schemars_accepted.specs.Rooted.{AcceptsWritten, AreForWriting, IsBeforeDocument, IsForWriting, RefusesRoot}
+pub use Rattle.schemars_accepted.specs.Rooted.{AcceptsWritten, AreForWriting, HasRoot, IsForWriting, IsLeftWithRoot, RefusesRoot}
 pub use Rattle.schemars_accepted.specs.Taken.{AreForOpenApi, AreTaken, IsForOpenApi, IsLeft, IsTakenRefusal, ReferenceAccepts, TakenAccepts}
 pub use Rattle.schemars_described.specs.Told.{IsToldIn, telling}
 pub use Rattle.schemars_generate.specs.ByType.{IsJoined, IsRootOfTypeRefusal}

@@ -97,7 +97,8 @@ pub fn to_accepted_components<T: AgreesAsDescribed, O: Transform + Drop>(
         (held_transforms new) T.says (state (generator_over settings [])) (state new) r.0
         (members_view r.1.entries)) }
     ensures refused { IfErr result (λ e. (new : Generator O) × RefusesRoot (IsTakenRefusal O.makes
-        T.says (generator_over settings []) new) (T.valid value.now) new.rows e) }
+        T.says (generator_over settings []) new) (T.valid value.now) new.rows e
+        × IsLeft T.says (generator_over settings []) new e) }
 {
     let mut generator = SchemaGenerator::new(alloc, settings);
     to_accepted_definitions(alloc, &mut generator, value)

@@ -1,6 +1,6 @@
 //! The root document of a type, and a value that it accepts.
 ghost use Rattle.std.specs.Prelude.{◌≡◌, [], IfOk, IfErr};
-ghost use Rattle.schemars_accepted.specs.Words.{view, Draft, path_of, stripped, IsJoined, IsRootOfTypeRefusal, Generator, generator_over, held_transforms, settings_of, state, IsAmong, IsWritten, IsToldIn, telling, AcceptsWritten, AreForWriting, IsBeforeDocument, IsForWriting, RefusesRoot};
+ghost use Rattle.schemars_accepted.specs.Words.{view, Draft, path_of, stripped, IsJoined, IsRootOfTypeRefusal, Generator, generator_over, held_transforms, settings_of, state, IsAmong, IsWritten, IsToldIn, telling, AcceptsWritten, AreForWriting, HasRoot, IsForWriting, IsLeftWithRoot, RefusesRoot};
 
 use crate::error::RootError;
 use schemars_agreement::WriteError;
@@ -21,8 +21,9 @@ use std::alloc::Global;
 /// # Errors
 ///
 /// `NotPlain` if the table is not plain with the type; those of `root_schema_for` and of
-/// `to_member_value`. The generator is unchanged, apart from the state of user-defined transforms,
-/// if the document is not generated or JSON does not have the value.
+/// `to_member_value`. The generator is unchanged if JSON does not have the value, and unchanged apart
+/// from the state of user-defined transforms if the document is not generated. On any other error it
+/// has the type and the definitions of its document.
 pub fn to_accepted_root<T: AgreesAsDescribed, O: Transform + Drop>(
     alloc: Global,
     generator: &mut SchemaGenerator<O>,
@@ -33,11 +34,12 @@ pub fn to_accepted_root<T: AgreesAsDescribed, O: Transform + Drop>(
     ensures accepted { (draft : Draft) → IsForWriting draft generator.old → IfOk result
         (λ r. AcceptsWritten (IsAmong T.readings value.now) draft (path_of (state generator.old))
         r.0 (view r.1)) }
+    ensures made { IfOk result (λ r. HasRoot O.makes (held_transforms generator.old)
+        (held_transforms generator.new) T.says (state generator.old) (state generator.new) r.0) }
     ensures refused { IfErr result (RefusesRoot (IsRootOfTypeRefusal O.makes
         (held_transforms generator.old) (held_transforms generator.new) (state generator.old) T.says
         (IsJoined T.says generator.old.rows)) (T.valid value.now) generator.new.rows) }
-    ensures unchanged { IfErr result
-        (λ e. IsBeforeDocument e → state generator.new ≡ state generator.old) }
+    ensures left { IfErr result (IsLeftWithRoot O.makes T.says generator.old generator.new) }
 {
     if !value.is_valid() {
         return Err(RootError::Write(WriteError::NotInJson));
@@ -76,9 +78,12 @@ pub fn to_accepted_document<T: AgreesAsDescribed, O: Transform + Drop>(
     ensures accepted { (draft : Draft) → AreForWriting draft settings → IfOk result (λ r.
         AcceptsWritten (IsAmong T.readings value.now) draft
         (stripped (settings_of settings).definitions_path) r.0 (view r.1)) }
+    ensures made { IfOk result (λ r. (new : Generator O) × HasRoot O.makes settings.transforms
+        (held_transforms new) T.says (state (generator_over settings [])) (state new) r.0) }
     ensures refused { IfErr result (λ e. (new : Generator O) × RefusesRoot (IsRootOfTypeRefusal O.makes
         settings.transforms (held_transforms new) (state (generator_over settings [])) T.says
-        (IsJoined T.says [])) (T.valid value.now) new.rows e) }
+        (IsJoined T.says [])) (T.valid value.now) new.rows e
+        × IsLeftWithRoot O.makes T.says (generator_over settings []) new e) }
 {
     let mut generator = SchemaGenerator::new(alloc, settings);
     to_accepted_root(alloc, &mut generator, value)

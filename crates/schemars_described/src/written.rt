@@ -32,7 +32,11 @@ pub fn to_described_value<T: AgreesAsDescribed>(
     let mut types = Types::new(alloc);
     let n = match register_described::<T>(alloc, &mut types) {
         Ok(n) => n,
-        Err(error) => return Err(DescribedError::Types(error)),
+        Err(error) => {
+            // by the clause of this call no id stands twice
+            let _ = types.len();
+            return Err(DescribedError::Types(error));
+        }
     };
     match to_member_value(alloc, &types, n, value) {
         Ok(written) => Ok((types, n, written)),

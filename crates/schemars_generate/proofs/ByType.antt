@@ -1,6 +1,6 @@
 -- A table that a type has joined, what documents made in it mean, and why a type does not join.
 use Rattle.std.proofs.Common.{◌≡◌, ◌⊎◌, ◌<◌, inl, inr, ℕ, suc, List, [], ◌∷◌, take, length, Option, Some, None, IsSome, refl, ap, sym, ◌∙◌, subst, arith}
-use Rattle.schemars_generate.proofs.Words.{HasOwnDefinitions, Data, Row, IsAccepted, IsChecked, TransformStep, dialect_of, RootHeadline, IsDraftPath, State, Settings, stripped, more_types_own, IsJoined, IsTypeRefusal, with_rows, Transforms, IsTransformed, Entry, entry_at, Refusal, entry_under, TypeRow, IsIn, IsAdded, KeepsTo, RefusesType, Keeps, AllContinue, Continues, Draft, DraftHeadlines, Headline, IsSubschemaFor, Generator, state, IsRegistered, IsSubschemaOfType, IsRootOfType, IsRootInTable, transforms_for, error_of, IsUntransformedCall, MeansTypeIn, MeansType}
+use Rattle.schemars_generate.proofs.Words.{HasOwnDefinitions, Data, Row, HasDistinctIds, IsAccepted, IsChecked, TransformStep, dialect_of, RootHeadline, IsDraftPath, State, Settings, stripped, more_types_own, IsJoined, IsTypeRefusal, with_rows, Transforms, IsTransformed, Entry, entry_at, Refusal, entry_under, TypeRow, IsIn, IsAdded, KeepsTo, RefusesType, Keeps, AllContinue, Continues, Draft, DraftHeadlines, Headline, IsSubschemaFor, Generator, state, IsRegistered, IsSubschemaOfType, IsRootOfType, IsRootInTable, transforms_for, error_of, IsUntransformedCall, MeansTypeIn, MeansType}
 use Rattle.schemars_types.specs.declared.error.TypesError.{TypesError}
 use Rattle.schemars_types.specs.declared.error.TypesError.TheVariants as fault
 use Rattle.schemars_generate.specs.declared.error.GenerateError.{GenerateError}
@@ -30,10 +30,10 @@ all-same (r ∷ rs) (s ∷ ss) defined h =
 pub begins : (old new : List Row) → IsChecked old → Keeps old new → take (length old) new ≡ old
 begins old new checked kept = all-same old new checked.defined kept.rows
 
-pub registered : (t : TypeRow) (old new : List Row) (n : ℕ) → IsChecked old → Keeps old new → IsAdded t old new n
+pub registered : (t : TypeRow) (old new : List Row) (n : ℕ) → IsChecked old → HasDistinctIds new → Keeps old new → IsAdded t old new n
     → (IsSome (entry_under t.id old) → new ≡ old) → KeepsTo (IsIn t) old new → IsRegistered t old new n
-registered t old new n checked kept added present follows =
-    record { begins = begins old new checked kept; added = added; present = present; follows = follows }
+registered t old new n checked distinct kept added present follows =
+    record { begins = begins old new checked kept; distinct = distinct; added = added; present = present; follows = follows }
 
 -- ---- documents of a type that has joined the table
 

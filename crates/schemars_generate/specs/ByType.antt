@@ -1,7 +1,7 @@
 -- What a call by type makes of a table, what it answers, and what it refuses.
 use Rattle.std.specs.Prelude.{◌≡◌, ◌⊎◌, ℕ, List, Some, IsSome, take, length}
 use Rattle.serde_json.specs.Data.{Data}
-use Rattle.schemars_types.specs.Rows.{Row, place_of}
+use Rattle.schemars_types.specs.Rows.{Row, place_of, HasDistinctIds}
 use Rattle.schemars_types.specs.Faults.{IsAccepted, Refusal}
 use Rattle.schemars_types.specs.declared.error.TypesError.{TypesError}
 use Rattle.schemars_impls.specs.Describes.{entry_under}
@@ -23,9 +23,10 @@ abbrev pub with_rows : List Row → State → State
 with_rows rows s = record s { rows = rows }
 
 -- The type has row n of a table that begins with the rows of the old one. If its row was defined already, no row was added; else it is
--- as the type says. The new table follows each dictionary in which the type is, if the old one did.
+-- as the type says. No id stands twice in the new table, which follows each dictionary in which the type is, if the old one did.
 pub record IsRegistered (t : TypeRow) (old new : List Row) (n : ℕ) : Type 0 where
   pub begins : take (length old) new ≡ old
+  pub distinct : HasDistinctIds new
   pub added : IsAdded t old new n
   pub present : IsSome (entry_under t.id old) → new ≡ old
   pub follows : KeepsTo (IsIn t) old new

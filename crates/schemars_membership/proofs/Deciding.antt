@@ -27,34 +27,40 @@ pub agreed : (rows : List Row) (contract : Contract) (n : ℕ) (patterns : Patte
 agreed rows contract n patterns document v by_table by_document means json table answer =
     table ∙ sym (answer ∙ ap is_yes (means.accepts_its_values patterns v json (bound (codes "/$defs") document v) (omega arith)) ∙ settled _)
 
--- a row of an accepted table that a generator refuses
-pub row_refused : (s : State) (rows : List Row) (n : ℕ) (e : GenerateError) → s.rows ≡ rows → IsAccepted rows
-    → (e ≡ UnknownType n → length s.rows ≤ n) → (length s.rows ≤ n → e ≡ UnknownType n)
-    → (e ≡ UnknownType n) ⊎ IsRefused s n e → IsDocumentRefusal rows n e
-row_refused s rows n e same accepted unknown beyond why = inr (accepted, go why)
+-- what is known of the error that a generator returns in place of the root document of row n
+pub record IsRefusedRow (s : State) (n : ℕ) (e : GenerateError) : Type 0 where
+  pub unknown : e ≡ UnknownType n → length s.rows ≤ n
+  pub beyond : length s.rows ≤ n → e ≡ UnknownType n
+  pub why : (e ≡ UnknownType n) ⊎ IsRefused s n e
+  pub plain : HasPlainNotes s.rows → n < length s.rows → e ≡ OutOfMemory
+
+-- a row of an accepted table that a fresh generator refuses
+pub row_refused : (rows : List Row) (contract : Contract) (n : ℕ) (e : GenerateError) → IsAccepted rows → IsRefusedRow (fresh rows contract) n e
+    → IsDocumentRefusal rows contract n e
+row_refused rows contract n e accepted h = inr (accepted, go h.why)
   where
     within : (e ≡ UnknownType n → ⊥) → n < length rows
-    within h = below (nat_lt n (length rows)) refl
+    within other = below (nat_lt n (length rows)) refl
       where
         below : (b : Bool) → nat_lt n (length rows) ≡ b → n < length rows
         below true is = ltb-true n (length rows) is
         below false is =
             let long : length rows ≤ n = grind (arith, nat_tests) in
-            absurd (h (beyond (rw same long)))
+            absurd (other (h.beyond long))
 
-    go : (e ≡ UnknownType n) ⊎ IsRefused s n e → IsRowRefusal rows n e
-    go (inl is) = inl (is, subst (λ r. length r ≤ n) same (unknown is))
-    go (inr (inl is)) = inr (within (λ other. let two : OutOfMemory ≡ UnknownType n = sym is ∙ other in cc), inl is)
-    go (inr (inr (is, cannot))) = inr (within (λ other. let two : DefinitionsPath ≡ UnknownType n = sym is ∙ other in cc), inr is)
+    known : IsRefused (fresh rows contract) n e → e ≡ UnknownType n → ⊥
+    known (inl is) other = let two : OutOfMemory ≡ UnknownType n = sym is ∙ other in cc
+    known (inr (is, cannot)) other = let two : DefinitionsPath ≡ UnknownType n = sym is ∙ other in cc
 
--- the headline of a generator whose table, contract and path are these
-pub headline_over : (s : State) (rows : List Row) (contract : Contract) (path : Text) (n : ℕ) (document : Data)
-    → s.rows ≡ rows → s.settings.contract ≡ contract → path_of s ≡ path → IsDraftPath (path_of s) → HasOwnDefinitions s
-    → RootHeadline draft2020_12 s n document → Headline draft2020_12 rows contract path n document
-headline_over s rows contract path n document same_rows same_contract same_path drafts own root =
-    subst (λ r. Headline draft2020_12 r contract path n document) same_rows
-    (subst (λ c. Headline draft2020_12 s.rows c path n document) same_contract
-    (subst (λ p. Headline draft2020_12 s.rows s.settings.contract p n document) same_path (root own drafts)))
+    go : (e ≡ UnknownType n) ⊎ IsRefused (fresh rows contract) n e → IsRowRefusal rows contract n e
+    go (inl is) = inl (is, h.unknown is)
+    go (inr why) = let here = within (known why) in inr (here, why, λ plain. h.plain plain here)
+
+-- the root document of a fresh generator
+pub type_document : (rows : List Row) (contract : Contract) (n : ℕ) (document : Data) → HasOwnDefinitions (fresh rows contract)
+    → RootHeadline draft2020_12 (fresh rows contract) n document → IsUntransformed (fresh rows contract) n document
+    → IsTypeDocument rows contract n document
+type_document rows contract n document own root made = (root own (search rules), made)
 
 -- a validator of a document that means a row
 of_type : (validator : Validator) (rows : List Row) (contract : Contract) (n : ℕ) (document : Data) → IsOf Draft2020_12 document validator

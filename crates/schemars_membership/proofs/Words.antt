@@ -1,10 +1,11 @@
 -- Words that many proofs of this crate name.
 pub use Rattle.schemars_generate.specs.Generator.{state}
-pub use Rattle.schemars_generate.specs.Through.{IsRefused}
+pub use Rattle.schemars_documents.specs.PlainTable.{HasPlainNotes}
+pub use Rattle.schemars_generate.specs.Through.{IsRefused, IsUntransformed}
 pub use Rattle.schemars_headline.specs.Drafts.{Draft2020_12}
 pub use Rattle.schemars_headline.specs.Headline.{Headline, IsDraftPath, MeansItsType, RootHeadline}
 pub use Rattle.schemars_headline.specs.State.{HasOwnDefinitions, State, path_of}
-pub use Rattle.schemars_membership.specs.Membership.{Belongs, IsDocumentRefusal, IsMember, IsOfType, IsRowRefusal}
+pub use Rattle.schemars_membership.specs.Membership.{Belongs, IsDocumentRefusal, IsMember, IsOfType, IsRowRefusal, IsTypeDocument, fresh}
 pub use Rattle.schemars_readable.specs.Drafts.{dialect_of}
 pub use Rattle.schemars_readable.specs.Expressions.{AreExpressionsOf}
 pub use Rattle.schemars_schema.specs.Acceptance.{accepts, bound}

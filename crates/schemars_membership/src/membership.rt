@@ -1,6 +1,6 @@
 //! The document of a type, and the values that belong to the type by it.
 ghost use Rattle.std.specs.Prelude.{◌≡◌, ℕ, List, IfOk, IfErr, codes};
-ghost use Rattle.schemars_membership.specs.Words.{view, draft2020_12, accepts, bound, is_yes, Row, Headline, IsPlainFor, MeansItsType, Belongs, IsDocumentRefusal, IsMember, IsOfType, IsUndecided};
+ghost use Rattle.schemars_membership.specs.Words.{view, draft2020_12, accepts, bound, is_yes, Row, IsPlainFor, MeansItsType, Belongs, IsDocumentRefusal, IsMember, IsOfType, IsTypeDocument, IsUndecided};
 ghost use Rattle.schemars_types.specs.Meaning as meaning;
 ghost use Rattle.schemars_types.specs.declared.contract.Contract.{Contract as Which};
 
@@ -26,8 +26,8 @@ pub fn type_document(
     n: TypeNo,
     contract: Contract,
 ) -> Result<Schema, GenerateError>
-    ensures means { IfOk result (Headline draft2020_12 types contract (codes "/$defs") n) }
-    ensures refused { IfErr result (IsDocumentRefusal types n) }
+    ensures made { IfOk result (IsTypeDocument types contract n) }
+    ensures refused { IfErr result (IsDocumentRefusal types contract n) }
 {
     let mut settings = SchemaSettings::<NoTransform>::draft2020_12(alloc);
     settings.contract = contract;

@@ -1,6 +1,6 @@
 use Rattle.std.proofs.Common.{◌≡◌, ◌∙◌, [], sym, ap, subst}
-use Rattle.schemars_accepted.proofs.Words.{IfOk-weaker, IfErr-weaker, view, members_view, Generator, held_transforms, settings_of, state, IsAmong, told_in_empty, RefusesRoot, AreForOpenApi, AreTaken, IsTakenRefusal}
-use Rattle.schemars_accepted.proofs.Taking.{of_both, reference_of_new}
+use Rattle.schemars_accepted.proofs.Words.{IfOk-weaker, view, members_view, Generator, held_transforms, settings_of, state, IsAmong, told_in_empty, RefusesRoot, AreForOpenApi, AreTaken, IsLeft, IsTakenRefusal}
+use Rattle.schemars_accepted.proofs.Taking.{of_both, refused_and_left, reference_of_new}
 use Rattle.schemars_accepted.proofs.definitions.to_accepted_components.Goals as goal
 
 pub to_accepted_definitions-requires : goal.to_accepted_definitions-requires
@@ -36,9 +36,10 @@ returns-clause-made g c =
 pub returns-clause-refused : goal.returns-clause-refused
 returns-clause-refused g c =
     let after = c.to_accepted_definitions.new.generator in
-    IfErr-weaker c.to_accepted_definitions.result _ _ (λ e is. (
+    refused_and_left c.to_accepted_definitions.result _ _ _ (λ e is left. (
       after,
       subst (λ (x : Generator _). RefusesRoot (IsTakenRefusal g.O.Transform.makes g.T.JsonSchema.says x after)
           (g.T.Agrees.valid c.args.value.now) after.rows e) c.new-generator.ensures.made is,
+      subst (λ (x : Generator _). IsLeft g.T.JsonSchema.says x after e) c.new-generator.ensures.made left,
     ))
-    c.to_accepted_definitions.ensures.refused
+    c.to_accepted_definitions.ensures.refused c.to_accepted_definitions.ensures.unchanged

@@ -1,5 +1,6 @@
 use Rattle.std.proofs.Common.{◌≡◌, [], sym, ap, subst, IfOk}
-use Rattle.schemars_accepted.proofs.Words.{IfErr-weaker, view, path_of, IsJoined, IsRootOfTypeRefusal, Generator, held_transforms, state, IsAmong, told_in_empty, AcceptsWritten, AreForWriting, RefusesRoot}
+use Rattle.schemars_accepted.proofs.Words.{IfOk-weaker, view, path_of, IsJoined, IsRootOfTypeRefusal, Generator, held_transforms, state, IsAmong, told_in_empty, AcceptsWritten, AreForWriting, HasRoot, IsLeftWithRoot, RefusesRoot}
+use Rattle.schemars_accepted.proofs.Taking.{refused_and_left}
 use Rattle.schemars_accepted.proofs.root.to_accepted_document.Goals as goal
 
 pub to_accepted_root-requires : goal.to_accepted_root-requires
@@ -18,10 +19,21 @@ returns-clause-accepted g c = λ draft writing.
 pub returns-clause-refused : goal.returns-clause-refused
 returns-clause-refused g c =
     let after = c.to_accepted_root.new.generator in
-    IfErr-weaker c.to_accepted_root.result _ _ (λ e is. (
+    refused_and_left c.to_accepted_root.result _ _ _ (λ e is left. (
       after,
       subst (λ (x : Generator _). RefusesRoot
           (IsRootOfTypeRefusal g.O.Transform.makes (held_transforms x) (held_transforms after) (state x) g.T.JsonSchema.says
           (IsJoined g.T.JsonSchema.says x.rows)) (g.T.Agrees.valid c.args.value.now) after.rows e) c.new-generator.ensures.made is,
+      subst (λ (x : Generator _). IsLeftWithRoot g.O.Transform.makes g.T.JsonSchema.says x after e) c.new-generator.ensures.made left,
     ))
-    c.to_accepted_root.ensures.refused
+    c.to_accepted_root.ensures.refused c.to_accepted_root.ensures.left
+
+pub returns-clause-made : goal.returns-clause-made
+returns-clause-made g c =
+    let after = c.to_accepted_root.new.generator in
+    IfOk-weaker c.to_accepted_root.result _ _ (λ r is. (
+      after,
+      subst (λ (x : Generator _). HasRoot g.O.Transform.makes (held_transforms x) (held_transforms after) g.T.JsonSchema.says (state x)
+          (state after) r.0) c.new-generator.ensures.made is,
+    ))
+    c.to_accepted_root.ensures.made

@@ -1,6 +1,6 @@
 use Rattle.std.proofs.Common.{◌≡◌, ◌∙◌, refl, sym, subst, true, false}
 use Rattle.schemars_accepted.proofs.Words.{view, place_of-below, IsChecked, IsPlainTable, state, IsAmong, as_read}
-use Rattle.schemars_accepted.proofs.Rooting.{joined_row, root_accepts}
+use Rattle.schemars_accepted.proofs.Rooting.{has_root, joined_row, root_accepts}
 use Rattle.schemars_accepted.proofs.root.to_accepted_root.Goals as goal
 
 pub returns-in-Ok-false-clause-refused : goal.returns-in-Ok-false-clause-refused
@@ -27,3 +27,31 @@ returns-in-Ok-to_value-clause-accepted g c = λ draft writing.
     (as_read true rows checked root.n (place_of-below g.T.JsonSchema.says.id rows root.n number) (g.T.Described.writes c.args.value.now)
     (g.met.T.Agrees.agrees rows root.n c.args.value.now checked row (c.if-not-is_valid.ensures.passes refl))
     h.0 h.1 h.2 h.3 (view c.in-Ok-to_value.written) h.4) c.look.ensures
+
+pub returns-in-Ok-to_value-clause-made : goal.returns-in-Ok-to_value-clause-made
+returns-in-Ok-to_value-clause-made g c =
+    has_root g.O.Transform.makes g.T.JsonSchema.says c.args.generator.now c.root_schema_for.new.self c.in-Ok.document c.in-Ok.ensures.root
+    c.root_schema_for.ensures.own c.root_schema_for.ensures.keeps
+
+-- ---- the document was made, and is not returned
+
+pub returns-in-Ok-false-clause-left : goal.returns-in-Ok-false-clause-left
+returns-in-Ok-false-clause-left g c = (
+  c.in-Ok.document,
+  has_root g.O.Transform.makes g.T.JsonSchema.says c.args.generator.now c.root_schema_for.new.self c.in-Ok.document c.in-Ok.ensures.root
+      c.root_schema_for.ensures.own c.root_schema_for.ensures.keeps,
+)
+
+pub returns-in-Err-is_plain-clause-left : goal.returns-in-Err-is_plain-clause-left
+returns-in-Err-is_plain-clause-left g c = (
+  c.in-Ok.document,
+  has_root g.O.Transform.makes g.T.JsonSchema.says c.args.generator.now c.root_schema_for.new.self c.in-Ok.document c.in-Ok.ensures.root
+      c.root_schema_for.ensures.own c.root_schema_for.ensures.keeps,
+)
+
+pub returns-in-Err-to_value-clause-left : goal.returns-in-Err-to_value-clause-left
+returns-in-Err-to_value-clause-left g c = (
+  c.in-Ok.document,
+  has_root g.O.Transform.makes g.T.JsonSchema.says c.args.generator.now c.root_schema_for.new.self c.in-Ok.document c.in-Ok.ensures.root
+      c.root_schema_for.ensures.own c.root_schema_for.ensures.keeps,
+)

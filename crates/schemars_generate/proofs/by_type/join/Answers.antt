@@ -27,7 +27,7 @@ pub returns-in_err-check_from-clause-refused : goal.returns-in_err-check_from-cl
 returns-in_err-check_from-clause-refused g c =
     let P = IsTypeRefusal g.T.JsonSchema.says c.args.types.now in
     let made = c.in_ok-n.ensures in
-    let is = registered g.T.JsonSchema.says c.args.types.now c.register.new.types c.in_ok-n.n c.requires.checked.1 made.keeps made.added
+    let is = registered g.T.JsonSchema.says c.args.types.now c.register.new.types c.in_ok-n.n c.requires.checked.1 c.len-len.ensures.ids made.keeps made.added
     made.present made.follows in
     err_told c.from_residual-in_err-check_from.result P _ c.from_residual-in_err-check_from.ensures.1
     (λ e told. subst P (sym told)
@@ -44,7 +44,7 @@ pub returns-clause-joined : goal.returns-clause-joined
 returns-clause-joined g c =
     let made = c.in_ok-n.ensures in
     record {
-      registered = registered g.T.JsonSchema.says c.args.types.now c.register.new.types c.in_ok-n.n c.requires.checked.1 made.keeps
+      registered = registered g.T.JsonSchema.says c.args.types.now c.register.new.types c.in_ok-n.n c.requires.checked.1 c.len-len.ensures.ids made.keeps
           made.added made.present made.follows;
       accepted = c.in_ok-check_from.ensures.accepted;
     }
