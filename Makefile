@@ -10,7 +10,7 @@ built = $(program)/out/schemagen
 linter = crates/schemalint/out/schemalint
 validator = crates/schemavalid/out/schemavalid
 deriver = crates/schemaderive/out/schemaderive
-retries = crates/schemars_retries/out/schemars_retries
+retries = crates/test_retries/out/test_retries
 library = out/library
 # the crates below the programs, lowest first
 libraries = $(shell sed -n '/^schemagen:/q; s/^\([a-z_]*\):.*/\1/p' crates.txt) schemalint_run schemars_readable schemars_validator schemars_membership $(shell sed -n 's/^\(schemaderive_[a-z]*\):.*/\1/p' crates.txt | grep -v '_cases\|_proved')
