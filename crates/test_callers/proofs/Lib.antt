@@ -1,5 +1,5 @@
-pub mod Counting
-pub mod Telling
-pub mod Holding
-pub mod Containers
+mod Counting
+mod Telling
+mod Holding
+mod Containers
 mod Words

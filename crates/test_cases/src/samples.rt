@@ -4,6 +4,7 @@
 //! kind has one; its value is the content, and null where there is none. Entries are a list of
 //! objects.
 use crate::calls::error::NoAnswer;
+use crate::steps::settings::settings_for;
 use schemars::sample::Sample;
 use schemars::{GenerateError, Schema, SchemaGenerator, SchemaSettings, schema_for_value};
 use serde_json::{Map, Value};
@@ -13,7 +14,7 @@ use std::alloc::Global;
 /// kept or used up, or by the macro.
 pub fn answer(alloc: Global, call: &str, dialect: &str, value: &Value) -> Result<String, NoAnswer> {
     let sample = sample_in(alloc, value)?;
-    let settings = settings_of(alloc, dialect)?;
+    let settings = settings_for(alloc, dialect)?;
     let made = match call {
         "schema_for_value" => schema_for_value!(in alloc; sample),
         "root_schema_for_value" => root_of(alloc, settings, &sample),
@@ -33,16 +34,6 @@ fn root_of(
 ) -> Result<Schema, GenerateError> {
     let mut generator = SchemaGenerator::new(alloc, settings);
     generator.root_schema_for_value(alloc, sample)
-}
-
-fn settings_of(alloc: Global, dialect: &str) -> Result<SchemaSettings, NoAnswer> {
-    match dialect {
-        "draft-07" => Ok(SchemaSettings::draft07(alloc)?),
-        "2019-09" => Ok(SchemaSettings::draft2019_09(alloc)?),
-        "2020-12" => Ok(SchemaSettings::draft2020_12(alloc)),
-        "openapi3" => Ok(SchemaSettings::openapi3(alloc)?),
-        _ => Err(NoAnswer::NoCall),
-    }
 }
 
 #[cycle(sample)]

@@ -2,9 +2,9 @@
 mod belonging;
 mod by_type;
 mod generators;
-mod own_transforms;
+pub(crate) mod own_transforms;
 mod parts;
-mod settings;
+pub(crate) mod settings;
 mod tables;
 
 use crate::cases::Asked;

@@ -1,5 +1,6 @@
 //! What transforms make of a schema, as text.
 use crate::calls::error::NoAnswer;
+use crate::steps::own_transforms::Growth;
 use schemars_schema::Schema;
 use schemars_transform::{
     AddNullable, RemoveRefSiblings, ReplaceBoolSchemas, ReplaceConstValue, ReplacePrefixItems,
@@ -166,20 +167,6 @@ impl Transform for Numbering {
         self.next = self.next.wrapping_add(1);
         let key = String::from_str(alloc, "x-n")?;
         let _old = schema.insert(alloc, key, Value::from(self.next))?;
-        Ok(())
-    }
-}
-
-// Puts a schema into each schema.
-#[derive(Drop)]
-struct Growth;
-
-impl Transform for Growth {
-    ghost makes = { λ t s r u v. Unit {0} };
-
-    fn transform(&mut self, alloc: Global, schema: &mut Schema) -> Result<(), TransformError> {
-        let key = String::from_str(alloc, "not")?;
-        let _old = schema.insert(alloc, key, Schema::default(alloc).to_value())?;
         Ok(())
     }
 }

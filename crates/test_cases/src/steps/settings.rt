@@ -15,7 +15,7 @@ pub(crate) fn settings_of(
     let (draft, rest) = call_in(words);
     let (asks, path) = call_in(rest);
     let path = String::from_str(alloc, path)?;
-    let settings = built_in(alloc, draft)?.for_own(alloc)?;
+    let settings = settings_for(alloc, draft)?.for_own(alloc)?;
     let mut settings = settings_that(settings, asks)?;
     match path.as_str() {
         "" => {}
@@ -25,7 +25,11 @@ pub(crate) fn settings_of(
     Ok(settings)
 }
 
-fn built_in(alloc: Global, draft: &str) -> Result<SchemaSettings<NoTransform>, AllocError> {
+/// The settings of this dialect, or the default ones.
+pub(crate) fn settings_for(
+    alloc: Global,
+    draft: &str,
+) -> Result<SchemaSettings<NoTransform>, AllocError> {
     match draft {
         "draft-07" => SchemaSettings::draft07(alloc),
         "2019-09" => SchemaSettings::draft2019_09(alloc),
