@@ -15,7 +15,7 @@ pub(crate) fn settings_of(
     let (draft, rest) = call_in(words);
     let (asks, path) = call_in(rest);
     let path = String::from_str(alloc, path)?;
-    let settings = settings_for(alloc, draft)?.for_own(alloc)?;
+    let settings = settings_for::<NoTransform>(alloc, draft)?.for_own(alloc)?;
     let mut settings = settings_that(settings, asks)?;
     match path.as_str() {
         "" => {}
@@ -26,10 +26,10 @@ pub(crate) fn settings_of(
 }
 
 /// The settings of this dialect, or the default ones.
-pub(crate) fn settings_for(
+pub(crate) fn settings_for<O: Drop>(
     alloc: Global,
     draft: &str,
-) -> Result<SchemaSettings<NoTransform>, AllocError> {
+) -> Result<SchemaSettings<O>, AllocError> {
     match draft {
         "draft-07" => SchemaSettings::draft07(alloc),
         "2019-09" => SchemaSettings::draft2019_09(alloc),
