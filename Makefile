@@ -10,7 +10,7 @@ built = $(program)/out/schemagen
 linter = crates/schemalint/out/schemalint
 validator = crates/schemavalid/out/schemavalid
 deriver = crates/schemaderive/out/schemaderive
-retries = crates/schemars_retries/out/schemars_retries
+retries = crates/test_retries/out/test_retries
 library = out/library
 
 help:

@@ -1,7 +1,7 @@
 //! Tests of the libraries below, in a crate of their own, so that none of those is proved twice.
 //!
-//! What a run or a call answers to an input is a case in one of the files of `schemagen_cases`, and
-//! what calls of a table or a generator answer in one of those of `schemars_cases`.
+//! What a run or a call answers to an input, or calls of a table or a generator in turn, is a case in
+//! one of the files of `test_cases`.
 #![tactic(auto)]
 
 #[cfg(test)]

@@ -1,0 +1,6 @@
+//! The implementations of `JsonSchema`, which `schemaderive` wrote of the declarations.
+mod issues;
+mod people;
+mod settings;
+mod tracker;
+mod values;

@@ -1,7 +1,0 @@
-use Rattle.schemars_impls.specs.Dictionary.{alone}
-use Rattle.schemars_registered.proofs.Containers.{alone_holds}
-use Rattle.schemars_registered.proofs.alone.boxed_byte.Goals as goal
-
-pub returns : goal.returns
-unfolding alone
-returns c = alone_holds _ c.in_ok-r.ensures

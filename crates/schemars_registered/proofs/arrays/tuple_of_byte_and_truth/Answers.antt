@@ -1,8 +1,0 @@
-use Rattle.std.proofs.Common.{refl}
-use Rattle.schemars_registered.proofs.Words.{alone}
-use Rattle.schemars_registered.proofs.Containers.{pair_holds}
-use Rattle.schemars_registered.proofs.arrays.tuple_of_byte_and_truth.Goals as goal
-
-pub returns : goal.returns
-unfolding alone
-returns c = pair_holds _ _ c.in_ok-r.ensures refl refl refl

@@ -1,8 +1,0 @@
-use Rattle.std.proofs.Common.{refl}
-use Rattle.schemars_registered.proofs.Words.{alone, option_row}
-use Rattle.schemars_registered.proofs.Containers.{one_holds}
-use Rattle.schemars_registered.proofs.sequences.option_of_bytes.Goals as goal
-
-pub returns : goal.returns
-unfolding option_row alone
-returns c = one_holds _ _ c.in_ok-r.ensures refl

@@ -1,0 +1,5 @@
+mod Counting
+mod Telling
+mod Holding
+mod Containers
+mod Words

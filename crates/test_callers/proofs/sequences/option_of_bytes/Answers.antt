@@ -1,0 +1,8 @@
+use Rattle.std.proofs.Common.{refl}
+use Rattle.test_callers.proofs.Words.{alone, option_row}
+use Rattle.test_callers.proofs.Containers.{one_holds}
+use Rattle.test_callers.proofs.sequences.option_of_bytes.Goals as goal
+
+pub returns : goal.returns
+unfolding option_row alone
+returns c = one_holds _ _ c.in_ok-r.ensures refl

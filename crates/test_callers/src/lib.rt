@@ -1,0 +1,13 @@
+//! Callers that are proved from contracts alone: what a table that was empty holds when a type was
+//! registered in it, and that a generator's document means its type, whatever calls were before.
+//!
+//! Nothing is above them, so none of them is public.
+#![tactic(auto)]
+
+mod alone;
+mod arrays;
+mod choices;
+mod contract;
+mod generators;
+mod maps;
+mod sequences;

@@ -1,5 +1,0 @@
-//! The implementations of `JsonSchema`, which `schemaderive` wrote of the declarations.
-mod issues;
-mod people;
-mod tracker;
-mod values;
