@@ -1,7 +1,8 @@
 -- The root document of a type accepts what is written.
-use Rattle.std.proofs.Common.{◌≡◌, ℕ, List, Some, inl, sym, ap, ◌∙◌}
+use Rattle.std.proofs.Common.{◌≡◌, ℕ, List, Some, Ok, inl, sym, ap, ◌∙◌}
 use Rattle.schemars_accepted.proofs.Words.{Data, IsJson, Patterns, verdict, belongs, Row, place_of, IsChecked, IsPlainTable, Draft, Settings, stripped, MeansType, IsJoined, Dictionary, TypeRow, IsIn, BelongsUnder, AreAsTold, IsToldIn, follows_told, AcceptsWritten, HasRoot, HasOwnDefinitions, KeepsDefinitions, TransformStep, Generator, IsRootOfType, held_transforms, state, with_rows}
 use Rattle.schemars_types.specs.declared.contract.Contract.TheVariants.{Serialize}
+use Rattle.schemars_transform.proofs.Laws.{built_ins_stay}
 
 -- the row of a type that has joined a table describes the type
 pub joined_row : (t : TypeRow) (told : Dictionary → Type 0) (R : List Row → ℕ → Type 0) → ((d : Dictionary) → told d → IsIn t d)
@@ -20,7 +21,12 @@ pub has_root : {O : Type 0} (Q : TransformStep O) (t : TypeRow) (old new : Gener
     → HasRoot Q (held_transforms old) (held_transforms new) t (state old) (state new) document
 has_root Q t old new document root own keeps =
     let (d, (untransformed, w, is, same), made) = root.is.made.through in
-    record { root = root; settings = ap (λ s. s.settings) same; own = λ before. keeps.own (own before) }
+    record {
+      root = root;
+      settings = ap (λ s. s.settings) same;
+      own = λ before. keeps.own (own before);
+      stay = λ none. built_ins_stay Q (held_transforms old).items (held_transforms new).items d document (Ok tt) none made;
+    }
 
 -- a document that means the type accepts what belongs to its row
 pub root_accepts : (reading : Patterns → Type 0) (draft : Draft) (t : TypeRow) (s : Settings) (rows : List Row) (n : ℕ) (document v : Data)

@@ -1,5 +1,5 @@
 -- What is promised of the root document of a type and of a value of the type that is written.
-use Rattle.std.specs.Prelude.{◌≡◌, ◌≤◌, ℕ, List}
+use Rattle.std.specs.Prelude.{◌≡◌, ◌≤◌, ℕ, List, false}
 use Rattle.serde_json.specs.Data.{Data}
 use Rattle.schemars_schema.specs.Json.{Text}
 use Rattle.schemars_schema.specs.Verdict.{Yes}
@@ -13,6 +13,7 @@ use Rattle.schemars_headline.specs.Headline.{IsDraftPath}
 use Rattle.schemars_headline.specs.State.{State, HasOwnDefinitions, stripped}
 use Rattle.schemars_impls.specs.Dictionary.{TypeRow}
 use Rattle.schemars_walk.specs.Walk.{TransformStep}
+use Rattle.schemars_transform.specs.Member.{some_own}
 use Rattle.schemars_generate.specs.ByType.{IsRootOfType}
 use Rattle.schemars_generate.specs.Generator.{Generator, Transforms, held_transforms, settings_of, state}
 use Rattle.schemars_generate.specs.declared.error.GenerateError.{GenerateError}
@@ -48,12 +49,13 @@ RefusesRoot Cause Valid rows (Generate e) = Cause e
 RefusesRoot Cause Valid rows (Write e) = e ≡ NotInJson → Valid → ⊥
 
 -- The type has joined a generator, whose settings are as before. This is its root document, whose definitions the generator holds beside
--- those that it held.
+-- those that it held. Built-in transforms stay as they are.
 pub record HasRoot {O : Type 0} (Q : TransformStep O) (ts us : Transforms O) (t : TypeRow) (old new : State) (document : Data)
     : Type 0 where
   pub root : IsRootOfType Q ts us t old new document
   pub settings : new.settings ≡ old.settings
   pub own : HasOwnDefinitions old → HasOwnDefinitions new
+  pub stay : some_own ts.items ≡ false → us.items ≡ ts.items
 
 -- the type has joined the generator, and its root document was made
 abbrev pub IsMade : {O : Type 0} → TransformStep O → TypeRow → Generator O → Generator O → Type 0
