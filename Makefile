@@ -1,5 +1,5 @@
 # On a machine with the Rattle kit. `make help` lists the targets.
-.PHONY: help run lint validate derive program library install wheel node page openapi-example check test test-bindings
+.PHONY: help run derive-table lint validate derive program library install wheel node page openapi-example check test test-bindings
 
 TABLE = examples/vec-option-u8.json
 DIALECT = 2020-12
@@ -15,6 +15,7 @@ library = out/library
 
 help:
 	@echo 'make run [TABLE="FILE.."] [DIALECT=..] [FLAGS=..] prints the document of each table, without proofs'
+	@echo 'make derive-table SOURCE=FILE ROOT=TYPE [DIALECT=..] prints the document of a type of a Rust source, without proofs'
 	@echo 'make lint [TABLE="FILE.."]                      tells what is wrong with each table, and whether it is plain'
 	@echo 'make validate SCHEMA=FILE VALUES=FILE [DIALECT=..] tells which values the document accepts, and why not the others'
 	@echo 'make derive                                     writes the generated implementations anew, from their declarations'
@@ -37,6 +38,12 @@ endef
 # The document of each table.
 run:
 	$(call try,$(program),-- types $(DIALECT) $(FLAGS))
+
+# The document of a type that a Rust source declares.
+derive-table:
+	@echo 'two checked runs without proofs: two to four minutes; `make program` proves and builds once' >&2
+	@table=$$(mktemp) && (cd crates/schemaderive && rt try < $(abspath $(SOURCE)) -- --table '$(ROOT)' > $$table) \
+	    && (cd $(program) && rt try < $$table -- types $(DIALECT) $(FLAGS)); status=$$?; rm -f $$table; exit $$status
 
 # What is to be said of each table.
 lint:
