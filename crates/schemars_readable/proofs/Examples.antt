@@ -13,6 +13,15 @@ brackets : expression_of (codes "[^[\\b&][]") ≡ codes "[^\\[\\x08\\&][[a&&b]]"
 unfolding expression_of chars encode
 brackets = refl
 
+ranges : expression_of (codes "[+--/][--9][a-c--e][^^-a][\\x41-\\x5A--z]")
+    ≡ codes "[+-\\-/][\\--9][a-c\\--e][^^-a][\\x41-\\x5A\\--z]"
+unfolding expression_of chars encode
+ranges = refl
+
+boundaries : expression_of (codes "\\b\\B") ≡ codes "(?-u:\\b)(?-u:\\B)"
+unfolding expression_of chars encode
+boundaries = refl
+
 backslash : expression_of (codes "a\\") ≡ codes "a\\"
 unfolding expression_of chars encode
 backslash = refl

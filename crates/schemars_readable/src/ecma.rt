@@ -1,6 +1,6 @@
 //! Patterns of ECMA-262 (JSON Schema core 2020-12, 6.4) in the syntax of the `regex` crate.
 ghost use Rattle.std.specs.Prelude.{◌≡◌, ◌++◌, IfOk, OnOk, string_bytes};
-ghost use Rattle.schemars_readable.specs.Translation.{after, at_end, escape, expression_of, in_class, written};
+ghost use Rattle.schemars_readable.specs.Translation.{after, after_member, at_end, escape, expression_of, in_class, written};
 
 use std::alloc::{AllocError, Global};
 
@@ -18,18 +18,30 @@ const NONE: &str = "[a&&b]]";
 enum Place {
     // outside classes
     Outside,
-    // behind the bracket of a class, or behind its `^`
+    // after the bracket of a class
     Start,
-    // further inside a class
-    Inside,
-    // behind a backslash
+    // after the `^` of a class
+    Negated,
+    // after a member of a class
+    Member,
+    // after a member and `-`, which make a range
+    Range,
+    // after a range
+    Ended,
+    // before so many digits of the code that ends a range
+    EndDigits(u8),
+    // between the braces of such a code
+    EndBraces,
+    // after a backslash
     Escaped,
-    EscapedInside,
+    EscapedMember,
+    EscapedEnd,
 }
 
-/// The expression of a pattern. The classes `\d`, `\s` and `\w`, the boundary `\b` and the dot are those
-/// of ECMA-262, and a bracket in a class is a character. What the `regex` crate does not have, such as
-/// references to groups, stays as it is, and is then refused.
+/// The expression of a pattern. The classes `\d`, `\s` and `\w`, the boundaries `\b` and `\B` and the dot
+/// are those of ECMA-262, a bracket in a class is a character, and `-` makes a range after a member of a
+/// class alone. What the `regex` crate does not have, such as references to groups, stays as it is, and
+/// is then refused.
 pub fn expression_of(alloc: Global, pattern: &str) -> Result<String, AllocError>
     ensures { IfOk result (λ expression. string_bytes expression ≡ expression_of pattern.now) }
 {
@@ -49,11 +61,16 @@ fn push_written(expression: &mut String, place: Place, c: char) -> Result<(), Al
 {
     match place {
         Place::Outside => push_outside(expression, c),
-        Place::Start if c == ']' => expression.push_str(NONE),
-        Place::Start | Place::Inside => push_in_class(expression, c),
+        Place::Start | Place::Negated if c == ']' => expression.push_str(NONE),
+        Place::Member if c == '-' => expression.push('-'),
+        Place::Start | Place::Negated | Place::Member | Place::Range | Place::Ended => {
+            push_in_class(expression, c)
+        }
+        Place::EndDigits(_) | Place::EndBraces => expression.push(c),
         Place::Escaped if c == 'b' => expression.push_str(r"(?-u:\b)"),
-        Place::EscapedInside if c == 'b' => expression.push_str(r"\x08"),
-        Place::Escaped | Place::EscapedInside => push_escape(expression, c),
+        Place::Escaped if c == 'B' => expression.push_str(r"(?-u:\B)"),
+        Place::EscapedMember | Place::EscapedEnd if c == 'b' => expression.push_str(r"\x08"),
+        Place::Escaped | Place::EscapedMember | Place::EscapedEnd => push_escape(expression, c),
     }
 }
 
@@ -76,6 +93,7 @@ fn push_in_class(expression: &mut String, c: char) -> Result<(), AllocError>
         '[' => expression.push_str(r"\["),
         '&' => expression.push_str(r"\&"),
         '~' => expression.push_str(r"\~"),
+        '-' => expression.push_str(r"\-"),
         _ => expression.push(c),
     }
 }
@@ -107,11 +125,33 @@ fn after(place: Place, c: char) -> Place
     match (place, c) {
         (Place::Outside, '\\') => Place::Escaped,
         (Place::Outside, '[') => Place::Start,
-        (Place::Start | Place::Inside, '\\') => Place::EscapedInside,
-        (Place::Start | Place::Inside, ']') => Place::Outside,
-        (Place::Start, '^') => Place::Start,
-        (Place::Start | Place::Inside | Place::EscapedInside, _) => Place::Inside,
         (Place::Outside | Place::Escaped, _) => Place::Outside,
+        (Place::Start, '^') => Place::Negated,
+        (Place::Member, '-') => Place::Range,
+        (Place::Start | Place::Negated | Place::Member | Place::Ended, _) => after_member(c),
+        (Place::Range, '\\') => Place::EscapedEnd,
+        (Place::Range, ']') => Place::Outside,
+        (Place::Range, _) => Place::Ended,
+        (Place::EscapedMember, _) => Place::Member,
+        (Place::EscapedEnd, 'x') => Place::EndDigits(2),
+        (Place::EscapedEnd, 'u') => Place::EndDigits(4),
+        (Place::EscapedEnd, _) => Place::Ended,
+        (Place::EndDigits(4), '{') => Place::EndBraces,
+        (Place::EndDigits(0 | 1), _) => Place::Ended,
+        (Place::EndDigits(n), _) => Place::EndDigits(n - 1),
+        (Place::EndBraces, '}') => Place::Ended,
+        (Place::EndBraces, _) => Place::EndBraces,
+    }
+}
+
+// Where the character after a member of a class stands.
+fn after_member(c: char) -> Place
+    ensures { result ≡ after_member c }
+{
+    match c {
+        '\\' => Place::EscapedMember,
+        ']' => Place::Outside,
+        _ => Place::Member,
     }
 }
 
@@ -120,7 +160,14 @@ fn push_end(expression: &mut String, place: Place) -> Result<(), AllocError>
     ensures { OnOk result (string_bytes expression.new ≡ string_bytes expression.old ++ at_end place) }
 {
     match place {
-        Place::Outside | Place::Start | Place::Inside => Ok(()),
-        Place::Escaped | Place::EscapedInside => expression.push('\\'),
+        Place::Escaped | Place::EscapedMember | Place::EscapedEnd => expression.push('\\'),
+        Place::Outside
+        | Place::Start
+        | Place::Negated
+        | Place::Member
+        | Place::Range
+        | Place::Ended
+        | Place::EndDigits(_)
+        | Place::EndBraces => Ok(()),
     }
 }
