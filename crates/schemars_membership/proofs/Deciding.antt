@@ -1,6 +1,6 @@
 -- A verdict of a document that means a row decides whether a value belongs to the row.
-use Rattle.std.proofs.Common.{◌≡◌, ◌∙◌, ◌⊎◌, inl, inr, ℕ, ◌<◌, ◌≤◌, Bool, true, false, refl, sym, ap, subst, List, length, arith}
-use Rattle.schemars_membership.proofs.Words.{nat_lt, codes, nat_tests, ltb-true, Data, view, draft2020_12, Patterns, accepts, bound, Text, IsJson, verdict, is_yes, belongs, Row, Headline, IsDraftPath, MeansItsType, RootHeadline, State, path_of, HasOwnDefinitions, IsAccepted, IsRefused, Accepts, IsOf, dialect_of, AreExpressionsOf, Belongs, IsDocumentRefusal, IsMember, IsOfType, IsRowRefusal}
+use Rattle.std.proofs.Common.{rules, ◌≡◌, ◌∙◌, ◌⊎◌, inl, inr, ℕ, ◌<◌, ◌≤◌, Bool, true, false, refl, sym, ap, subst, List, length, arith}
+use Rattle.schemars_membership.proofs.Words.{nat_lt, codes, nat_tests, ltb-true, Data, view, draft2020_12, Patterns, accepts, bound, Text, IsJson, verdict, is_yes, belongs, Row, MeansItsType, RootHeadline, State, HasOwnDefinitions, HasPlainNotes, IsAccepted, IsRefused, IsUntransformed, IsTypeDocument, fresh, Accepts, IsOf, dialect_of, AreExpressionsOf, Belongs, IsDocumentRefusal, IsMember, IsOfType, IsRowRefusal}
 use Rattle.schemars_types.specs.declared.contract.Contract.{Contract}
 use Rattle.schemars_generate.specs.declared.error.GenerateError.{GenerateError}
 use Rattle.schemars_generate.specs.declared.error.GenerateError.TheVariants.{OutOfMemory, UnknownType, DefinitionsPath}
