@@ -13,7 +13,7 @@ deriver = crates/schemaderive/out/schemaderive
 retries = crates/schemars_retries/out/schemars_retries
 library = out/library
 # the crates below the programs, lowest first
-libraries = $(shell sed -n '/^schemagen:/q; s/^\([a-z_]*\):.*/\1/p' crates.txt) schemalint_run schemars_readable schemars_validator schemars_membership $(shell sed -n 's/^\(schemaderive_[a-z]*\):.*/\1/p' crates.txt | grep -v '_cases\|_proved')
+libraries = $(shell sed -n '/^schemagen:/q; s/^\([a-z_]*\):.*/\1/p' crates.txt) schemalint_run schemars_readable schemars_validator schemars_membership $(shell sed -n 's/^\(schemaderive_[a-z]*\):.*/\1/p' crates.txt | grep -v _proved)
 
 help:
 	@echo 'make run [TABLE="FILE.."] [DIALECT=..] [FLAGS=..] prints the document of each table, without proofs'
@@ -119,7 +119,7 @@ openapi-example: $(built)
 
 # The merge gate: every proof from nothing, the must-fail edits, the tests and the programs. What pages
 # and examples show has to be what the case files have, and the files, lines and words that pages name
-# have to be there. The generated implementations have to be what the program writes now. Then the C library
+# have to be there. The generated implementations have to be what the program writes now, and its cases are worked. Then the C library
 # is built and called, the memory and the instructions that a row costs are measured, and each growth of the memory of the
 # programs that were built is refused in turn.
 test:
@@ -127,6 +127,7 @@ test:
 	tools/places --check
 	rt ci
 	tools/derived --check $(deriver)
+	tools/derive-cases $(deriver)
 	@$(MAKE) --no-print-directory library
 	tools/library $(library)
 	tools/memory $(built)
