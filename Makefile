@@ -122,13 +122,14 @@ check:
 	tools/check
 
 # The merge gate: what `check` does, every proof from nothing, the programs, and the edits. The generated implementations have to
-# be what the program writes now. Then the C library is built and called, the memory and the instructions that a row costs are
+# be what the program writes now, and its cases are worked. Then the C library is built and called, the memory and the instructions that a row costs are
 # measured, and each growth of the memory of the programs that were built is refused in turn.
 test: check
 	rt ci
 	tools/edits --self-test
 	tools/edits
 	tools/derived --check $(deriver)
+	tools/derive-cases $(deriver)
 	@$(MAKE) --no-print-directory library
 	tools/library $(library)
 	tools/memory $(built)

@@ -1,12 +1,11 @@
 //! The variants of enums.
-use crate::body::{Body, Types};
-use crate::groups::{INTERNAL_VARIANTS, List, MANY_VARIANTS, VARIANTS, ends_of};
-use crate::keywords::{INTERNAL_VARIANT, VARIANT, refuse_notes};
+use crate::body::Writer;
+use crate::groups::{Groups, INTERNAL_VARIANTS, Lists, MANY_VARIANTS, VARIANTS};
+use crate::keywords::{INTERNAL_VARIANT, VARIANT};
 use crate::members::has_flattened;
-use crate::own_rows::steps_of;
 use schemaderive_definitions::{Choice, Choices, Form, Members, Part, Payload};
 use schemaderive_syntax::Fault;
-use schemaderive_text::{Imports, literal};
+use schemaderive_text::literal;
 
 // The calls that add a variant with members.
 #[derive(Clone, Copy)]
@@ -28,195 +27,103 @@ const INTERNAL_STRUCT: StructCalls = StructCalls {
     flattened: "add_internal_flat_struct",
 };
 
-impl Body {
+impl<'t> Writer<'t> {
     /// Adds the calls that make the list `variants`. What a variant has is collected right before the
     /// variant is added.
     ///
     /// # Errors
     ///
     /// A type has no implementation, or can't be named.
-    pub fn add_choices(
-        &mut self,
-        types: &Types<'_>,
-        imports: &mut Imports,
-        ancestors: &[usize],
-        choices: &Choices,
-    ) -> Result<(), Fault> {
+    pub fn add_choices(&mut self, choices: &Choices) -> Result<(), Fault> {
         self.list("variants", !choices.list.is_empty())?;
-        let lists = [list_of(choices.form)];
-        let weights = self.choice_weights(types, ancestors, &choices.list)?;
-        let ends = ends_of(self.alloc(), &weights, MANY_VARIANTS)?;
-        let mut outer = None;
-        for (number, choice) in choices.list.iter().enumerate() {
-            if outer.is_none() && !ends.is_empty() {
-                outer = Some(self.begin_group(&lists)?);
-            }
-            self.add_any(types, imports, ancestors, choices.form, choice)?;
-            if ends.get(number).copied() == Some(true) {
-                if let Some(outer) = outer.take() {
-                    self.end_group(imports, &lists, outer)?;
-                }
-            }
+        let lists = Lists::one(match choices.form {
+            Form::Internal => INTERNAL_VARIANTS,
+            _ => VARIANTS,
+        });
+        let weight = self.choices_weight(&choices.list);
+        let mut groups = Groups::new(lists, weight, MANY_VARIANTS);
+        for choice in &choices.list {
+            self.begin_group(&groups)?;
+            self.add_choice(choices.form, choice)?;
+            self.count_calls(&mut groups, self.choice_weight(choice))?;
         }
-        Ok(())
+        Ok(self.end_group(&mut groups)?)
     }
 
     // Adds a variant of an enum of this form, with its keywords.
-    fn add_any(
-        &mut self,
-        types: &Types<'_>,
-        imports: &mut Imports,
-        ancestors: &[usize],
-        form: Form,
-        choice: &Choice,
-    ) -> Result<(), Fault> {
-        if form == Form::Internal {
-            self.add_internal(types, imports, ancestors, choice)?;
-            self.add_notes(imports, INTERNAL_VARIANT, &choice.notes)?;
-        } else {
-            self.add_choice(types, imports, ancestors, choice)?;
-            self.add_notes(imports, VARIANT, &choice.notes)?;
-        }
-        Ok(())
-    }
-
-    fn add_choice(
-        &mut self,
-        types: &Types<'_>,
-        imports: &mut Imports,
-        ancestors: &[usize],
-        choice: &Choice,
-    ) -> Result<(), Fault> {
+    fn add_choice(&mut self, form: Form, choice: &Choice) -> Result<(), Fault> {
         let name = literal(self.alloc(), choice.name.as_str())?;
-        let name = name.as_str();
-        let variants = self.argument("variants")?;
-        match &choice.payload {
-            Payload::Unit => {
-                imports.call("add_unit")?;
-                self.call("add_unit", &["alloc", variants.as_str(), name])?;
-            }
-            Payload::Newtype(part) => self.add_newtype(types, imports, ancestors, name, part)?,
+        if form == Form::Internal {
+            self.add_internal(name.as_str(), choice)?;
+            return Ok(self.add_notes(INTERNAL_VARIANT, &choice.notes)?);
+        }
+        self.add_variant(name.as_str(), &choice.payload)?;
+        Ok(self.add_notes(VARIANT, &choice.notes)?)
+    }
+
+    fn add_variant(&mut self, name: &str, payload: &Payload) -> Result<(), Fault> {
+        let variants = self.argument(VARIANTS);
+        match payload {
+            Payload::Unit => Ok(self.call("add_unit", "", &["alloc", variants, name])?),
+            Payload::Newtype(part) => self.add_newtype(name, part),
             Payload::Tuple(parts) => {
-                self.add_parts(types, imports, ancestors, parts)?;
-                imports.call("add_tuple")?;
-                self.call("add_tuple", &["alloc", variants.as_str(), name, "numbers"])?;
+                self.add_parts(parts)?;
+                Ok(self.call("add_tuple", "", &["alloc", variants, name, "numbers"])?)
             }
-            Payload::Struct(members) => {
-                self.add_struct(types, imports, ancestors, STRUCT, name, members)?
-            }
+            Payload::Struct(members) => self.add_struct(STRUCT, name, members),
         }
-        Ok(())
     }
 
-    fn add_newtype(
-        &mut self,
-        types: &Types<'_>,
-        imports: &mut Imports,
-        ancestors: &[usize],
-        name: &str,
-        part: &Part,
-    ) -> Result<(), Fault> {
-        refuse_notes(types, part)?;
-        if types.leads_to(part.plain, ancestors) {
-            let steps = steps_of(types, imports, ancestors, part.plain, part.place)?;
-            self.own_number(imports, &steps)?;
-            imports.call("add_newtype_of")?;
-            let variants = self.argument("variants")?;
-            self.call(
-                "add_newtype_of",
-                &["alloc", "types", variants.as_str(), name, "number"],
-            )?;
-            return Ok(());
+    fn add_newtype(&mut self, name: &str, part: &Part) -> Result<(), Fault> {
+        self.refuse_notes(part)?;
+        let variants = self.argument(VARIANTS);
+        if self.leads_back(part) {
+            self.own_number(part)?;
+            let arguments = ["alloc", "types", variants, name, "number"];
+            return Ok(self.call("add_newtype_of", "", &arguments)?);
         }
-        self.add_registered(types, imports, "add_newtype", name, part)
-    }
-
-    // Adds a variant of a type that is registered.
-    fn add_registered(
-        &mut self,
-        types: &Types<'_>,
-        imports: &mut Imports,
-        call: &str,
-        name: &str,
-        part: &Part,
-    ) -> Result<(), Fault> {
-        let ty = self.registered(types, imports, part.plain, part.place)?;
-        imports.call(call)?;
-        let head = format!(in self.alloc(); "{call}::<{ty}>")?;
-        let variants = self.argument("variants")?;
-        self.call(head.as_str(), &["alloc", "types", variants.as_str(), name])?;
-        Ok(())
+        self.call_registered("add_newtype", part, &["alloc", "types", variants, name])
     }
 
     // Adds a variant with members by one of these calls.
     fn add_struct(
         &mut self,
-        types: &Types<'_>,
-        imports: &mut Imports,
-        ancestors: &[usize],
         calls: StructCalls,
         name: &str,
         members: &Members,
     ) -> Result<(), Fault> {
-        self.add_members(types, imports, ancestors, members)?;
-        let is_closed = if members.is_closed { "true" } else { "false" };
-        let variants = self.argument("variants")?;
-        let mut arguments = Vec::new(self.alloc());
-        arguments.push("alloc")?;
-        arguments.push(variants.as_str())?;
-        arguments.push(name)?;
-        arguments.push("fields")?;
-        let mut call = calls.own;
-        if has_flattened(members) {
-            arguments.push("parts")?;
-            call = calls.flattened;
-        }
-        arguments.push(is_closed)?;
-        imports.call(call)?;
-        self.call(call, &arguments)?;
-        Ok(())
+        self.add_members(members)?;
+        let is_flat = has_flattened(members);
+        let call = if is_flat { calls.flattened } else { calls.own };
+        let parts = text_if(is_flat, "parts", "");
+        let closed = text_if(members.is_closed, "true", "false");
+        let variants = self.argument(VARIANTS);
+        let arguments = ["alloc", variants, name, "fields", parts, closed];
+        Ok(self.call(call, "", &arguments)?)
     }
 
-    fn add_internal(
-        &mut self,
-        types: &Types<'_>,
-        imports: &mut Imports,
-        ancestors: &[usize],
-        choice: &Choice,
-    ) -> Result<(), Fault> {
-        let name = literal(self.alloc(), choice.name.as_str())?;
-        let name = name.as_str();
-        let variants = self.argument("variants")?;
+    fn add_internal(&mut self, name: &str, choice: &Choice) -> Result<(), Fault> {
+        let variants = self.argument(VARIANTS);
         match &choice.payload {
-            Payload::Unit => {
-                imports.call("add_internal_unit")?;
-                self.call("add_internal_unit", &["alloc", variants.as_str(), name])?;
-            }
-            Payload::Newtype(part) if types.leads_to(part.plain, ancestors) => {
-                let reason = "the members of a type are not among its own";
-                return Err(types.context.refused_name(part.place, "tag", reason));
+            Payload::Unit => { Ok(self.call("add_internal_unit", "", &["alloc", variants, name])?) }
+            Payload::Newtype(part) if self.leads_back(part) => {
+                Err(self.refused_part(part, "tag"))
             }
             Payload::Newtype(part) => {
-                refuse_notes(types, part)?;
-                self.add_registered(types, imports, "add_internal_newtype", name, part)?;
+                self.refuse_notes(part)?;
+                let arguments = ["alloc", "types", variants, name];
+                self.call_registered("add_internal_newtype", part, &arguments)
             }
-            Payload::Struct(members) => {
-                self.add_struct(types, imports, ancestors, INTERNAL_STRUCT, name, members)?;
-            }
+            Payload::Struct(members) => self.add_struct(INTERNAL_STRUCT, name, members),
             Payload::Tuple(_) => {
                 let reason = "a variant of an enum with a tag in its content is no tuple";
-                return Err(types.context.refused_name(choice.place, "tag", reason));
+                let context = self.types.context;
+                Err(context.refused_name(choice.place, "tag", reason))
             }
         }
-        Ok(())
     }
 }
 
-// The list of the variants of an enum of this form.
-fn list_of(form: Form) -> List {
-    if form == Form::Internal {
-        INTERNAL_VARIANTS
-    } else {
-        VARIANTS
-    }
+fn text_if<'x>(is_so: bool, text: &'x str, other: &'x str) -> &'x str {
+    if is_so { text } else { other }
 }

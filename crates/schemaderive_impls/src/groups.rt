@@ -1,28 +1,19 @@
 //! Functions that add a group of fields or of variants each, so that the check proves a long body
 //! group by group.
-use crate::body::{Body, Types};
+use crate::body::{Writer, applied};
 use crate::keywords::weight_of;
 use schemaderive_definitions::{Choice, Member, Part, Payload};
-use schemaderive_text::{Imports, Lines};
-use std::alloc::{AllocError, Global};
+use schemaderive_text::{Lines, joined};
+use std::alloc::AllocError;
 use std::mem;
-
-/// What a function is that adds a group for a type.
-#[derive(Drop)]
-pub struct Owner {
-    /// the type
-    pub ty: String,
-    /// its parameters in angle brackets with what they have to be, or nothing
-    pub generics: String,
-    /// the names of its parameters
-    pub parameters: Vec<String>,
-}
 
 /// A list to which a body adds what it makes.
 #[derive(Clone, Copy)]
 pub struct List {
-    /// its name
+    /// its name, as an argument where it is lent
     pub name: &'static str,
+    // itself as an argument elsewhere
+    reference: &'static str,
     // the type of what it has, with its path
     ty: &'static str,
     // the clause that says of it that its numbers are those of rows
@@ -36,6 +27,7 @@ pub struct List {
 /// The fields of a struct.
 pub const FIELDS: List = List {
     name: "fields",
+    reference: "&mut fields",
     ty: "schemars::types::Field",
     clause: "known",
     word: "FieldsAreKnown",
@@ -45,6 +37,7 @@ pub const FIELDS: List = List {
 /// The types whose members are among those of a struct.
 pub const PARTS: List = List {
     name: "parts",
+    reference: "&mut parts",
     ty: "schemars::types::Flattened",
     clause: "parts",
     word: "PartsAreKnown",
@@ -54,6 +47,7 @@ pub const PARTS: List = List {
 /// The variants of an enum.
 pub const VARIANTS: List = List {
     name: "variants",
+    reference: "&mut variants",
     ty: "schemars::types::Variant",
     clause: "known",
     word: "VariantsAreKnown",
@@ -63,11 +57,45 @@ pub const VARIANTS: List = List {
 /// The variants of an enum with a tag among their members.
 pub const INTERNAL_VARIANTS: List = List {
     name: "variants",
+    reference: "&mut variants",
     ty: "schemars::types::InternalVariant",
     clause: "known",
     word: "VariantsAreKnown",
     view: "internal_variant_of",
 };
+
+/// The lists that the function of a group has as parameters.
+#[derive(Clone, Copy)]
+pub struct Lists {
+    first: List,
+    second: Option<List>,
+}
+
+impl Lists {
+    /// One list.
+    pub const fn one(list: List) -> Lists {
+        Lists {
+            first: list,
+            second: None,
+        }
+    }
+
+    /// Two lists.
+    pub const fn two(first: List, second: List) -> Lists {
+        Lists {
+            first,
+            second: Some(second),
+        }
+    }
+
+    // Whether a list is among them.
+    fn has(self, list: List) -> bool {
+        match self.second {
+            Some(second) if second.name == list.name => true,
+            _ => self.first.name == list.name,
+        }
+    }
+}
 
 /// How many calls the fields of a body have at most that are in no groups.
 pub const MANY_FIELDS: usize = 12;
@@ -78,221 +106,265 @@ pub const MANY_VARIANTS: usize = 8;
 // How many calls make a group.
 const GROUP: usize = 8;
 
-fn sum(weights: &[usize]) -> usize {
-    let mut sum = 0usize;
-    for weight in weights {
-        sum = sum.saturating_add(*weight);
-    }
-    sum
+/// The groups of what a body adds.
+#[derive(Clone, Copy)]
+pub struct Groups {
+    lists: Lists,
+    // whether there are any
+    are_made: bool,
+    // how many calls the one has that is begun
+    calls: usize,
 }
 
-/// Of members or variants with these weights whether each is the last of a group. If they need no
-/// more calls than so many, there are no groups.
-pub fn ends_of(alloc: Global, weights: &[usize], most: usize) -> Result<Vec<bool>, AllocError> {
-    let mut ends = Vec::new(alloc);
-    if sum(weights) <= most {
-        return Ok(ends);
-    }
-    let mut calls = 0usize;
-    for weight in weights {
-        calls = calls.saturating_add(*weight);
-        ends.push(calls >= GROUP)?;
-        if calls >= GROUP {
-            calls = 0;
+impl Groups {
+    /// The groups of what needs so many calls, which are made if there are more than so many.
+    pub fn new(lists: Lists, weight: usize, most: usize) -> Groups {
+        Groups {
+            lists,
+            are_made: weight > most,
+            calls: 0,
         }
     }
-    if let Some(last) = ends.last_mut() {
-        *last = true;
-    }
-    Ok(ends)
 }
+
+/// The allocator as a parameter.
+pub const ALLOC: &str = "alloc: Global";
+
+/// The dictionary as a parameter.
+pub const TYPES: &str = "types: &mut Types";
+
+const DONE: &[&str] = &[" -> Result<(), TypesError>"];
+
+/// The clause of a function that keeps the rows of the dictionary.
+pub const KEEPS: &str = "    ensures keeps { KeepsRows types.old types.new }
+";
+
+const KNOWN: &str =
+    "    ensures $clause$ { OnOk result ($word$ types.old (map $view$ $name$.old.items)
+        → $word$ types.new (map $view$ $name$.new.items)) }
+";
+
+// Clauses, around the type.
+const FOLLOWS: [&str; 2] = [
+    "    ensures follows { OnOk result (Describes ⟦<",
+    " as JsonSchema>⟧.says types.old types.new) }\n",
+];
+
+const REFUSED: [&str; 2] = [
+    "    ensures refused { IfErr result (RefusesPart ⟦<",
+    " as JsonSchema>⟧.says types.old) }\n",
+];
 
 /// The body that a group interrupts.
 #[derive(Drop)]
 pub struct Outer {
     lines: Lines,
     indent: usize,
-    lent: Vec<&'static str>,
+    lent: Option<Lists>,
 }
 
-impl Body {
+impl<'t> Writer<'t> {
     // How many calls a part needs by which the type leads to itself: as many as make a group, if its row
     // is named by what parameters have.
-    fn own_weight(&self, types: &Types<'_>, ancestors: &[usize], part: &Part) -> usize {
-        if !self.owner.parameters.is_empty() && types.leads_to(part.plain, ancestors) {
+    fn own_weight(&self, part: &Part) -> usize {
+        if !self.parameters.is_empty() && self.leads_back(part) {
             return GROUP;
         }
         0
     }
 
-    /// How many calls each member needs.
-    pub fn member_weights(
-        &self,
-        types: &Types<'_>,
-        ancestors: &[usize],
-        members: &[Member],
-    ) -> Result<Vec<usize>, AllocError> {
-        let mut weights = Vec::new(self.alloc());
+    /// How many calls a member needs.
+    pub fn member_weight(&self, member: &Member) -> usize {
+        let part = &member.part;
+        let mut weight = self.own_weight(part).saturating_add(1);
+        for note in &part.rules.list {
+            if part.notes.get(note.key.as_str()).is_none() {
+                weight = weight.saturating_add(weight_of(note));
+            }
+        }
+        for note in &part.notes.list {
+            weight = weight.saturating_add(weight_of(note));
+        }
+        weight
+    }
+
+    /// How many calls these members need.
+    pub fn members_weight(&self, members: &[Member]) -> usize {
+        let mut weight = 0usize;
         for member in members {
-            let notes = member.part.all_notes(self.alloc())?;
-            let own = self.own_weight(types, ancestors, &member.part);
-            let weight = weight_of(&notes).saturating_add(own).saturating_add(1);
-            weights.push(weight)?;
+            weight = weight.saturating_add(self.member_weight(member));
         }
-        Ok(weights)
+        weight
     }
 
-    /// How many calls each variant needs.
-    pub fn choice_weights(
-        &self,
-        types: &Types<'_>,
-        ancestors: &[usize],
-        choices: &[Choice],
-    ) -> Result<Vec<usize>, AllocError> {
-        let mut weights = Vec::new(self.alloc());
+    /// How many calls these variants need.
+    pub fn choices_weight(&self, choices: &[Choice]) -> usize {
+        let mut weight = 0usize;
         for choice in choices {
-            let inner = match &choice.payload {
-                Payload::Unit => 0,
-                Payload::Newtype(part) => self.own_weight(types, ancestors, part),
-                Payload::Tuple(parts) => self.tuple_weight(types, ancestors, parts),
-                Payload::Struct(members) => {
-                    let weights = self.member_weights(types, ancestors, &members.list)?;
-                    sum(&weights)
-                }
-            };
-            let notes = weight_of(&choice.notes);
-            weights.push(inner.saturating_add(notes).saturating_add(1))?;
+            weight = weight.saturating_add(self.choice_weight(choice));
         }
-        Ok(weights)
+        weight
     }
 
-    fn tuple_weight(&self, types: &Types<'_>, ancestors: &[usize], parts: &[Part]) -> usize {
+    /// How many calls a variant needs.
+    pub fn choice_weight(&self, choice: &Choice) -> usize {
+        let mut weight = match &choice.payload {
+            Payload::Unit => 1,
+            Payload::Newtype(part) => self.own_weight(part).saturating_add(1),
+            Payload::Tuple(parts) => self.tuple_weight(parts).saturating_add(1),
+            Payload::Struct(members) => self.members_weight(&members.list).saturating_add(1),
+        };
+        for note in &choice.notes.list {
+            weight = weight.saturating_add(weight_of(note));
+        }
+        weight
+    }
+
+    fn tuple_weight(&self, parts: &[Part]) -> usize {
         let mut weight = parts.len();
         for part in parts {
-            weight = weight.saturating_add(self.own_weight(types, ancestors, part));
+            weight = weight.saturating_add(self.own_weight(part));
         }
         weight
     }
 
     /// A list as an argument: itself if it is a parameter, or else a reference to it.
-    pub fn argument(&self, name: &str) -> Result<String, AllocError> {
-        for lent in &self.lent {
-            if *lent == name {
-                return String::from_str(self.alloc(), name);
-            }
+    pub fn argument<'x>(&self, list: List) -> &'x str {
+        match self.lent {
+            Some(lists) if lists.has(list) => list.name,
+            _ => list.reference,
         }
-        format!(in self.alloc(); "&mut {name}")
     }
 
-    /// Begins a function that adds to these lists.
-    pub fn begin_group(&mut self, lists: &[List]) -> Result<Outer, AllocError> {
-        let mut lent = Vec::new(self.alloc());
-        for list in lists {
-            lent.push(list.name)?;
+    /// Begins a group, unless one is begun.
+    pub fn begin_group(&mut self, groups: &Groups) -> Result<(), AllocError> {
+        if !groups.are_made || groups.calls > 0 {
+            return Ok(());
         }
         let lines = Lines::new(self.alloc());
-        Ok(Outer {
+        let outer = Outer {
             lines: mem::replace(&mut self.lines, lines),
             indent: mem::replace(&mut self.indent, 4),
-            lent: mem::replace(&mut self.lent, lent),
-        })
+            lent: mem::replace(&mut self.lent, Some(groups.lists)),
+        };
+        Ok(self.outer.push(outer)?)
     }
 
-    /// Ends the function of a group, and calls it.
-    pub fn end_group(
-        &mut self,
-        imports: &mut Imports,
-        lists: &[List],
-        outer: Outer,
-    ) -> Result<(), AllocError> {
-        let alloc = self.alloc();
-        let name = imports.function_name(self.owner.ty.as_str(), "part")?;
+    /// Counts calls that are added to a group, and ends it if these are enough.
+    pub fn count_calls(&mut self, groups: &mut Groups, calls: usize) -> Result<(), AllocError> {
+        groups.calls = groups.calls.saturating_add(calls);
+        if groups.calls < GROUP {
+            return Ok(());
+        }
+        self.end_group(groups)
+    }
+
+    /// Ends the function of a group that is begun, and calls it.
+    pub fn end_group(&mut self, groups: &mut Groups) -> Result<(), AllocError> {
+        if !groups.are_made || groups.calls == 0 {
+            return Ok(());
+        }
+        groups.calls = 0;
+        let Some(outer) = self.outer.pop() else {
+            return Ok(());
+        };
         let body = mem::replace(&mut self.lines, outer.lines);
         self.indent = outer.indent;
         self.lent = outer.lent;
-        self.push_group(imports, lists, name.as_str(), &body)?;
-        let head = self.with_parameters(name.as_str())?;
-        let mut arguments = Vec::new(alloc);
-        for list in lists {
-            let argument = self.argument(list.name)?;
-            arguments.push(argument)?;
+        self.add_group(groups.lists, body.text.as_str())
+    }
+
+    fn add_group(&mut self, lists: Lists, body: &str) -> Result<(), AllocError> {
+        let name = self.imports.function_name(self.ty.as_str(), "part")?;
+        self.push_group(lists, name.as_str(), body)?;
+        self.call_group(lists, name.as_str())
+    }
+
+    fn call_group(&mut self, lists: Lists, name: &str) -> Result<(), AllocError> {
+        let head = applied(name, self.parameters);
+        let first = self.argument(lists.first);
+        match lists.second {
+            Some(second) => {
+                let second = self.argument(second);
+                self.call_head(&head, &["alloc", "types", first, second])
+            }
+            None => self.call_head(&head, &["alloc", "types", first]),
         }
-        let mut all = Vec::new(alloc);
-        all.push("alloc")?;
-        all.push("types")?;
-        for argument in &arguments {
-            all.push(argument.as_str())?;
-        }
-        self.call(head.as_str(), &all)
     }
 
     // Adds the function of a group.
-    fn push_group(
-        &mut self,
-        imports: &mut Imports,
-        lists: &[List],
-        name: &str,
-        body: &Lines,
-    ) -> Result<(), AllocError> {
-        let alloc = self.alloc();
-        let ty = self.owner.ty.as_str();
-        let what = match lists.first() {
-            Some(list) => list.name,
-            None => "members",
-        };
-        self.groups.line(0, "")?;
-        let comment = format!(in alloc; "// Adds some of the {what} of `{ty}`.")?;
-        self.groups.line(0, comment.as_str())?;
-        let mut parameters = Vec::new(alloc);
-        parameters.push(String::from_str(alloc, "alloc: Global")?)?;
-        parameters.push(String::from_str(alloc, "types: &mut Types")?)?;
-        for list in lists {
-            let element = imports.short(list.ty)?;
-            let (name, element) = (list.name, element.as_str());
-            parameters.push(format!(in alloc; "{name}: &mut Vec<{element}>")?)?;
+    fn push_group(&mut self, lists: Lists, name: &str, body: &str) -> Result<(), AllocError> {
+        self.imports.words(&[
+            "Describes",
+            "IfErr",
+            "KeepsRows",
+            "OnOk",
+            "RefusesPart",
+            "map",
+        ])?;
+        let members = lists.first.name;
+        self.groups.push(&["\n// Adds some of the ", members])?;
+        self.push_with_type(" of `", "`.\n")?;
+        self.push_group_head(lists, name)?;
+        self.groups.text.push_str(KEEPS)?;
+        self.push_known(lists.first)?;
+        if let Some(second) = lists.second {
+            self.push_known(second)?;
         }
-        let head = format!(in alloc; "fn {name}{}", self.owner.generics.as_str())?;
-        self.groups
-            .head(head.as_str(), &parameters, " -> Result<(), TypesError>")?;
-        self.push_clauses(imports, lists)?;
-        self.groups.line(0, "{")?;
-        self.groups.text.push_str(body.text.as_str())?;
-        self.groups.line(4, "Ok(())")?;
-        self.groups.line(0, "}")
+        self.push_with_type(FOLLOWS[0], FOLLOWS[1])?;
+        self.push_with_type(REFUSED[0], REFUSED[1])?;
+        self.groups.push(&["{\n", body, "    Ok(())\n}\n"])
     }
 
-    // Adds the clauses of the function of a group.
-    fn push_clauses(&mut self, imports: &mut Imports, lists: &[List]) -> Result<(), AllocError> {
-        let alloc = self.alloc();
-        for word in ["IfErr", "map", "OnOk"] {
-            imports.prelude(word)?;
+    // Adds the type to the functions of the file, between these texts.
+    fn push_with_type(&mut self, before: &str, behind: &str) -> Result<(), AllocError> {
+        self.groups.text.push_str(before)?;
+        self.groups.text.push_str(self.ty.as_str())?;
+        self.groups.text.push_str(behind)
+    }
+
+    fn push_group_head(&mut self, lists: Lists, name: &str) -> Result<(), AllocError> {
+        let first = self.parameter(lists.first)?;
+        let first = first.as_str();
+        match lists.second {
+            Some(second) => {
+                let second = self.parameter(second)?;
+                self.push_head(name, &[ALLOC, TYPES, first, second.as_str()], DONE)
+            }
+            None => self.push_head(name, &[ALLOC, TYPES, first], DONE),
         }
-        for word in ["Describes", "KeepsRows", "RefusesPart"] {
-            imports.word(word)?;
-        }
-        self.groups
-            .line(4, "ensures keeps { KeepsRows types.old types.new }")?;
-        for list in lists {
-            imports.word(list.word)?;
-            imports.word(list.view)?;
-            let (clause, word, view, name) = (list.clause, list.word, list.view, list.name);
-            let first = format!(in alloc;
-                "ensures {clause} {{ OnOk result ({word} types.old (map {view} {name}.old.items)"
-            )?;
-            self.groups.line(4, first.as_str())?;
-            let second = format!(in alloc; "→ {word} types.new (map {view} {name}.new.items)) }}")?;
-            self.groups.line(8, second.as_str())?;
-        }
-        let ty = self.owner.ty.as_str();
-        let says = format!(in alloc; "⟦<{ty} as JsonSchema>⟧.says")?;
-        let says = says.as_str();
-        let follows = format!(in alloc;
-            "ensures follows {{ OnOk result (Describes {says} types.old types.new) }}"
-        )?;
-        self.groups.line(4, follows.as_str())?;
-        let refused = format!(in alloc;
-            "ensures refused {{ IfErr result (RefusesPart {says} types.old) }}"
-        )?;
-        self.groups.line(4, refused.as_str())
+    }
+
+    /// Adds the head of a function with the parameters of the type.
+    pub fn push_head(
+        &mut self,
+        name: &str,
+        parameters: &[&str],
+        tail: &[&str],
+    ) -> Result<(), AllocError> {
+        let mut head = joined(self.alloc(), &["fn ", name])?;
+        head.push_str(self.generics.as_str())?;
+        self.groups.head(&[head.as_str()], parameters, tail)
+    }
+
+    // A list as a parameter.
+    fn parameter(&mut self, list: List) -> Result<String, AllocError> {
+        let element = self.imports.short(list.ty)?;
+        let texts = [list.name, ": &mut Vec<", element.as_str(), ">"];
+        joined(self.alloc(), &texts)
+    }
+
+    // Adds the clause that says of a list that its numbers are those of rows.
+    fn push_known(&mut self, list: List) -> Result<(), AllocError> {
+        self.imports.words(&[list.word, list.view])?;
+        self.groups.block(
+            KNOWN,
+            &[
+                ("clause", list.clause),
+                ("word", list.word),
+                ("view", list.view),
+                ("name", list.name),
+            ],
+        )
     }
 }

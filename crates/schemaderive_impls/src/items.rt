@@ -1,16 +1,14 @@
 //! Implementations, one a type.
-use crate::body::{Body, INDENT, Types};
-use crate::groups::Owner;
+use crate::body::Writer;
 use crate::headers::Header;
 use crate::keywords::ENTRY;
 use crate::members::has_flattened;
-use crate::names::{ID, Member, NAME, clause_of, has_parameters, made_of};
-use crate::own_rows::steps_of;
-use schemaderive_definitions::{Choices, Content, Definition, Form, Part};
+use crate::names::{ID, Member, NAME, has_parameters, push_made};
+use schemaderive_definitions::{Choices, Content, Definition, Form, Members, Part};
 use schemaderive_known::Row;
 use schemaderive_options::Notes;
 use schemaderive_syntax::{Fault, Place};
-use schemaderive_text::{Imports, Lines, literal};
+use schemaderive_text::{literal, push_all};
 use std::alloc::{AllocError, Global};
 
 /// What is to be implemented for a type.
@@ -28,319 +26,276 @@ pub struct Subject {
     pub definition: Option<Definition>,
 }
 
-/// Adds the implementation of a type, which names these declarations by their ids.
-///
-/// # Errors
-///
-/// A type has no implementation, or an attribute says what an implementation can't say.
-pub fn push_item(
-    types: &Types<'_>,
-    imports: &mut Imports,
-    lines: &mut Lines,
-    ancestors: &[usize],
-    subject: &Subject,
-) -> Result<(), Fault> {
-    let alloc = types.context.alloc;
-    let ty = imports.short(subject.header.ty.as_str())?;
-    let generics = imports.short(subject.header.generics.as_str())?;
-    let head = format!(in alloc; "impl{generics} JsonSchema for {ty} {{")?;
-    lines.line(0, head.as_str())?;
-    match (&subject.definition, types.rows.get(subject.row)) {
-        (Some(definition), Some(row)) => {
-            let owner = owner_of(alloc, ty.as_str(), generics.as_str(), &subject.header)?;
-            let body = body_of(types, imports, ancestors, definition, owner)?;
-            push_says(alloc, imports, lines, row, &body)?;
-            push_names(alloc, lines, row)?;
-            push_method(lines, TYPE_ENTRY, body.lines.text.as_str())?;
-            lines.line(0, "}")?;
-            lines.text.push_str(body.groups.text.as_str())?;
-        }
-        _ => {
-            let other = types.short(imports, subject.row, subject.place)?;
-            push_delegation(alloc, lines, other.as_str())?;
-            lines.line(0, "}")?;
-        }
-    }
-    Ok(())
-}
-
-// For which type the functions of groups are.
-fn owner_of(alloc: Global, ty: &str, generics: &str, header: &Header) -> Result<Owner, AllocError> {
-    let mut parameters = Vec::new(alloc);
-    for name in &header.parameters {
-        parameters.push(String::from_str(alloc, name.as_str())?)?;
-    }
-    Ok(Owner {
-        ty: String::from_str(alloc, ty)?,
-        generics: String::from_str(alloc, generics)?,
-        parameters,
-    })
-}
-
-const IN_PLACE: &str = "fn inline_schema() -> bool {";
-
-const NAME_HEAD: &str = "fn schema_name(alloc: Global) -> Result<CowStr<'static>, AllocError> {";
-
-const FIXED_NAME_HEAD: &str =
-    "fn schema_name(_alloc: Global) -> Result<CowStr<'static>, AllocError> {";
-
-const ID_HEAD: &str = "fn schema_id(alloc: Global) -> Result<CowStr<'static>, AllocError> {";
-
-const FIXED_ID_HEAD: &str = "fn schema_id(_alloc: Global) -> Result<CowStr<'static>, AllocError> {";
-
-const TYPE_ENTRY: &str =
-    "fn json_schema(alloc: Global, types: &mut Types) -> Result<TypeEntry, TypesError> {";
-
-// Adds a method whose body is these lines, behind an empty line.
-fn push_method(lines: &mut Lines, head: &str, body: &str) -> Result<(), AllocError> {
-    lines.line(0, "")?;
-    lines.line(4, head)?;
-    lines.text.push_str(body)?;
-    lines.line(4, "}")
-}
-
-// Adds a method of one line.
-fn push_short_method(lines: &mut Lines, head: &str, line: &str) -> Result<(), AllocError> {
-    let mut body = Lines::new(lines.alloc);
-    body.line(INDENT, line)?;
-    push_method(lines, head, body.text.as_str())
-}
-
 // The methods of a type that has the row of another.
-fn push_delegation(alloc: Global, lines: &mut Lines, other: &str) -> Result<(), AllocError> {
-    let says = format!(in alloc; "ghost says = {{ ⟦<{other} as JsonSchema>⟧.says }};")?;
-    lines.line(4, says.as_str())?;
-    for (head, call) in [
-        (IN_PLACE, "inline_schema()"),
-        (NAME_HEAD, "schema_name(alloc)"),
-        (ID_HEAD, "schema_id(alloc)"),
-        (TYPE_ENTRY, "json_schema(alloc, types)"),
-    ] {
-        let line = format!(in alloc; "<{other} as JsonSchema>::{call}")?;
-        push_short_method(lines, head, line.as_str())?;
+const DELEGATION: &str = "    ghost says = { ⟦<$other$ as JsonSchema>⟧.says };
+
+    fn inline_schema() -> bool {
+        <$other$ as JsonSchema>::inline_schema()
     }
-    Ok(())
+
+    fn schema_name(alloc: Global) -> Result<CowStr<'static>, AllocError> {
+        <$other$ as JsonSchema>::schema_name(alloc)
+    }
+
+    fn schema_id(alloc: Global) -> Result<CowStr<'static>, AllocError> {
+        <$other$ as JsonSchema>::schema_id(alloc)
+    }
+
+    fn json_schema(alloc: Global, types: &mut Types) -> Result<TypeEntry, TypesError> {
+        <$other$ as JsonSchema>::json_schema(alloc, types)
+    }
+}
+";
+
+const OWN_SAYS: &str = "    ghost says = { own ($id$) (λ d. $parts$) };
+";
+
+const IN_PLACE: &str = "
+    fn inline_schema() -> bool {
+        $inline$
+    }
+";
+
+const FIXED_TEXT: &str = "(_alloc: Global) -> Result<CowStr<'static>, AllocError> {
+        Ok(CowStr::Borrowed($text$))
+    }
+";
+
+const MADE_TEXT: &str = "(alloc: Global) -> Result<CowStr<'static>, AllocError> {
+";
+
+const SAME_ID: &str = "
+    fn schema_id(alloc: Global) -> Result<CowStr<'static>, AllocError> {
+        Self::schema_name(alloc)
+    }
+";
+
+const TYPE_ENTRY: &str = "
+    fn json_schema(alloc: Global, types: &mut Types) -> Result<TypeEntry, TypesError> {
+";
+
+// How many parts are not grouped.
+const FLAT: usize = 8;
+
+// How many parts are in a group.
+const GROUP: usize = 4;
+
+// What is around the call that makes an entry: if it is the value of the body, and if it gets keywords.
+#[derive(Clone, Copy)]
+struct Around {
+    alone: (&'static str, &'static str),
+    noted: (&'static str, &'static str),
 }
 
-// What a type says of its row.
-fn push_says(
-    alloc: Global,
-    imports: &mut Imports,
-    lines: &mut Lines,
-    row: &Row,
-    body: &Body,
-) -> Result<(), AllocError> {
-    let id = clause_of(imports, alloc, row.id.as_str(), ID)?;
-    let parts = body.parts()?;
-    let (id, parts) = (id.as_str(), parts.as_str());
-    if row.id.as_str() == row.name.as_str() && !row.is_inline {
-        imports.word("own")?;
-        let says = format!(in alloc; "ghost says = {{ own ({id}) (λ d. {parts}) }};")?;
-        return lines.line(4, says.as_str());
-    }
-    imports.word("Unsaid")?;
-    let name = clause_of(imports, alloc, row.name.as_str(), NAME)?;
-    let inline = if row.is_inline { "true" } else { "false" };
-    imports.prelude(inline)?;
-    let says = format!(in alloc;
-        "ghost says = {{ record {{ id = {id}; name = {name}; inline = {inline}; making = Unsaid; parts = λ d. {parts} }} }};"
-    )?;
-    lines.line(4, says.as_str())
-}
+// A call that makes an entry.
+const SURE: Around = Around {
+    alone: ("Ok(", ")"),
+    noted: ("let mut entry = ", ";"),
+};
 
-// The methods that return what a row is called, and whether it is in place.
-fn push_names(alloc: Global, lines: &mut Lines, row: &Row) -> Result<(), AllocError> {
-    push_short_method(
-        lines,
-        IN_PLACE,
-        if row.is_inline { "true" } else { "false" },
-    )?;
-    push_text_method(
-        alloc,
-        lines,
-        FIXED_NAME_HEAD,
-        NAME_HEAD,
-        row.name.as_str(),
-        NAME,
-    )?;
-    if row.id.as_str() == row.name.as_str() && !has_parameters(row.id.as_str()) {
-        return push_short_method(lines, ID_HEAD, "Self::schema_name(alloc)");
-    }
-    push_text_method(alloc, lines, FIXED_ID_HEAD, ID_HEAD, row.id.as_str(), ID)
-}
+// A call that may fail.
+const TRIED: Around = Around {
+    alone: ("", ""),
+    noted: ("let mut entry = ", "?;"),
+};
 
-// A method that returns an id or a name. Its head is the first if there is nothing to be asked for.
-fn push_text_method(
-    alloc: Global,
-    lines: &mut Lines,
-    fixed_head: &str,
-    head: &str,
-    text: &str,
-    member: Member,
-) -> Result<(), AllocError> {
-    let mut body = Lines::new(alloc);
-    if !has_parameters(text) {
-        let text = literal(alloc, text)?;
-        let line = format!(in alloc; "Ok(CowStr::Borrowed({}))", text.as_str())?;
-        body.line(INDENT, line.as_str())?;
-        return push_method(lines, fixed_head, body.text.as_str());
-    }
-    let made = made_of(&mut body, INDENT, text, member)?;
-    let line = format!(in alloc; "Ok(CowStr::Owned({made}))")?;
-    body.line(INDENT, line.as_str())?;
-    push_method(lines, head, body.text.as_str())
-}
-
-// The body that makes the entry of a type.
-fn body_of(
-    types: &Types<'_>,
-    imports: &mut Imports,
-    ancestors: &[usize],
-    definition: &Definition,
-    owner: Owner,
-) -> Result<Body, Fault> {
-    let mut body = Body::new(types.context.alloc, owner);
-    match &definition.content {
-        Content::Null => {
-            imports.word("IsIn")?;
-            let clause = String::from_str(body.alloc(), "IsIn ⟦<() as JsonSchema>⟧.says d")?;
-            body.says.push(clause)?;
-            let call = "newtype_entry::<()>(alloc, types)";
-            imports.call("newtype_entry")?;
-            body.end(imports, call, true, &definition.notes)?;
-        }
-        Content::Newtype(part) => {
-            body.end_newtype(types, imports, ancestors, part, &definition.notes)?;
-        }
-        Content::Tuple(parts) => {
-            body.add_parts(types, imports, ancestors, parts)?;
-            imports.call("tuple_entry")?;
-            let call = "tuple_entry(alloc, numbers)";
-            body.end(imports, call, false, &definition.notes)?;
-        }
-        Content::Struct(members) => {
-            body.add_members(types, imports, ancestors, members)?;
-            let is_flat = has_flattened(members);
-            let call = struct_call(imports, is_flat, members.is_closed)?;
-            body.end(imports, call, false, &definition.notes)?;
-        }
-        Content::Enum(choices) => {
-            body.add_choices(types, imports, ancestors, choices)?;
-            let call = body.choices_call(imports, choices)?;
-            body.end(imports, call, false, &definition.notes)?;
+impl<'t> Writer<'t> {
+    /// Adds the implementation of a type, which names these declarations by their ids.
+    ///
+    /// # Errors
+    ///
+    /// A type has no implementation, or an attribute says what an implementation can't say.
+    pub fn add_item(&mut self, subject: &'t Subject, ancestors: &'t [usize]) -> Result<(), Fault> {
+        self.begin(subject.row, &subject.header, ancestors)?;
+        self.push_head_of_item()?;
+        let rows = self.types.rows;
+        match (&subject.definition, rows.get(subject.row)) {
+            (Some(definition), Some(row)) => {
+                self.add_body(definition)?;
+                Ok(self.push_methods(row)?)
+            }
+            _ => {
+                let other = self.short(subject.row, subject.place)?;
+                let texts = [("other", other.as_str())];
+                Ok(self.items.block(DELEGATION, &texts)?)
+            }
         }
     }
-    Ok(body)
-}
 
-// The call that makes the entry of a struct.
-fn struct_call(
-    imports: &mut Imports,
-    is_flat: bool,
-    is_closed: bool,
-) -> Result<&'static str, AllocError> {
-    imports.call(if is_flat {
-        "flat_entry"
-    } else {
-        "struct_entry"
-    })?;
-    Ok(match (is_flat, is_closed) {
-        (true, true) => "flat_entry(alloc, fields, parts, true)",
-        (true, false) => "flat_entry(alloc, fields, parts, false)",
-        (false, true) => "struct_entry(alloc, fields, true)",
-        (false, false) => "struct_entry(alloc, fields, false)",
-    })
-}
+    fn push_head_of_item(&mut self) -> Result<(), AllocError> {
+        self.items.text.push_str("\nimpl")?;
+        self.items.text.push_str(self.generics.as_str())?;
+        self.items.text.push_str(" JsonSchema for ")?;
+        self.items.text.push_str(self.ty.as_str())?;
+        self.items.text.push_str(" {\n")
+    }
 
-impl Body {
-    // Adds the lines that make the entry by a call, which may fail, with these keywords.
+    fn push_methods(&mut self, row: &Row) -> Result<(), AllocError> {
+        self.push_says(row)?;
+        self.items
+            .block(IN_PLACE, &[("inline", truth(row.is_inline))])?;
+        self.push_text_method(row.name.as_str(), NAME)?;
+        if is_same(row) && !has_parameters(row.id.as_str()) {
+            self.items.text.push_str(SAME_ID)?;
+        } else {
+            self.push_text_method(row.id.as_str(), ID)?;
+        }
+        self.push_body()
+    }
+
+    // Adds the method that makes the entry, and behind the implementation the functions that it calls.
+    fn push_body(&mut self) -> Result<(), AllocError> {
+        self.items.text.push_str(TYPE_ENTRY)?;
+        self.items.text.push_str(self.lines.text.as_str())?;
+        self.items.text.push_str("    }\n}\n")?;
+        self.items.text.push_str(self.groups.text.as_str())
+    }
+
+    // Adds what a type says of its row.
+    fn push_says(&mut self, row: &Row) -> Result<(), AllocError> {
+        let mut id = String::new(self.alloc());
+        self.push_clause(&mut id, row.id.as_str(), ID)?;
+        let parts = self.parts()?;
+        let (id, parts) = (id.as_str(), parts.as_str());
+        if is_same(row) && !row.is_inline {
+            self.imports.words(&["own"])?;
+            return self.items.block(OWN_SAYS, &[("id", id), ("parts", parts)]);
+        }
+        self.push_record(row, id, parts)
+    }
+
+    fn push_record(&mut self, row: &Row, id: &str, parts: &str) -> Result<(), AllocError> {
+        let inline = truth(row.is_inline);
+        self.imports.words(&["Unsaid", inline])?;
+        let mut name = String::new(self.alloc());
+        self.push_clause(&mut name, row.name.as_str(), NAME)?;
+        self.items
+            .push(&["    ghost says = { record { id = ", id, "; name = "])?;
+        self.items.push(&[name.as_str(), "; inline = ", inline])?;
+        self.items
+            .push(&["; making = Unsaid; parts = λ d. ", parts, " } };\n"])
+    }
+
+    // Adds a method that returns an id or a name.
+    fn push_text_method(&mut self, text: &str, member: Member) -> Result<(), AllocError> {
+        let alloc = self.alloc();
+        self.items.push(&[
+            "
+    fn ",
+            member.function,
+        ])?;
+        if !has_parameters(text) {
+            let text = literal(alloc, text)?;
+            return self.items.block(FIXED_TEXT, &[("text", text.as_str())]);
+        }
+        self.items.text.push_str(MADE_TEXT)?;
+        let around = ["Ok(CowStr::Owned(", "?))"];
+        push_made(alloc, &mut self.items, 8, text, member, around)?;
+        self.items.text.push_str("    }\n")
+    }
+
+    // Adds the lines of the body that makes the entry of a type.
+    fn add_body(&mut self, definition: &Definition) -> Result<(), Fault> {
+        let notes = &definition.notes;
+        match &definition.content {
+            Content::Null => {
+                self.say_registered("()")?;
+                Ok(self.end_registered("()", notes)?)
+            }
+            Content::Newtype(part) => self.end_newtype(part, notes),
+            Content::Tuple(parts) => {
+                self.add_parts(parts)?;
+                Ok(self.end(SURE, "tuple_entry", &["(alloc, numbers)"], notes)?)
+            }
+            Content::Struct(members) => {
+                self.add_members(members)?;
+                Ok(self.end_struct(members, notes)?)
+            }
+            Content::Enum(choices) => {
+                self.add_choices(choices)?;
+                Ok(self.end_choices(choices, notes)?)
+            }
+        }
+    }
+
+    // Adds the lines that make the entry by a call of this function, with keywords.
     fn end(
         &mut self,
-        imports: &mut Imports,
-        call: &str,
-        may_fail: bool,
+        around: Around,
+        function: &'static str,
+        arguments: &[&str],
         notes: &Notes,
     ) -> Result<(), AllocError> {
-        let alloc = self.alloc();
+        self.imports.call(function)?;
+        let (before, behind) = if notes.is_empty() {
+            around.alone
+        } else {
+            around.noted
+        };
+        self.lines.begin(self.indent)?;
+        self.lines.push(&[before, function])?;
+        self.lines.push(arguments)?;
+        self.lines.push(&[behind, "\n"])?;
         if notes.is_empty() {
-            if may_fail {
-                return self.lines.line(self.indent, call);
-            }
-            let line = format!(in alloc; "Ok({call})")?;
-            return self.lines.line(self.indent, line.as_str());
+            return Ok(());
         }
-        let mark = if may_fail { "?" } else { "" };
-        let line = format!(in alloc; "let mut entry = {call}{mark};")?;
-        self.lines.line(self.indent, line.as_str())?;
-        self.add_notes(imports, ENTRY, notes)?;
-        self.lines.line(self.indent, "Ok(entry)")
+        self.add_notes(ENTRY, notes)?;
+        self.lines.line(self.indent, &["Ok(entry)"])
     }
 
     // Adds the lines that make the entry of a struct of one value, which has its keywords.
-    fn end_newtype(
-        &mut self,
-        types: &Types<'_>,
-        imports: &mut Imports,
-        ancestors: &[usize],
-        part: &Part,
-        notes: &Notes,
-    ) -> Result<(), Fault> {
-        let alloc = self.alloc();
-        let mut all = part.all_notes(alloc)?;
-        all.put_all(alloc, notes)?;
-        if types.leads_to(part.plain, ancestors) {
-            let steps = steps_of(types, imports, ancestors, part.plain, part.place)?;
-            self.own_number(imports, &steps)?;
-            imports.call("newtype_entry_of")?;
-            self.end(
-                imports,
-                "newtype_entry_of(alloc, types, number)",
-                true,
-                &all,
-            )?;
-            return Ok(());
-        }
-        let ty = self.registered(types, imports, part.plain, part.place)?;
-        imports.call("newtype_entry")?;
-        let call = format!(in alloc; "newtype_entry::<{ty}>(alloc, types)")?;
-        self.end(imports, call.as_str(), true, &all)?;
-        Ok(())
+    fn end_newtype(&mut self, part: &Part, notes: &Notes) -> Result<(), Fault> {
+        let mut all = part.all_notes(self.alloc())?;
+        all.put_all(self.alloc(), notes)?;
+        self.end_part(part, &all)
     }
 
-    // Adds the keys of an enum, and returns the call that makes its entry.
-    fn choices_call(
-        &mut self,
-        imports: &mut Imports,
-        choices: &Choices,
-    ) -> Result<&'static str, AllocError> {
+    fn end_part(&mut self, part: &Part, notes: &Notes) -> Result<(), Fault> {
+        if self.leads_back(part) {
+            self.own_number(part)?;
+            let arguments = ["(alloc, types, number)"];
+            return Ok(self.end(TRIED, "newtype_entry_of", &arguments, notes)?);
+        }
+        let ty = self.registered(part)?;
+        Ok(self.end_registered(ty.as_str(), notes)?)
+    }
+
+    fn end_registered(&mut self, ty: &str, notes: &Notes) -> Result<(), AllocError> {
+        self.end(
+            TRIED,
+            "newtype_entry",
+            &["::<", ty, ">(alloc, types)"],
+            notes,
+        )
+    }
+
+    fn end_struct(&mut self, members: &Members, notes: &Notes) -> Result<(), AllocError> {
+        let closed = truth(members.is_closed);
+        if has_flattened(members) {
+            let arguments = ["(alloc, fields, parts, ", closed, ")"];
+            return self.end(SURE, "flat_entry", &arguments, notes);
+        }
+        let arguments = ["(alloc, fields, ", closed, ")"];
+        self.end(SURE, "struct_entry", &arguments, notes)
+    }
+
+    // Adds the keys of an enum, and the lines that make its entry.
+    fn end_choices(&mut self, choices: &Choices, notes: &Notes) -> Result<(), AllocError> {
         self.add_key("tag", &choices.tag)?;
         self.add_key("content", &choices.content)?;
-        let (call, line) = match (choices.form, choices.is_closed) {
-            (Form::External, _) => ("external_entry", "external_entry(alloc, variants)"),
-            (Form::Untagged, _) => ("untagged_entry", "untagged_entry(alloc, variants)"),
-            (Form::Internal, true) => {
-                (
-                    "internal_entry",
-                    "internal_entry(alloc, tag, true, variants)",
-                )
-            }
-            (Form::Internal, false) => {
-                (
-                    "internal_entry",
-                    "internal_entry(alloc, tag, false, variants)",
-                )
-            }
-            (Form::Adjacent, true) => (
-                "adjacent_entry",
-                "adjacent_entry(alloc, tag, content, true, variants)",
-            ),
-            (Form::Adjacent, false) => (
-                "adjacent_entry",
-                "adjacent_entry(alloc, tag, content, false, variants)",
-            ),
+        let closed = truth(choices.is_closed);
+        let (function, keys, closed) = match choices.form {
+            Form::External => ("external_entry", "(alloc, ", ""),
+            Form::Untagged => ("untagged_entry", "(alloc, ", ""),
+            Form::Internal => ("internal_entry", "(alloc, tag, ", closed),
+            Form::Adjacent => ("adjacent_entry", "(alloc, tag, content, ", closed),
         };
-        imports.call(call)?;
-        Ok(line)
+        let variants = if closed.is_empty() {
+            "variants)"
+        } else {
+            ", variants)"
+        };
+        self.end(SURE, function, &[keys, closed, variants], notes)
     }
 
     fn add_key(&mut self, name: &str, key: &Option<String>) -> Result<(), AllocError> {
@@ -348,7 +303,72 @@ impl Body {
             return Ok(());
         };
         let key = literal(self.alloc(), key.as_str())?;
-        let head = format!(in self.alloc(); "let {name} = String::from_str")?;
-        self.call(head.as_str(), &["alloc", key.as_str()])
+        self.add_text(name, "String::from_str", key.as_str())
     }
+
+    // The parts of a dictionary of which it says something. More than eight are in groups of four at
+    // most, and so are the groups, so that the check finds each of them in a few steps.
+    fn parts(&self) -> Result<String, AllocError> {
+        let alloc = self.alloc();
+        if self.says.is_empty() {
+            return String::from_str(alloc, "Unit {0}");
+        }
+        if self.says.len() <= FLAT {
+            return product(alloc, &self.says, "", "");
+        }
+        let mut parts = grouped(alloc, &self.says)?;
+        for _ in 0..self.says.len() {
+            if parts.len() <= GROUP {
+                break;
+            }
+            parts = grouped(alloc, &parts)?;
+        }
+        product(alloc, &parts, "", "")
+    }
+}
+
+// Groups of parts, each as one.
+fn grouped(alloc: Global, parts: &[String]) -> Result<Vec<String>, AllocError> {
+    let mut groups = Vec::new(alloc);
+    for group in parts.chunks(GROUP) {
+        let whole = if group.len() == 1 {
+            product(alloc, group, "", "")?
+        } else {
+            product(alloc, group, "(", ")")?
+        };
+        groups.push(whole)?;
+    }
+    Ok(groups)
+}
+
+// Parts as one, between these texts.
+fn product(
+    alloc: Global,
+    parts: &[String],
+    before: &str,
+    behind: &str,
+) -> Result<String, AllocError> {
+    let mut product = String::from_str(alloc, before)?;
+    push_product(&mut product, parts)?;
+    product.push_str(behind)?;
+    Ok(product)
+}
+
+fn push_product(product: &mut String, parts: &[String]) -> Result<(), AllocError> {
+    let mut is_first = true;
+    for part in parts {
+        let times = if is_first { "" } else { " × " };
+        push_all(product, &[times, part.as_str()])?;
+        is_first = false;
+    }
+    Ok(())
+}
+
+fn truth(is_so: bool) -> &'static str {
+    if is_so { "true" } else { "false" }
+}
+
+// Whether the id of a row is its name.
+fn is_same(row: &Row) -> bool {
+    row.id.as_str() == row.name.as_str()
 }

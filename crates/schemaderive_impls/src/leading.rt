@@ -1,5 +1,7 @@
 //! Which declarations lead to which, and which of them a type names by their ids, since what leads
 //! back to it can't be registered in its implementation.
+use crate::items::Subject;
+use schemaderive_definitions::{Content, Members, Part, Payload};
 use schemaderive_known::{Makeup, Row};
 use std::alloc::{AllocError, Global};
 
@@ -24,19 +26,105 @@ fn mentions_in(
         found.push(number)?;
     }
     for part in &row.parts {
-        if let Some(more) = mentions.get(*part) {
-            add_new(&mut found, more)?;
-        }
+        add_row(&mut found, mentions, *part)?;
     }
     Ok(found)
 }
 
-/// Adds numbers to a list, each once.
-pub fn add_new(list: &mut Vec<usize>, more: &[usize]) -> Result<(), AllocError> {
+// Adds the declarations to which a row leads, each once.
+fn add_row(list: &mut Vec<usize>, mentions: &[Vec<usize>], row: usize) -> Result<(), AllocError> {
+    let Some(more) = mentions.get(row) else {
+        return Ok(());
+    };
     for number in more {
         if !list.contains(number) {
             list.push(*number)?;
         }
+    }
+    Ok(())
+}
+
+// The declarations to which each of so many leads.
+fn leads_of(
+    alloc: Global,
+    count: usize,
+    subjects: &[Subject],
+    mentions: &[Vec<usize>],
+) -> Result<Vec<Vec<usize>>, AllocError> {
+    let mut leads: Vec<Vec<usize>> = Vec::new(alloc);
+    for _ in 0..count {
+        leads.push(Vec::new(alloc))?;
+    }
+    for subject in subjects {
+        if let Some(list) = leads.get_mut(subject.number) {
+            add_leads(list, mentions, subject)?;
+        }
+    }
+    Ok(leads)
+}
+
+// Adds the declarations to which the types lead that an implementation names.
+fn add_leads(
+    list: &mut Vec<usize>,
+    mentions: &[Vec<usize>],
+    subject: &Subject,
+) -> Result<(), AllocError> {
+    match &subject.definition {
+        Some(definition) => add_content(list, mentions, &definition.content),
+        None => add_row(list, mentions, subject.row),
+    }
+}
+
+fn add_content(
+    list: &mut Vec<usize>,
+    mentions: &[Vec<usize>],
+    content: &Content,
+) -> Result<(), AllocError> {
+    match content {
+        Content::Null => Ok(()),
+        Content::Newtype(part) => add_row(list, mentions, part.plain),
+        Content::Tuple(parts) => add_parts(list, mentions, parts),
+        Content::Struct(members) => add_members(list, mentions, members),
+        Content::Enum(choices) => {
+            for choice in &choices.list {
+                add_payload(list, mentions, &choice.payload)?;
+            }
+            Ok(())
+        }
+    }
+}
+
+fn add_payload(
+    list: &mut Vec<usize>,
+    mentions: &[Vec<usize>],
+    payload: &Payload,
+) -> Result<(), AllocError> {
+    match payload {
+        Payload::Unit => Ok(()),
+        Payload::Newtype(part) => add_row(list, mentions, part.plain),
+        Payload::Tuple(parts) => add_parts(list, mentions, parts),
+        Payload::Struct(members) => add_members(list, mentions, members),
+    }
+}
+
+fn add_parts(
+    list: &mut Vec<usize>,
+    mentions: &[Vec<usize>],
+    parts: &[Part],
+) -> Result<(), AllocError> {
+    for part in parts {
+        add_row(list, mentions, part.plain)?;
+    }
+    Ok(())
+}
+
+fn add_members(
+    list: &mut Vec<usize>,
+    mentions: &[Vec<usize>],
+    members: &Members,
+) -> Result<(), AllocError> {
+    for member in &members.list {
+        add_row(list, mentions, member.part.plain)?;
     }
     Ok(())
 }
@@ -53,56 +141,65 @@ enum State {
 #[derive(Drop)]
 struct Walk {
     states: Vec<State>,
+    // whether another declaration leads to each
+    led_to: Vec<bool>,
     // the declarations that are open, and how many of those to which they lead are gone to
     path: Vec<(usize, usize)>,
     // of each declaration, those that are open when it leads to them
     ancestors: Vec<Vec<usize>>,
 }
 
-/// Of each declaration, those to which it leads and which lead to it: what it names by their ids.
+/// Of each of so many declarations, those to which it leads and which lead to it: what it names by their ids.
 /// The others are registered, which ends, since the declarations are gone through along these ways
 /// and none is registered while it is open. The ways begin at declarations to which no other leads.
-pub fn ancestors_of(alloc: Global, leads: &[Vec<usize>]) -> Result<Vec<Vec<usize>>, AllocError> {
+pub fn ancestors_of(
+    alloc: Global,
+    count: usize,
+    subjects: &[Subject],
+    mentions: &[Vec<usize>],
+) -> Result<Vec<Vec<usize>>, AllocError> {
+    let leads = leads_of(alloc, count, subjects, mentions)?;
     let mut walk = Walk {
         states: Vec::new(alloc),
+        led_to: Vec::new(alloc),
         path: Vec::new(alloc),
         ancestors: Vec::new(alloc),
     };
-    for _ in leads {
-        walk.states.push(State::New)?;
-        walk.ancestors.push(Vec::new(alloc))?;
-    }
-    let led_to = led_to(alloc, leads)?;
-    for (number, is_led_to) in led_to.iter().enumerate() {
-        if !*is_led_to {
-            walk.go(leads, number)?;
-        }
-    }
-    for number in 0..leads.len() {
-        walk.go(leads, number)?;
-    }
+    walk.go_all(alloc, &leads)?;
     Ok(walk.ancestors)
 }
 
-// Whether another declaration leads to each.
-fn led_to(alloc: Global, leads: &[Vec<usize>]) -> Result<Vec<bool>, AllocError> {
-    let mut led_to = Vec::new(alloc);
-    for _ in leads {
-        led_to.push(false)?;
+impl Walk {
+    fn go_all(&mut self, alloc: Global, leads: &[Vec<usize>]) -> Result<(), AllocError> {
+        for _ in leads {
+            self.states.push(State::New)?;
+            self.led_to.push(false)?;
+            self.ancestors.push(Vec::new(alloc))?;
+        }
+        self.find_led_to(leads);
+        for number in 0..leads.len() {
+            if self.led_to.get(number) == Some(&false) {
+                self.go(leads, number)?;
+            }
+        }
+        for number in 0..leads.len() {
+            self.go(leads, number)?;
+        }
+        Ok(())
     }
-    for (from, list) in leads.iter().enumerate() {
-        for to in list {
-            if *to != from {
-                if let Some(it) = led_to.get_mut(*to) {
-                    *it = true;
+
+    fn find_led_to(&mut self, leads: &[Vec<usize>]) {
+        for (from, list) in leads.iter().enumerate() {
+            for to in list {
+                if *to != from {
+                    if let Some(it) = self.led_to.get_mut(*to) {
+                        *it = true;
+                    }
                 }
             }
         }
     }
-    Ok(led_to)
-}
 
-impl Walk {
     // Goes through what a declaration leads to, unless it is done.
     fn go(&mut self, leads: &[Vec<usize>], start: usize) -> Result<(), AllocError> {
         self.enter(start)?;

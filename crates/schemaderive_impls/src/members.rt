@@ -1,31 +1,15 @@
 //! The fields of structs, and the parts of tuples.
-use crate::body::{Body, Types};
-use crate::groups::{FIELDS, MANY_FIELDS, PARTS, ends_of};
-use crate::keywords::{FIELD, refuse_notes};
-use crate::own_rows::steps_of;
+use crate::body::Writer;
+use crate::groups::{FIELDS, Groups, Lists, MANY_FIELDS, PARTS};
+use crate::keywords::FIELD;
 use schemaderive_definitions::{Member, Members, Part, Required};
 use schemaderive_syntax::Fault;
-use schemaderive_text::{Imports, literal};
+use schemaderive_text::literal;
 use std::alloc::AllocError;
 
 // A field that is always read and may be missing where it is written, in the lines of an argument.
 const READ_ALWAYS: &str =
     "Required {\n                deserialize: true,\n                serialize: false,\n            }";
-
-// The constant of the library that says so, or else the value.
-fn required_text(imports: &mut Imports, required: Required) -> Result<&'static str, AllocError> {
-    let text = match (required.deserialize, required.serialize) {
-        (true, true) => "REQUIRED",
-        (false, true) => "READ_OPTIONAL",
-        (false, false) => "OPTIONAL",
-        (true, false) => {
-            let _ = imports.add("schemars::types::Required")?;
-            return Ok(READ_ALWAYS);
-        }
-    };
-    imports.call(text)?;
-    Ok(text)
-}
 
 /// Whether members of other types are among these.
 pub fn has_flattened(members: &Members) -> bool {
@@ -46,107 +30,87 @@ fn has_named(members: &Members) -> bool {
     false
 }
 
-impl Body {
+impl<'t> Writer<'t> {
     /// Adds the calls that make the list `fields` of members, and the list `parts` of the types whose
     /// members are among them.
     ///
     /// # Errors
     ///
     /// A type has no implementation, or can't be named.
-    pub fn add_members(
-        &mut self,
-        types: &Types<'_>,
-        imports: &mut Imports,
-        ancestors: &[usize],
-        members: &Members,
-    ) -> Result<(), Fault> {
+    pub fn add_members(&mut self, members: &Members) -> Result<(), Fault> {
         self.list("fields", has_named(members))?;
+        let mut lists = Lists::one(FIELDS);
         if has_flattened(members) {
             self.list("parts", true)?;
+            lists = Lists::two(FIELDS, PARTS);
         }
-        let mut lists = Vec::new(self.alloc());
-        lists.push(FIELDS)?;
-        if has_flattened(members) {
-            lists.push(PARTS)?;
+        let weight = self.members_weight(&members.list);
+        let mut groups = Groups::new(lists, weight, MANY_FIELDS);
+        for member in &members.list {
+            self.begin_group(&groups)?;
+            self.add_member(member)?;
+            self.count_calls(&mut groups, self.member_weight(member))?;
         }
-        let weights = self.member_weights(types, ancestors, &members.list)?;
-        let ends = ends_of(self.alloc(), &weights, MANY_FIELDS)?;
-        let mut outer = None;
-        for (number, member) in members.list.iter().enumerate() {
-            if outer.is_none() && !ends.is_empty() {
-                outer = Some(self.begin_group(&lists)?);
-            }
-            self.add_any_member(types, imports, ancestors, member)?;
-            if ends.get(number).copied() == Some(true) {
-                if let Some(outer) = outer.take() {
-                    self.end_group(imports, &lists, outer)?;
-                }
-            }
-        }
-        Ok(())
+        Ok(self.end_group(&mut groups)?)
     }
 
-    fn add_any_member(
-        &mut self,
-        types: &Types<'_>,
-        imports: &mut Imports,
-        ancestors: &[usize],
-        member: &Member,
-    ) -> Result<(), Fault> {
+    fn add_member(&mut self, member: &Member) -> Result<(), Fault> {
+        let required = self.required_text(member.required)?;
         match &member.name {
-            Some(name) => self.add_member(types, imports, ancestors, name.as_str(), member),
-            None => self.add_flattened(types, imports, ancestors, member),
+            Some(name) => self.add_named(name.as_str(), &member.part, required),
+            None => self.add_flattened(&member.part, required),
         }
     }
 
-    fn add_member(
-        &mut self,
-        types: &Types<'_>,
-        imports: &mut Imports,
-        ancestors: &[usize],
-        name: &str,
-        member: &Member,
-    ) -> Result<(), Fault> {
-        let part = &member.part;
-        let required = required_text(imports, member.required)?;
-        if types.leads_to(part.plain, ancestors) {
-            let steps = steps_of(types, imports, ancestors, part.plain, part.place)?;
-            self.own_field(imports, &steps, name, required)?;
-        } else {
-            let ty = self.registered(types, imports, part.plain, part.place)?;
-            imports.call("add_field")?;
-            let head = format!(in self.alloc(); "add_field::<{ty}>")?;
-            let name = literal(self.alloc(), name)?;
-            let fields = self.argument("fields")?;
-            self.call(
-                head.as_str(),
-                &["alloc", "types", fields.as_str(), name.as_str(), required],
-            )?;
-        }
+    fn add_named(&mut self, name: &str, part: &Part, required: &str) -> Result<(), Fault> {
+        let name = literal(self.alloc(), name)?;
+        self.add_field(name.as_str(), part, required)?;
         let notes = part.all_notes(self.alloc())?;
-        self.add_notes(imports, FIELD, &notes)?;
-        Ok(())
+        Ok(self.add_notes(FIELD, &notes)?)
     }
 
-    fn add_flattened(
+    fn add_field<'x>(
         &mut self,
-        types: &Types<'_>,
-        imports: &mut Imports,
-        ancestors: &[usize],
-        member: &Member,
+        name: &'x str,
+        part: &Part,
+        required: &'x str,
     ) -> Result<(), Fault> {
-        let part = &member.part;
-        if types.leads_to(part.plain, ancestors) {
-            let reason = "the members of a type are not among its own";
-            return Err(types.context.refused_name(part.place, "flatten", reason));
+        if self.leads_back(part) {
+            return self.own_field(part, name, required);
         }
-        let ty = self.registered(types, imports, part.plain, part.place)?;
-        let required = required_text(imports, member.required)?;
-        imports.call("add_flattened")?;
-        let head = format!(in self.alloc(); "add_flattened::<{ty}>")?;
-        let parts = self.argument("parts")?;
-        self.call(head.as_str(), &["alloc", "types", parts.as_str(), required])?;
-        Ok(())
+        let fields = self.argument(FIELDS);
+        let arguments = ["alloc", "types", fields, name, required];
+        self.call_registered("add_field", part, &arguments)
+    }
+
+    fn add_flattened(&mut self, part: &Part, required: &str) -> Result<(), Fault> {
+        if self.leads_back(part) {
+            return Err(self.refused_part(part, "flatten"));
+        }
+        let parts = self.argument(PARTS);
+        let arguments = ["alloc", "types", parts, required];
+        self.call_registered("add_flattened", part, &arguments)
+    }
+
+    /// The fault of a part whose members would be among its own.
+    pub fn refused_part(&self, part: &Part, name: &str) -> Fault {
+        let reason = "the members of a type are not among its own";
+        self.types.context.refused_name(part.place, name, reason)
+    }
+
+    // The constant of the library that says so, or else the value.
+    fn required_text(&mut self, required: Required) -> Result<&'static str, AllocError> {
+        let text = match (required.deserialize, required.serialize) {
+            (true, true) => "REQUIRED",
+            (false, true) => "READ_OPTIONAL",
+            (false, false) => "OPTIONAL",
+            (true, false) => {
+                let _ = self.imports.add("schemars::types::Required")?;
+                return Ok(READ_ALWAYS);
+            }
+        };
+        self.imports.call(text)?;
+        Ok(text)
     }
 
     /// Adds the calls that make the list `numbers` of the rows of parts.
@@ -154,39 +118,20 @@ impl Body {
     /// # Errors
     ///
     /// A type has no implementation, can't be named, or has keywords.
-    pub fn add_parts(
-        &mut self,
-        types: &Types<'_>,
-        imports: &mut Imports,
-        ancestors: &[usize],
-        parts: &[Part],
-    ) -> Result<(), Fault> {
+    pub fn add_parts(&mut self, parts: &[Part]) -> Result<(), Fault> {
         self.list("numbers", !parts.is_empty())?;
         for part in parts {
-            refuse_notes(types, part)?;
-            self.add_part(types, imports, ancestors, part)?;
+            self.refuse_notes(part)?;
+            self.add_part(part)?;
         }
         Ok(())
     }
 
-    fn add_part(
-        &mut self,
-        types: &Types<'_>,
-        imports: &mut Imports,
-        ancestors: &[usize],
-        part: &Part,
-    ) -> Result<(), Fault> {
-        if types.leads_to(part.plain, ancestors) {
-            let steps = steps_of(types, imports, ancestors, part.plain, part.place)?;
-            self.own_number(imports, &steps)?;
-            imports.call("add_number")?;
-            self.call("add_number", &["types", "&mut numbers", "number"])?;
-            return Ok(());
+    fn add_part(&mut self, part: &Part) -> Result<(), Fault> {
+        if self.leads_back(part) {
+            self.own_number(part)?;
+            return Ok(self.call("add_number", "", &["types", "&mut numbers", "number"])?);
         }
-        let ty = self.registered(types, imports, part.plain, part.place)?;
-        imports.call("add_one")?;
-        let head = format!(in self.alloc(); "add_one::<{ty}>")?;
-        self.call(head.as_str(), &["alloc", "types", "&mut numbers"])?;
-        Ok(())
+        self.call_registered("add_one", part, &["alloc", "types", "&mut numbers"])
     }
 }

@@ -1,6 +1,7 @@
 //! The ids and the names of rows, in which the names of parameters stand for those of their types.
+use crate::body::Writer;
 use schemaderive_rows::{CLOSING, OPENING};
-use schemaderive_text::{Imports, Lines, literal, push_escaped};
+use schemaderive_text::{Lines, literal, push_escaped, push_literal};
 use std::alloc::{AllocError, Global};
 
 /// Whether it is an id or a name.
@@ -12,6 +13,8 @@ pub struct Member {
     pub function: &'static str,
     /// how it is called
     pub variable: &'static str,
+    /// itself as an argument
+    pub argument: &'static str,
 }
 
 /// An id.
@@ -19,6 +22,7 @@ pub const ID: Member = Member {
     says: "id",
     function: "schema_id",
     variable: "id",
+    argument: "id.as_str()",
 };
 
 /// A name.
@@ -26,20 +30,21 @@ pub const NAME: Member = Member {
     says: "name",
     function: "schema_name",
     variable: "name",
+    argument: "name.as_str()",
 };
 
 // A piece of an id or a name.
-#[derive(Drop)]
-enum Piece {
+#[derive(Clone, Copy)]
+enum Piece<'t> {
     // a text
-    Text(String),
+    Text(&'t str),
     // that of the type for which a parameter stands
-    Parameter(String),
+    Parameter(&'t str),
 }
 
 /// Whether an id or a name has parameters.
 pub fn has_parameters(text: &str) -> bool {
-    text.chars().any(|c| c == OPENING)
+    text.contains(OPENING)
 }
 
 /// An id or a name without the brackets of parameters.
@@ -54,133 +59,182 @@ pub fn plain(alloc: Global, text: &str) -> Result<String, AllocError> {
 }
 
 // The pieces of an id or a name. There is at least one.
-fn pieces_of(alloc: Global, text: &str) -> Result<Vec<Piece>, AllocError> {
+fn pieces_of<'t>(alloc: Global, text: &'t str) -> Result<Vec<Piece<'t>>, AllocError> {
     let mut pieces = Vec::new(alloc);
-    let mut piece = String::new(alloc);
-    for c in text.chars() {
-        if c == OPENING && !piece.is_empty() {
-            pieces.push(Piece::Text(String::from_str(alloc, piece.as_str())?))?;
-        }
-        if c == CLOSING {
-            pieces.push(Piece::Parameter(String::from_str(alloc, piece.as_str())?))?;
-        }
-        if c == OPENING || c == CLOSING {
-            piece.clear();
-        } else {
-            piece.push(c)?;
+    for part in text.split(OPENING) {
+        let rest = match part.split_once(CLOSING) {
+            Some((name, rest)) => {
+                pieces.push(Piece::Parameter(name))?;
+                rest
+            }
+            None => part,
+        };
+        if !rest.is_empty() {
+            pieces.push(Piece::Text(rest))?;
         }
     }
-    if !piece.is_empty() || pieces.is_empty() {
-        pieces.push(Piece::Text(piece))?;
+    if pieces.is_empty() {
+        pieces.push(Piece::Text(""))?;
     }
     Ok(pieces)
 }
 
-/// An id or a name in a clause.
-pub fn clause_of(
-    imports: &mut Imports,
-    alloc: Global,
-    text: &str,
-    member: Member,
-) -> Result<String, AllocError> {
-    let pieces = pieces_of(alloc, text)?;
-    let mut clause = String::new(alloc);
-    let mut open = 0usize;
-    for (number, piece) in pieces.iter().enumerate() {
-        if number > 0 {
-            imports.prelude("◌++◌")?;
-            clause.push_str(" ++ ")?;
-            if number.saturating_add(1) < pieces.len() {
-                clause.push('(')?;
-                open = open.saturating_add(1);
+impl<'t> Writer<'t> {
+    /// Adds an id or a name to a clause.
+    pub fn push_clause(
+        &mut self,
+        clause: &mut String,
+        text: &str,
+        member: Member,
+    ) -> Result<(), AllocError> {
+        let pieces = pieces_of(self.alloc(), text)?;
+        self.push_pieces(clause, &pieces, member)
+    }
+
+    fn push_pieces(
+        &mut self,
+        clause: &mut String,
+        pieces: &[Piece<'_>],
+        member: Member,
+    ) -> Result<(), AllocError> {
+        let last = pieces.len().saturating_sub(1);
+        for (number, piece) in pieces.iter().enumerate() {
+            if number > 0 {
+                self.imports.words(&["◌++◌"])?;
+                clause.push_str(if number < last { " ++ (" } else { " ++ " })?;
             }
+            self.push_piece(clause, *piece, member)?;
         }
+        for _ in 1..last {
+            clause.push(')')?;
+        }
+        Ok(())
+    }
+
+    fn push_piece(
+        &mut self,
+        clause: &mut String,
+        piece: Piece<'_>,
+        member: Member,
+    ) -> Result<(), AllocError> {
         match piece {
             Piece::Text(text) => {
-                imports.word("codes")?;
+                self.imports.words(&["codes"])?;
                 clause.push_str("codes ")?;
-                clause.push_str(literal(alloc, text.as_str())?.as_str())?;
+                push_literal(self.alloc(), clause, text)
             }
             Piece::Parameter(name) => {
-                let said = format!(in alloc; "{name}.says.{}", member.says)?;
-                clause.push_str(said.as_str())?;
+                clause.push_str(name)?;
+                clause.push_str(".says.")?;
+                clause.push_str(member.says)
             }
         }
     }
-    for _ in 0..open {
-        clause.push(')')?;
-    }
-    Ok(clause)
 }
 
 // What the pieces of several parameters are called.
 const CALLED: [&str; 6] = ["first", "second", "third", "fourth", "fifth", "sixth"];
 
-// The parameters of an id or a name, each once.
-fn parameters_of(alloc: Global, pieces: &[Piece]) -> Result<Vec<String>, AllocError> {
-    let mut names: Vec<String> = Vec::new(alloc);
-    for piece in pieces {
-        if let Piece::Parameter(name) = piece {
-            if place_in(&names, name.as_str()).is_none() {
-                names.push(String::from_str(alloc, name.as_str())?)?;
-            }
-        }
-    }
-    Ok(names)
-}
-
-fn place_in(names: &[String], name: &str) -> Option<usize> {
-    for (number, known) in names.iter().enumerate() {
-        if known.as_str() == name {
-            return Some(number);
-        }
-    }
-    None
-}
-
-// How what a parameter has is called, of several.
-fn called(
-    alloc: Global,
-    names: &[String],
-    name: &str,
+// An id or a name that is made of those of parameters.
+#[derive(Drop)]
+struct Made<'t> {
     member: Member,
-) -> Result<String, AllocError> {
-    let place = place_in(names, name).unwrap_or(0);
-    match CALLED.get(place) {
-        _ if names.len() == 1 => String::from_str(alloc, member.variable),
-        Some(word) => String::from_str(alloc, word),
-        None => format!(in alloc; "{}_{place}", member.variable),
-    }
+    pieces: Vec<Piece<'t>>,
+    // the parameters, each once
+    names: Vec<&'t str>,
 }
 
-/// Adds the lines that ask for what the parameters of an id or a name have, and returns the call that
-/// makes it of them.
-pub fn made_of(
+/// Adds the lines that ask for what the parameters of an id or a name have, and one that makes it of
+/// them, between these texts.
+pub fn push_made(
+    alloc: Global,
     lines: &mut Lines,
     indent: usize,
     text: &str,
     member: Member,
-) -> Result<String, AllocError> {
-    let alloc = lines.alloc;
-    let pieces = pieces_of(alloc, text)?;
-    let names = parameters_of(alloc, &pieces)?;
-    for name in &names {
-        let variable = called(alloc, &names, name.as_str(), member)?;
-        let function = member.function;
-        let line = format!(in alloc; "let {variable} = {name}::{function}(alloc)?;")?;
-        lines.line(indent, line.as_str())?;
+    around: [&str; 2],
+) -> Result<(), AllocError> {
+    let mut made = Made {
+        member,
+        pieces: pieces_of(alloc, text)?,
+        names: Vec::new(alloc),
+    };
+    made.find_names()?;
+    made.push_names(alloc, lines, indent)?;
+    let pattern = made.pattern(alloc)?;
+    let [before, behind] = around;
+    lines.line(
+        indent,
+        &[before, "format!(in alloc; ", pattern.as_str(), ")", behind],
+    )
+}
+
+impl<'t> Made<'t> {
+    fn find_names(&mut self) -> Result<(), AllocError> {
+        for piece in &self.pieces {
+            if let Piece::Parameter(name) = piece {
+                if !self.names.contains(name) {
+                    self.names.push(name)?;
+                }
+            }
+        }
+        Ok(())
     }
-    let mut pattern = String::new(alloc);
-    for piece in &pieces {
-        match piece {
-            Piece::Text(text) => push_escaped(&mut pattern, text.as_str())?,
-            Piece::Parameter(name) => {
-                let variable = called(alloc, &names, name.as_str(), member)?;
-                let hole = format!(in alloc; "{{{variable}}}")?;
-                pattern.push_str(hole.as_str())?;
+
+    // Adds the lines that ask for what each parameter has.
+    fn push_names(
+        &self,
+        alloc: Global,
+        lines: &mut Lines,
+        indent: usize,
+    ) -> Result<(), AllocError> {
+        for name in &self.names {
+            lines.begin(indent)?;
+            lines.text.push_str("let ")?;
+            self.push_called(alloc, &mut lines.text, name)?;
+            lines.push(&[" = ", name, "::"])?;
+            lines.push(&[self.member.function, "(alloc)?;\n"])?;
+        }
+        Ok(())
+    }
+
+    // The text that is made, with what is put in.
+    fn pattern(&self, alloc: Global) -> Result<String, AllocError> {
+        let mut pattern = String::new(alloc);
+        self.push_pattern(alloc, &mut pattern)?;
+        literal(alloc, pattern.as_str())
+    }
+
+    fn push_pattern(&self, alloc: Global, pattern: &mut String) -> Result<(), AllocError> {
+        for piece in &self.pieces {
+            match piece {
+                Piece::Text(text) => push_escaped(pattern, text)?,
+                Piece::Parameter(name) => {
+                    pattern.push('{')?;
+                    self.push_called(alloc, pattern, name)?;
+                    pattern.push('}')?;
+                }
+            }
+        }
+        Ok(())
+    }
+
+    // Adds how what a parameter has is called.
+    fn push_called(&self, alloc: Global, out: &mut String, name: &str) -> Result<(), AllocError> {
+        let mut place = 0usize;
+        for (number, known) in self.names.iter().enumerate() {
+            if *known == name {
+                place = number;
+            }
+        }
+        let variable = self.member.variable;
+        match CALLED.get(place) {
+            _ if self.names.len() == 1 => out.push_str(variable),
+            Some(word) => out.push_str(word),
+            None => {
+                let word = format!(in alloc; "{variable}_{place}")?;
+                out.push_str(word.as_str())
             }
         }
     }
-    let pattern = literal(alloc, pattern.as_str())?;
-    format!(in alloc; "format!(in alloc; {pattern})?")
 }

@@ -1,257 +1,291 @@
 //! Types that lead back to the type that is described, which are named by their ids.
-use crate::body::{Body, Types};
-use crate::names::{ID, NAME, clause_of, has_parameters, plain};
+use crate::body::{Writer, applied};
+use crate::groups::FIELDS;
+use crate::names::{ID, NAME, has_parameters};
+use schemaderive_definitions::Part;
 use schemaderive_known::{Makeup, Row};
 use schemaderive_syntax::{Fault, Place};
-use schemaderive_text::{Imports, literal};
-use std::alloc::{AllocError, Global};
+use schemaderive_text::{joined, literal, push_all};
+use std::alloc::AllocError;
 
-/// A row that is named by the id of what it is made of.
-#[derive(Drop)]
-pub struct Step {
+/// Which functions name a row, and what is said of it.
+#[derive(Clone, Copy)]
+pub struct Functions {
     /// the function that returns its number
     pub call: &'static str,
     // the function that adds a field of it
     field_call: &'static str,
     // what is said of it
     word: &'static str,
-    // the type of its keys, if it is a map
-    key: Option<String>,
-    /// its length, if it is an array
-    pub length: String,
+}
+
+const DECLARED: Functions = Functions {
+    call: "reserve",
+    field_call: "add_own",
+    word: "IsReserved",
+};
+
+const OPTION: Functions = Functions {
+    call: "option_of",
+    field_call: "add_option_of",
+    word: "IsOptionOf",
+};
+
+const LIST: Functions = Functions {
+    call: "seq_of",
+    field_call: "add_seq_of",
+    word: "IsSeqOf",
+};
+
+const SET: Functions = Functions {
+    call: "set_of",
+    field_call: "add_set_of",
+    word: "IsSetOf",
+};
+
+const ARRAY: Functions = Functions {
+    call: "array_of",
+    field_call: "add_array_of",
+    word: "IsArrayOf",
+};
+
+const MAP: Functions = Functions {
+    call: "map_of",
+    field_call: "add_map_of",
+    word: "IsMapOf",
+};
+
+/// A row that is named by the id of what it is made of.
+#[derive(Clone, Copy)]
+pub struct Step<'t> {
+    /// what names it
+    pub functions: Functions,
+    /// the type of its keys, with whole paths; empty if it is no map
+    pub key: &'t str,
+    /// its length; empty if it is no array
+    pub length: &'t str,
     /// the id of what it is made of
-    pub id: String,
+    pub id: &'t str,
     /// its name
-    pub name: String,
-}
-
-// Which functions name a row of this makeup, and what is said of it.
-fn functions(makeup: Makeup) -> Option<(&'static str, &'static str, &'static str)> {
-    match makeup {
-        Makeup::Declared(_) => Some(("reserve", "add_own", "IsReserved")),
-        Makeup::Optional => Some(("option_of", "add_option_of", "IsOptionOf")),
-        Makeup::List => Some(("seq_of", "add_seq_of", "IsSeqOf")),
-        Makeup::Set => Some(("set_of", "add_set_of", "IsSetOf")),
-        Makeup::Array => Some(("array_of", "add_array_of", "IsArrayOf")),
-        Makeup::Map => Some(("map_of", "add_map_of", "IsMapOf")),
-        Makeup::Plain | Makeup::Other => None,
-    }
-}
-
-/// How a row is named that leads to one of these declarations: the rows that it is made of from the
-/// innermost on, and itself at the end.
-///
-/// # Errors
-///
-/// It is made of them in another way than by Options, lists, sets, arrays and maps.
-pub fn steps_of(
-    types: &Types<'_>,
-    imports: &mut Imports,
-    ancestors: &[usize],
-    row: usize,
-    place: Place,
-) -> Result<Vec<Step>, Fault> {
-    let mut steps = Vec::new(types.context.alloc);
-    let mut at = row;
-    for _ in 0..types.rows.len() {
-        let (step, inner) = step_at(types, imports, ancestors, at, place)?;
-        steps.insert(0, step)?;
-        match inner {
-            Some(inner) => at = inner,
-            None => break,
-        }
-    }
-    drop_inner(&mut steps);
-    Ok(steps)
-}
-
-// What is made of a declaration names it by its id, so that it has no step of its own.
-fn drop_inner(steps: &mut Vec<Step>) {
-    if steps.len() > 1 {
-        let _ = steps.remove(0);
-    }
-}
-
-// The step of a row, and the row that it is made of unless it is that of a declaration. With
-// arguments the row of the type itself alone is named.
-fn step_at(
-    types: &Types<'_>,
-    imports: &mut Imports,
-    ancestors: &[usize],
-    row: usize,
-    place: Place,
-) -> Result<(Step, Option<usize>), Fault> {
-    let Some(entry) = types.rows.get(row) else {
-        return Err(types.context.refused(place, UNSAID));
-    };
-    let Some((call, field_call, word)) = functions(entry.makeup) else {
-        return Err(unsaid(types, entry, place)?);
-    };
-    let mut inner = entry.parts.last().copied();
-    if let Makeup::Declared(_) = entry.makeup {
-        if inner.is_some() && row != types.own {
-            return Err(unsaid(types, entry, place)?);
-        }
-        inner = None;
-    }
-    let mut key = None;
-    if entry.makeup == Makeup::Map {
-        let of_key = entry.parts.first().copied().unwrap_or(row);
-        if types.leads_to(of_key, ancestors) {
-            return Err(unsaid(types, entry, place)?);
-        }
-        key = Some(types.short(imports, of_key, place)?);
-    }
-    let (id, name) = types.id_and_name(inner.unwrap_or(row))?;
-    let step = Step {
-        call,
-        field_call,
-        word,
-        key,
-        length: String::from_str(types.context.alloc, entry.length.as_str())?,
-        id,
-        name,
-    };
-    Ok((step, inner))
+    pub name: &'t str,
 }
 
 const UNSAID: &str = "what contains itself is named in Options, lists, sets, arrays and maps alone";
 
-// The refusal of a row that is made of the type in another way.
-fn unsaid(types: &Types<'_>, entry: &Row, place: Place) -> Result<Fault, AllocError> {
-    let name = plain(types.context.alloc, entry.name.as_str())?;
-    Ok(types.context.refused_name(place, name.as_str(), UNSAID))
-}
-
-impl Step {
+impl<'t> Step<'t> {
     // Whether parameters of the type are in the id or the name.
     fn has_parameters(&self) -> bool {
-        has_parameters(self.id.as_str()) || has_parameters(self.name.as_str())
+        has_parameters(self.id) || has_parameters(self.name)
+    }
+}
+
+impl<'t> Writer<'t> {
+    // How a part is named by which the type leads to itself: itself, and then the rows that it is made
+    // of but that of the declaration, which they name by its id.
+    fn steps_of(&mut self, part: &Part) -> Result<Vec<Step<'t>>, Fault> {
+        let mut steps = Vec::new(self.alloc());
+        let mut at = part.plain;
+        for _ in 0..self.types.rows.len() {
+            let (step, inner) = self.step_at(at, part.place)?;
+            if inner.is_some() || steps.is_empty() {
+                steps.push(step)?;
+            }
+            match inner {
+                Some(inner) => at = inner,
+                None => break,
+            }
+        }
+        Ok(steps)
     }
 
-    /// A function with the type of the keys, if there is one.
-    pub fn head(&self, alloc: Global, function: &str) -> Result<String, AllocError> {
-        match &self.key {
-            Some(key) => format!(in alloc; "{function}::<{}>", key.as_str()),
-            None => String::from_str(alloc, function),
+    // The step of a row, and the row that it is made of unless it is that of a declaration.
+    fn step_at(&mut self, row: usize, place: Place) -> Result<(Step<'t>, Option<usize>), Fault> {
+        let types = self.types;
+        let Some(entry) = types.rows.get(row) else {
+            return Err(types.context.refused(place, UNSAID));
+        };
+        let Some(functions) = self.functions_of(row, entry) else {
+            return Err(types.refused_row(entry, place, UNSAID));
+        };
+        let key = match entry.makeup {
+            Makeup::Map => self.key_of(key_row(row, entry), place)?,
+            _ => "",
+        };
+        let inner = match entry.makeup {
+            Makeup::Declared(_) => None,
+            _ => entry.parts.last().copied(),
+        };
+        let made_of = types.rows.get(inner.unwrap_or(row)).unwrap_or(entry);
+        let step = Step {
+            functions,
+            key,
+            length: entry.length.as_str(),
+            id: made_of.id.as_str(),
+            name: made_of.name.as_str(),
+        };
+        Ok((step, inner))
+    }
+
+    // Which functions name a row; none if it is made of the type in another way. With arguments the
+    // row of the type itself alone is named.
+    fn functions_of(&self, row: usize, entry: &Row) -> Option<Functions> {
+        match entry.makeup {
+            Makeup::Declared(_) if !entry.parts.is_empty() && row != self.own => None,
+            Makeup::Map if self.types.leads_to(key_row(row, entry), self.ancestors) => None,
+            Makeup::Declared(_) => Some(DECLARED),
+            Makeup::Optional => Some(OPTION),
+            Makeup::List => Some(LIST),
+            Makeup::Set => Some(SET),
+            Makeup::Array => Some(ARRAY),
+            Makeup::Map => Some(MAP),
+            Makeup::Plain | Makeup::Other => None,
         }
     }
 
-    /// What is said of the row.
-    pub fn clause(&self, imports: &mut Imports, alloc: Global) -> Result<String, AllocError> {
-        let id = clause_of(imports, alloc, self.id.as_str(), ID)?;
-        let name = clause_of(imports, alloc, self.name.as_str(), NAME)?;
-        let (word, id, name) = (self.word, id.as_str(), name.as_str());
-        let first = match &self.key {
-            Some(key) => format!(in alloc; " ⟦<{} as JsonSchema>⟧.says", key.as_str())?,
-            None if self.length.is_empty() => String::new(alloc),
-            None => format!(in alloc; " {}", self.length.as_str())?,
-        };
-        format!(in alloc; "{word}{} ({id}) ({name}) d", first.as_str())
+    // The type of keys, with whole paths.
+    fn key_of(&mut self, row: usize, place: Place) -> Result<&'t str, Fault> {
+        let rows = self.types.rows;
+        let _short = self.short(row, place)?;
+        match rows.get(row) {
+            Some(entry) => Ok(entry.ty.as_str()),
+            None => Ok(""),
+        }
     }
-}
 
-impl Body {
-    /// Says of rows what their steps say.
-    pub fn say_steps(&mut self, imports: &mut Imports, steps: &[Step]) -> Result<(), AllocError> {
-        for step in steps {
-            imports.word(step.word)?;
-            let clause = step.clause(imports, self.alloc())?;
+    /// What is said of the row of a step.
+    pub fn step_clause(&mut self, step: &Step<'_>) -> Result<String, AllocError> {
+        let mut clause = String::new(self.alloc());
+        self.push_step(&mut clause, step)?;
+        Ok(clause)
+    }
+
+    fn push_step(&mut self, clause: &mut String, step: &Step<'_>) -> Result<(), AllocError> {
+        clause.push_str(step.functions.word)?;
+        self.push_first(clause, step)?;
+        clause.push_str(" (")?;
+        self.push_clause(clause, step.id, ID)?;
+        clause.push_str(") (")?;
+        self.push_clause(clause, step.name, NAME)?;
+        clause.push_str(") d")
+    }
+
+    // Adds what is said of the keys of a map or the length of an array.
+    fn push_first(&mut self, clause: &mut String, step: &Step<'_>) -> Result<(), AllocError> {
+        if !step.key.is_empty() {
+            let key = self.imports.short(step.key)?;
+            return push_all(clause, &[" ⟦<", key.as_str(), " as JsonSchema>⟧.says"]);
+        }
+        let space = if step.length.is_empty() { "" } else { " " };
+        push_all(clause, &[space, step.length])
+    }
+
+    // Says of rows what their steps say, and adds the calls of all steps but the first, from the
+    // innermost on.
+    fn inner_steps(&mut self, steps: &[Step<'_>]) -> Result<(), AllocError> {
+        for step in steps.iter().rev() {
+            self.imports.words(&[step.functions.word])?;
+            let clause = self.step_clause(step)?;
             self.says.push(clause)?;
+        }
+        for step in steps.iter().skip(1).rev() {
+            self.step_call("", step)?;
         }
         Ok(())
     }
 
-    // Adds the calls of all steps but the last, and returns the last.
-    fn first_steps<'s>(
-        &mut self,
-        imports: &mut Imports,
-        steps: &'s [Step],
-    ) -> Result<Option<&'s Step>, AllocError> {
-        self.say_steps(imports, steps)?;
-        let Some((last, before)) = steps.split_last() else {
-            return Ok(None);
-        };
-        for step in before {
-            self.step_call(imports, "", step)?;
-        }
-        Ok(Some(last))
-    }
-
     // Adds the call that returns the number of the row of a step, behind this beginning of a line.
-    fn step_call(
-        &mut self,
-        imports: &mut Imports,
-        begin: &str,
-        step: &Step,
-    ) -> Result<(), AllocError> {
-        let alloc = self.alloc();
-        imports.call(step.call)?;
-        if step.has_parameters() {
-            let function = self.row_function(imports, step)?;
-            let head = format!(in alloc; "{begin}{function}")?;
-            return self.call(head.as_str(), &["alloc", "types"]);
+    fn step_call(&mut self, begin: &str, step: &Step<'_>) -> Result<(), AllocError> {
+        self.imports.call(step.functions.call)?;
+        if !step.has_parameters() {
+            return self.named_call(begin, step.functions.call, ["", "", ""], step);
         }
-        let call = step.head(alloc, step.call)?;
-        let head = format!(in alloc; "{begin}{call}")?;
-        let id = literal(alloc, step.id.as_str())?;
-        let name = literal(alloc, step.name.as_str())?;
-        let (id, name, length) = (id.as_str(), name.as_str(), step.length.as_str());
-        if length.is_empty() {
-            return self.call(head.as_str(), &["alloc", "types", id, name]);
-        }
-        self.call(head.as_str(), &["alloc", "types", id, name, length])
+        let function = self.row_function(step)?;
+        self.call_head(&[begin, function.as_str()], &["alloc", "types"])
     }
 
-    /// Adds a field of a row that is named by these steps.
-    pub fn own_field(
+    // Adds a call of a function with the id and the name of a step among its arguments: behind two
+    // that a field has, and before one.
+    fn named_call(
         &mut self,
-        imports: &mut Imports,
-        steps: &[Step],
-        name: &str,
-        required: &str,
+        begin: &str,
+        function: &str,
+        field: [&str; 3],
+        step: &Step<'_>,
     ) -> Result<(), AllocError> {
-        let Some(last) = self.first_steps(imports, steps)? else {
-            return Ok(());
-        };
-        let field = literal(self.alloc(), name)?;
-        let field = field.as_str();
-        let fields = self.argument("fields")?;
-        let fields = fields.as_str();
-        if last.has_parameters() {
-            self.step_call(imports, "let number = ", last)?;
-            imports.call("add_field_of")?;
-            return self.call(
-                "add_field_of",
-                &["alloc", "types", fields, field, "number", required],
-            );
-        }
-        imports.call(last.field_call)?;
-        let head = last.head(self.alloc(), last.field_call)?;
-        let id = literal(self.alloc(), last.id.as_str())?;
-        let called = literal(self.alloc(), last.name.as_str())?;
+        let id = literal(self.alloc(), step.id)?;
+        let called = literal(self.alloc(), step.name)?;
+        let key = self.imports.short(step.key)?;
+        let head = joined(self.alloc(), &applied(function, key.as_str()))?;
+        let [fields, field, required] = field;
         let (id, called) = (id.as_str(), called.as_str());
-        let length = last.length.as_str();
-        let head = head.as_str();
-        if length.is_empty() {
-            return self.call(
-                head,
-                &["alloc", "types", fields, field, id, called, required],
-            );
-        }
-        self.call(
-            head,
+        self.call_head(
+            &[begin, head.as_str()],
             &[
-                "alloc", "types", fields, field, id, called, length, required,
+                "alloc",
+                "types",
+                fields,
+                field,
+                id,
+                called,
+                step.length,
+                required,
             ],
         )
     }
 
-    /// Adds a line that gives the number of a row that is named by these steps the name `number`.
-    pub fn own_number(&mut self, imports: &mut Imports, steps: &[Step]) -> Result<(), AllocError> {
-        let Some(last) = self.first_steps(imports, steps)? else {
-            return Ok(());
-        };
-        self.step_call(imports, "let number = ", last)
+    /// Adds a field by which the type leads to itself.
+    ///
+    /// # Errors
+    ///
+    /// Its type can't be named.
+    pub fn own_field<'x>(
+        &mut self,
+        part: &Part,
+        name: &'x str,
+        required: &'x str,
+    ) -> Result<(), Fault> {
+        let steps = self.steps_of(part)?;
+        self.inner_steps(&steps)?;
+        match steps.first() {
+            Some(step) => Ok(self.step_field(step, name, required)?),
+            None => Ok(()),
+        }
     }
+
+    fn step_field<'x>(
+        &mut self,
+        step: &Step<'_>,
+        name: &'x str,
+        required: &'x str,
+    ) -> Result<(), AllocError> {
+        let fields = self.argument(FIELDS);
+        if step.has_parameters() {
+            self.step_call("let number = ", step)?;
+            let arguments = ["alloc", "types", fields, name, "number", required];
+            return self.call("add_field_of", "", &arguments);
+        }
+        let function = step.functions.field_call;
+        self.imports.call(function)?;
+        self.named_call("", function, [fields, name, required], step)
+    }
+
+    /// Adds a line that gives the number of the row of a part by which the type leads to itself the name
+    /// `number`.
+    ///
+    /// # Errors
+    ///
+    /// Its type can't be named.
+    pub fn own_number(&mut self, part: &Part) -> Result<(), Fault> {
+        let steps = self.steps_of(part)?;
+        self.inner_steps(&steps)?;
+        match steps.first() {
+            Some(step) => Ok(self.step_call("let number = ", step)?),
+            None => Ok(()),
+        }
+    }
+}
+
+// The row of the keys of a map.
+fn key_row(row: usize, entry: &Row) -> usize {
+    entry.parts.first().copied().unwrap_or(row)
 }

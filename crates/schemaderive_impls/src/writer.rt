@@ -1,18 +1,24 @@
 //! The implementations of the types of a source.
-use crate::body::Types;
-use crate::headers::{Header, header_of};
-use crate::items::{Subject, push_item};
-use crate::leading::{add_new, ancestors_of, mentions_of};
-use schemaderive_definitions::{Content, Definition, Members, Part, Payload, definition_of};
+use crate::body::{Types, Writer};
+use crate::headers::header_of;
+use crate::items::Subject;
+use crate::leading::{ancestors_of, mentions_of};
+use schemaderive_definitions::{Definition, definition_of};
 use schemaderive_options::{Context, Contract, derives};
 use schemaderive_rows::{Builder, Scope, Standing, one_field};
-use schemaderive_syntax::{Declaration, Fault, Place, Refusal, Source};
-use schemaderive_text::{Imports, Lines};
+use schemaderive_syntax::{Declaration, Fault, Parameter, Place, Refusal, Source};
+use schemaderive_text::Lines;
 use std::alloc::{AllocError, Global};
 use std::mem;
 
 // How deep types may nest.
 const MAX_DEPTH: usize = 128;
+
+// What is behind the first line of a file.
+const HEAD: &str = "
+#![tactic(auto, using(schemars::proofs::OwnTypes::own_types))]
+
+";
 
 /// A file of implementations.
 #[derive(Drop)]
@@ -36,23 +42,24 @@ pub fn implementations_of<'a>(
     contract: Contract,
     first: &str,
 ) -> Result<Implementations, Fault> {
-    let context = Context::new(alloc, contract);
-    let mut builder = Builder::new(context, source)?;
+    let mut builder = Builder::new(Context::new(alloc, contract), source)?;
     builder.home = Some(String::from_str(alloc, module)?);
-    let subjects = subjects_of(&mut builder)?;
-    if subjects.is_empty() {
-        let place = Place { line: 0, column: 0 };
-        return Err(
-            builder
-                .context
-                .refused(place, "no type of the source derives JsonSchema"),
-        );
-    }
-    let text = file_of(&builder, &subjects, first)?;
+    let text = text_of(&mut builder, first)?;
     Ok(Implementations {
         text,
         warnings: mem::replace(&mut builder.context.warnings, Vec::new(alloc)),
     })
+}
+
+// The text of the file.
+fn text_of(builder: &mut Builder<'_>, first: &str) -> Result<String, Fault> {
+    let subjects = subjects_of(builder)?;
+    if subjects.is_empty() {
+        let place = Place { line: 0, column: 0 };
+        let reason = "no type of the source derives JsonSchema";
+        return Err(builder.context.refused(place, reason));
+    }
+    file_of(builder, &subjects, first)
 }
 
 // What is to be implemented.
@@ -74,185 +81,112 @@ fn subject_of(
     number: usize,
     declaration: &Declaration<'_>,
 ) -> Result<Subject, Fault> {
-    let place = declaration.place;
     let header = header_of(builder, declaration)?;
     let mut scope = builder.parameter_scope(declaration)?;
-    let row = match builder.standing(declaration)? {
-        Standing::Itself => {
-            let own = builder.parameter_scope(declaration)?;
-            let row = builder.reserve(number, declaration, own)?;
-            scope.this = Some(row);
-            return defined(builder, number, scope, place, row, header);
-        }
-        Standing::Type(other) => builder.row_of(&other, &scope, place, MAX_DEPTH)?,
-        Standing::Field => match one_field(&declaration.body) {
-            Some(field) => builder.row_of(&field.ty, &scope, place, MAX_DEPTH)?,
-            None => return Err(builder.context.refused(place, "a field is wanted")),
-        },
-    };
+    let (row, definition) = standing_of(builder, number, declaration, &mut scope)?;
     Ok(Subject {
-        place,
+        place: declaration.place,
         number,
         row,
         header,
-        definition: None,
+        definition,
     })
 }
 
-// A type with a row of its own.
-fn defined(
+// The row of a type, and what it is unless the row is that of another.
+fn standing_of(
     builder: &mut Builder<'_>,
     number: usize,
-    scope: Scope,
-    place: Place,
-    row: usize,
-    header: Header,
-) -> Result<Subject, Fault> {
-    let definition = definition_of(builder, number, &scope)?;
-    Ok(Subject {
-        place,
-        number,
-        row,
-        header,
-        definition: Some(definition),
-    })
+    declaration: &Declaration<'_>,
+    scope: &mut Scope,
+) -> Result<(usize, Option<Definition>), Fault> {
+    let place = declaration.place;
+    match builder.standing(declaration)? {
+        Standing::Itself => own_standing(builder, number, declaration, scope),
+        Standing::Type(other) => Ok((builder.row_of(&other, scope, place, MAX_DEPTH)?, None)),
+        Standing::Field => match one_field(&declaration.body) {
+            Some(field) => Ok((builder.row_of(&field.ty, scope, place, MAX_DEPTH)?, None)),
+            None => Err(builder.context.refused(place, "a field is wanted")),
+        },
+    }
+}
+
+// The row of a type with one of its own, and what it is.
+fn own_standing(
+    builder: &mut Builder<'_>,
+    number: usize,
+    declaration: &Declaration<'_>,
+    scope: &mut Scope,
+) -> Result<(usize, Option<Definition>), Fault> {
+    let own = builder.parameter_scope(declaration)?;
+    let row = builder.reserve(number, declaration, own)?;
+    scope.this = Some(row);
+    Ok((row, Some(definition_of(builder, number, scope)?)))
 }
 
 // The text of a file with these implementations.
 fn file_of(builder: &Builder<'_>, subjects: &[Subject], first: &str) -> Result<String, Fault> {
     let alloc = builder.alloc();
+    let count = builder.source.declarations.len();
     let mentions = mentions_of(alloc, &builder.rows)?;
-    let leads = leads_of(
-        alloc,
-        builder.source.declarations.len(),
-        subjects,
-        &mentions,
-    )?;
-    let ancestors = ancestors_of(alloc, &leads)?;
-    let mut imports = Imports::new(alloc)?;
+    let ancestors = ancestors_of(alloc, count, subjects, &mentions)?;
+    let mut writer = Writer::new(Types {
+        context: &builder.context,
+        rows: &builder.rows,
+        mentions: &mentions,
+    })?;
+    add_items(builder, &mut writer, subjects, &ancestors)?;
+    Ok(with_head(&writer, first)?)
+}
+
+fn add_items<'t>(
+    builder: &Builder<'_>,
+    writer: &mut Writer<'t>,
+    subjects: &'t [Subject],
+    ancestors: &'t [Vec<usize>],
+) -> Result<(), Fault> {
     for subject in subjects {
-        keep_parameters(builder, &mut imports, subject)?;
+        keep_parameters(builder, writer, subject)?;
     }
-    let mut items = Lines::new(alloc);
     for subject in subjects {
-        let types = Types {
-            context: &builder.context,
-            rows: &builder.rows,
-            mentions: &mentions,
-            own: subject.row,
-        };
         let named = match ancestors.get(subject.number) {
             Some(named) => named.as_slice(),
             None => &[],
         };
-        items.line(0, "")?;
-        push_item(&types, &mut imports, &mut items, named, subject)?;
+        writer.add_item(subject, named)?;
     }
-    Ok(with_head(alloc, &imports, &items, first)?)
+    Ok(())
 }
 
 // Keeps the names of a type's parameters from standing for something else in the file.
 fn keep_parameters(
     builder: &Builder<'_>,
-    imports: &mut Imports,
+    writer: &mut Writer<'_>,
     subject: &Subject,
 ) -> Result<(), Fault> {
-    for name in &subject.header.parameters {
-        if !imports.keep(name.as_str())? {
-            let reason = "the file has this name for something else than a parameter";
-            return Err(
-                builder
-                    .context
-                    .refused_name(subject.place, name.as_str(), reason),
-            );
+    let Some(declaration) = builder.source.declarations.get(subject.number) else {
+        return Ok(());
+    };
+    for parameter in &declaration.parameters {
+        if let Parameter::Type(name, _) = parameter {
+            if !writer.imports.keep(name)? {
+                let reason = "the file has this name for something else than a parameter";
+                return Err(builder.context.refused_name(subject.place, name, reason));
+            }
         }
     }
     Ok(())
 }
 
-// The text of a file with these items.
-fn with_head(
-    alloc: Global,
-    imports: &Imports,
-    items: &Lines,
-    first: &str,
-) -> Result<String, AllocError> {
-    let mut file = Lines::new(alloc);
-    file.line(0, first)?;
-    file.line(
-        0,
-        "#![tactic(auto, using(schemars::proofs::OwnTypes::own_types))]",
-    )?;
-    file.line(0, "")?;
-    imports.push_lines(&mut file)?;
-    file.text.push_str(items.text.as_str())?;
+// The text of a file with what is written.
+fn with_head(writer: &Writer<'_>, first: &str) -> Result<String, AllocError> {
+    let mut file = Lines::new(writer.alloc());
+    push_file(&mut file, writer, first)?;
     Ok(file.text)
 }
 
-// The declarations to which each of so many leads.
-fn leads_of(
-    alloc: Global,
-    count: usize,
-    subjects: &[Subject],
-    mentions: &[Vec<usize>],
-) -> Result<Vec<Vec<usize>>, AllocError> {
-    let mut leads: Vec<Vec<usize>> = Vec::new(alloc);
-    for _ in 0..count {
-        leads.push(Vec::new(alloc))?;
-    }
-    for subject in subjects {
-        let rows = rows_in(alloc, subject)?;
-        if let Some(list) = leads.get_mut(subject.number) {
-            for row in &rows {
-                if let Some(more) = mentions.get(*row) {
-                    add_new(list, more)?;
-                }
-            }
-        }
-    }
-    Ok(leads)
-}
-
-// The rows of the types that an implementation names.
-fn rows_in(alloc: Global, subject: &Subject) -> Result<Vec<usize>, AllocError> {
-    let mut rows = Vec::new(alloc);
-    match &subject.definition {
-        Some(definition) => add_rows(&mut rows, definition)?,
-        None => rows.push(subject.row)?,
-    }
-    Ok(rows)
-}
-
-fn add_rows(rows: &mut Vec<usize>, definition: &Definition) -> Result<(), AllocError> {
-    match &definition.content {
-        Content::Null => Ok(()),
-        Content::Newtype(part) => Ok(rows.push(part.plain)?),
-        Content::Tuple(parts) => add_parts(rows, parts),
-        Content::Struct(members) => add_members(rows, members),
-        Content::Enum(choices) => {
-            for choice in &choices.list {
-                match &choice.payload {
-                    Payload::Unit => {}
-                    Payload::Newtype(part) => rows.push(part.plain)?,
-                    Payload::Tuple(parts) => add_parts(rows, parts)?,
-                    Payload::Struct(members) => add_members(rows, members)?,
-                }
-            }
-            Ok(())
-        }
-    }
-}
-
-fn add_parts(rows: &mut Vec<usize>, parts: &[Part]) -> Result<(), AllocError> {
-    for part in parts {
-        rows.push(part.plain)?;
-    }
-    Ok(())
-}
-
-fn add_members(rows: &mut Vec<usize>, members: &Members) -> Result<(), AllocError> {
-    for member in &members.list {
-        rows.push(member.part.plain)?;
-    }
-    Ok(())
+fn push_file(file: &mut Lines, writer: &Writer<'_>, first: &str) -> Result<(), AllocError> {
+    file.push(&[first, HEAD])?;
+    writer.imports.push_lines(file)?;
+    file.text.push_str(writer.items.text.as_str())
 }

@@ -1,7 +1,10 @@
 //! The names that a file brings in.
-use crate::lines::Lines;
+use crate::lines::{LINE, Lines, width};
 use std::alloc::{AllocError, Global};
-use std::collections::BTreeMap;
+use std::collections::{BTreeMap, BTreeSet};
+
+// How many characters a `use` on one line has at most.
+const USE: usize = 98;
 
 // What each file of implementations names.
 const ALWAYS: [&str; 7] = [
@@ -14,10 +17,19 @@ const ALWAYS: [&str; 7] = [
     "std::borrow::CowStr",
 ];
 
-// Names that stand for what they always do.
-const TAKEN: [&str; 7] = ["Box", "Ok", "Option", "Result", "Self", "String", "Vec"];
+// Names that stand for what they always do, and where that is if it has to be brought in.
+const TAKEN: [(&str, &str); 8] = [
+    ("Box", ""),
+    ("Ok", ""),
+    ("Option", ""),
+    ("Result", ""),
+    ("Self", ""),
+    ("String", ""),
+    ("Value", "serde_json::Value"),
+    ("Vec", ""),
+];
 
-// The words of clauses, in the order in which they are brought in.
+// The words of clauses that are none of std's prelude, in the order in which they are brought in.
 const WORDS: [&str; 24] = [
     "codes",
     "Describes",
@@ -54,9 +66,7 @@ pub struct Imports {
     // the names of each module, in their order
     modules: BTreeMap<String, BTreeMap<String, String>>,
     // the words of clauses
-    words: BTreeMap<String, bool>,
-    // the words of std's prelude
-    prelude: BTreeMap<String, bool>,
+    words: BTreeSet<&'static str>,
     // how many functions there are whose names begin so
     functions: BTreeMap<String, usize>,
 }
@@ -68,21 +78,21 @@ impl Imports {
             alloc,
             paths: BTreeMap::new(alloc),
             modules: BTreeMap::new(alloc),
-            words: BTreeMap::new(alloc),
-            prelude: BTreeMap::new(alloc),
+            words: BTreeSet::new(alloc),
             functions: BTreeMap::new(alloc),
         };
-        for name in TAKEN {
-            let name = String::from_str(alloc, name)?;
-            imports.paths.insert(name, String::new(alloc))?;
-        }
-        let value = String::from_str(alloc, "Value")?;
-        let path = String::from_str(alloc, "serde_json::Value")?;
-        imports.paths.insert(value, path)?;
-        for path in ALWAYS {
-            imports.add(path)?;
-        }
+        imports.begin()?;
         Ok(imports)
+    }
+
+    fn begin(&mut self) -> Result<(), AllocError> {
+        for (name, path) in TAKEN {
+            put(self.alloc, &mut self.paths, name, path)?;
+        }
+        for path in ALWAYS {
+            self.add(path)?;
+        }
+        Ok(())
     }
 
     /// Brings in what has this path, unless its name stands for something else, and tells whether
@@ -91,29 +101,32 @@ impl Imports {
         let Some((module, name)) = path.rsplit_once("::") else {
             return Ok(false);
         };
-        match self.paths.get(name) {
-            Some(there) if there.as_str() != path => return Ok(false),
-            _ => {}
+        if !self.stands_for(name, path)? {
+            return Ok(false);
         }
-        let key = String::from_str(self.alloc, name)?;
-        let whole = String::from_str(self.alloc, path)?;
-        self.paths.insert(key, whole)?;
         self.add_to(module, name)?;
         Ok(true)
     }
 
-    fn add_to(&mut self, module: &str, name: &str) -> Result<(), AllocError> {
-        let place = place_of(self.alloc, name)?;
-        let name = String::from_str(self.alloc, name)?;
-        if let Some(names) = self.modules.get_mut(module) {
-            names.insert(place, name)?;
-            return Ok(());
+    // Whether a name stands for what has this path, which it does if it stood for nothing.
+    fn stands_for(&mut self, name: &str, path: &str) -> Result<bool, AllocError> {
+        if let Some(there) = self.paths.get(name) {
+            return Ok(there.as_str() == path);
         }
-        let mut names = BTreeMap::new(self.alloc);
-        names.insert(place, name)?;
-        let module = String::from_str(self.alloc, module)?;
-        self.modules.insert(module, names)?;
-        Ok(())
+        put(self.alloc, &mut self.paths, name, path)?;
+        Ok(true)
+    }
+
+    fn add_to(&mut self, module: &str, name: &str) -> Result<(), AllocError> {
+        if !self.modules.contains_key(module) {
+            let module = String::from_str(self.alloc, module)?;
+            self.modules.insert(module, BTreeMap::new(self.alloc))?;
+        }
+        let place = place_of(self.alloc, name)?;
+        match self.modules.get_mut(module) {
+            Some(names) => put(self.alloc, names, place.as_str(), name),
+            None => Ok(()),
+        }
     }
 
     /// Brings in a function or a constant for implementations.
@@ -123,38 +136,25 @@ impl Imports {
 
     /// Keeps a name for a parameter, and tells whether it stood for nothing else.
     pub fn keep(&mut self, name: &str) -> Result<bool, AllocError> {
-        match self.paths.get(name) {
-            Some(there) => Ok(there.as_str() == name),
-            None => {
-                let key = String::from_str(self.alloc, name)?;
-                self.paths.insert(key, String::from_str(self.alloc, name)?)?;
-                Ok(true)
-            }
+        self.stands_for(name, name)
+    }
+
+    /// Brings in words of clauses.
+    pub fn words(&mut self, words: &[&'static str]) -> Result<(), AllocError> {
+        for word in words {
+            let _ = self.words.insert(*word)?;
         }
-    }
-
-    /// Brings in a word of std's prelude.
-    pub fn prelude(&mut self, word: &str) -> Result<(), AllocError> {
-        let word = String::from_str(self.alloc, word)?;
-        self.prelude.insert(word, true)?;
-        Ok(())
-    }
-
-    /// Brings in a word of clauses.
-    pub fn word(&mut self, word: &str) -> Result<(), AllocError> {
-        let word = String::from_str(self.alloc, word)?;
-        self.words.insert(word, true)?;
         Ok(())
     }
 
     /// The name of a function that this type needs for this.
     pub fn function_name(&mut self, ty: &str, what: &str) -> Result<String, AllocError> {
-        let ty = small_name(self.alloc, ty)?;
-        let name = format!(in self.alloc; "{ty}_{what}")?;
-        let number = match self.functions.get(name.as_str()) {
-            Some(count) => count.saturating_add(1),
-            None => 1,
-        };
+        let mut name = String::new(self.alloc);
+        push_small(&mut name, ty)?;
+        name.push('_')?;
+        name.push_str(what)?;
+        let before = self.functions.get(name.as_str()).copied().unwrap_or(0);
+        let number = before.saturating_add(1);
         let whole = format!(in self.alloc; "{name}_{number}")?;
         self.functions.insert(name, number)?;
         Ok(whole)
@@ -164,20 +164,30 @@ impl Imports {
     pub fn short(&mut self, ty: &str) -> Result<String, AllocError> {
         let mut out = String::new(self.alloc);
         let mut path = String::new(self.alloc);
+        self.push_type(&mut out, &mut path, ty)?;
+        Ok(out)
+    }
+
+    // Adds a type whose paths are shortened; the path in which it is stands beside.
+    fn push_type(
+        &mut self,
+        out: &mut String,
+        path: &mut String,
+        ty: &str,
+    ) -> Result<(), AllocError> {
         for c in ty.chars() {
             if c.is_alphanumeric() || c == '_' || c == ':' {
                 path.push(c)?;
             } else {
-                self.push_short(&mut out, path.as_str())?;
+                self.push_path(out, path.as_str())?;
                 path.clear();
                 out.push(c)?;
             }
         }
-        self.push_short(&mut out, path.as_str())?;
-        Ok(out)
+        self.push_path(out, path.as_str())
     }
 
-    fn push_short(&mut self, out: &mut String, path: &str) -> Result<(), AllocError> {
+    fn push_path(&mut self, out: &mut String, path: &str) -> Result<(), AllocError> {
         match path.rsplit_once("::") {
             Some((_, name)) if self.add(path)? => out.push_str(name),
             _ => out.push_str(path),
@@ -186,68 +196,141 @@ impl Imports {
 
     /// Adds the lines that bring the names in.
     pub fn push_lines(&self, lines: &mut Lines) -> Result<(), AllocError> {
-        let mut prelude = Vec::new(self.alloc);
-        for (word, _) in self.prelude.iter() {
-            prelude.push(word.as_str())?;
-        }
-        push_words(lines, "Rattle.std.specs.Prelude", &prelude)?;
-        let mut words = Vec::new(self.alloc);
-        for word in WORDS {
-            if self.words.contains_key(word) {
-                words.push(word)?;
-            }
-        }
-        push_words(lines, "Rattle.schemars.specs.Words", &words)?;
-        lines.line(0, "")?;
+        self.push_prelude(lines)?;
+        self.push_words(lines)?;
+        lines.text.push('\n')?;
         self.push_modules(lines, true)?;
         self.push_modules(lines, false)
+    }
+
+    // Adds the line of the words of std's prelude, if there are any.
+    fn push_prelude(&self, lines: &mut Lines) -> Result<(), AllocError> {
+        let mut is_first = true;
+        for word in self.words.iter() {
+            if !WORDS.contains(word) {
+                push_word(lines, is_first, "std.specs.Prelude", word)?;
+                is_first = false;
+            }
+        }
+        end_words(lines, is_first)
+    }
+
+    // Adds the line of the other words, if there are any.
+    fn push_words(&self, lines: &mut Lines) -> Result<(), AllocError> {
+        let mut is_first = true;
+        for word in &WORDS {
+            if self.words.contains(word) {
+                push_word(lines, is_first, "schemars.specs.Words", word)?;
+                is_first = false;
+            }
+        }
+        end_words(lines, is_first)
     }
 
     // Adds the names of the modules of the crate, or else of the other ones.
     fn push_modules(&self, lines: &mut Lines, is_own: bool) -> Result<(), AllocError> {
         for (module, names) in self.modules.iter() {
             if is_in_crate(module.as_str()) == is_own {
-                let mut list = Vec::new(self.alloc);
-                for (_, name) in names.iter() {
-                    list.push(name.as_str())?;
-                }
-                lines.import(module.as_str(), &list)?;
+                push_use(lines, module.as_str(), names)?;
             }
         }
         Ok(())
     }
 }
 
-// Adds a line that brings in words of a module, unless there are none.
-fn push_words(lines: &mut Lines, module: &str, words: &[&str]) -> Result<(), AllocError> {
-    if words.is_empty() {
-        return Ok(());
-    }
-    let list = crate::lines::joined(lines.alloc, words)?;
-    let line = format!(in lines.alloc; "ghost use {module}.{{{}}};", list.as_str())?;
-    lines.line(0, line.as_str())
+// Sets the text that a name has.
+fn put(
+    alloc: Global,
+    texts: &mut BTreeMap<String, String>,
+    name: &str,
+    text: &str,
+) -> Result<(), AllocError> {
+    let name = String::from_str(alloc, name)?;
+    let text = String::from_str(alloc, text)?;
+    texts.insert(name, text)?;
+    Ok(())
 }
 
-// The name of a type in small letters, with `_` between its words.
-fn small_name(alloc: Global, ty: &str) -> Result<String, AllocError> {
-    let mut name = String::new(alloc);
+// Adds a word of a module to the line that brings it in.
+fn push_word(
+    lines: &mut Lines,
+    is_first: bool,
+    module: &str,
+    word: &str,
+) -> Result<(), AllocError> {
+    if is_first {
+        return lines.push(&["ghost use Rattle.", module, ".{", word]);
+    }
+    lines.push(&[", ", word])
+}
+
+// Ends such a line, if it has a word.
+fn end_words(lines: &mut Lines, is_empty: bool) -> Result<(), AllocError> {
+    lines.text.push_str(if is_empty { "" } else { "};\n" })
+}
+
+// Adds a `use` of names of a module.
+fn push_use(
+    lines: &mut Lines,
+    module: &str,
+    names: &BTreeMap<String, String>,
+) -> Result<(), AllocError> {
+    let is_one = names.len() == 1;
+    let around = if is_one { "use ::;" } else { "use ::{};" };
+    let mut whole = width(&[module, around]);
+    for (_, name) in names.iter() {
+        whole = whole.saturating_add(width(&[name.as_str(), ", "]));
+    }
+    lines.push(&["use ", module, "::"])?;
+    if whole.saturating_sub(2) > USE {
+        return push_broken(lines, names);
+    }
+    lines.text.push_str(if is_one { "" } else { "{" })?;
+    let mut is_first = true;
+    for (_, name) in names.iter() {
+        lines.push(&[if is_first { "" } else { ", " }, name.as_str()])?;
+        is_first = false;
+    }
+    lines.text.push_str(if is_one { ";\n" } else { "};\n" })
+}
+
+// Adds names with a comma behind each, as many in a line as go into it.
+fn push_broken(lines: &mut Lines, names: &BTreeMap<String, String>) -> Result<(), AllocError> {
+    lines.text.push('{')?;
+    let mut line = LINE;
+    for (_, name) in names.iter() {
+        let wide = width(&[name.as_str(), ", "]);
+        line = line.saturating_add(wide);
+        let is_new = line.saturating_add(4) > LINE;
+        if is_new {
+            line = wide;
+        }
+        let before = if is_new { "\n    " } else { " " };
+        lines.push(&[before, name.as_str(), ","])?;
+    }
+    lines.text.push_str("\n};\n")
+}
+
+// Adds the name of a type in small letters, with `_` between its words.
+fn push_small(name: &mut String, ty: &str) -> Result<(), AllocError> {
     let mut is_small = false;
     for c in ty.chars() {
-        if c == '<' {
-            break;
+        match c {
+            '<' => return Ok(()),
+            ':' | '#' => {
+                name.clear();
+                is_small = false;
+            }
+            c => {
+                if c.is_ascii_uppercase() && is_small {
+                    name.push('_')?;
+                }
+                is_small = !c.is_ascii_uppercase();
+                name.push(c.to_ascii_lowercase())?;
+            }
         }
-        if c == ':' || c == '#' {
-            name.clear();
-            is_small = false;
-            continue;
-        }
-        if c.is_ascii_uppercase() && is_small {
-            name.push('_')?;
-        }
-        is_small = !c.is_ascii_uppercase();
-        name.push(c.to_ascii_lowercase())?;
     }
-    Ok(name)
+    Ok(())
 }
 
 fn is_in_crate(module: &str) -> bool {
@@ -258,17 +341,22 @@ fn is_in_crate(module: &str) -> bool {
 fn place_of(alloc: Global, name: &str) -> Result<String, AllocError> {
     let mut place = String::new(alloc);
     let mut digits = String::new(alloc);
+    push_place(&mut place, &mut digits, name)?;
+    Ok(place)
+}
+
+// Adds the place of a name; the digits of a number that may go on stand beside.
+fn push_place(place: &mut String, digits: &mut String, name: &str) -> Result<(), AllocError> {
     for c in name.chars() {
         if c.is_ascii_digit() {
             digits.push(c)?;
         } else {
-            push_number(&mut place, digits.as_str())?;
+            push_number(place, digits.as_str())?;
             digits.clear();
             place.push(c)?;
         }
     }
-    push_number(&mut place, digits.as_str())?;
-    Ok(place)
+    push_number(place, digits.as_str())
 }
 
 // Adds a number with as many zeros before it as make it 12 digits.

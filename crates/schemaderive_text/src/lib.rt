@@ -6,5 +6,5 @@ mod lines;
 mod texts;
 
 pub use imports::Imports;
-pub use lines::{Lines, joined};
-pub use texts::{json_argument, literal, push_escaped};
+pub use lines::Lines;
+pub use texts::{joined, json_argument, literal, push_all, push_escaped, push_literal};

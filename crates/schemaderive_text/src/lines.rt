@@ -1,11 +1,9 @@
 //! Lines, broken as `rt fmt` breaks them.
+use crate::texts::push_all;
 use std::alloc::{AllocError, Global};
 
-// How many characters a line has at most.
-const LINE: usize = 100;
-
-// How many a `use` on one line has at most.
-const USE: usize = 98;
+/// How many characters a line has at most.
+pub const LINE: usize = 100;
 
 // How many the arguments of a call on one line have at most.
 const ARGUMENTS: usize = 60;
@@ -13,8 +11,6 @@ const ARGUMENTS: usize = 60;
 /// Lines of a file.
 #[derive(Drop)]
 pub struct Lines {
-    /// the allocator
-    pub alloc: Global,
     /// the lines
     pub text: String,
 }
@@ -23,139 +19,149 @@ impl Lines {
     /// No lines.
     pub fn new(alloc: Global) -> Lines {
         Lines {
-            alloc,
             text: String::new(alloc),
         }
     }
 
-    /// Adds a line with so many spaces before it.
-    pub fn line(&mut self, indent: usize, text: &str) -> Result<(), AllocError> {
-        for _ in 0..indent {
-            self.text.push(' ')?;
+    /// Adds texts, one behind the other.
+    pub fn push(&mut self, texts: &[&str]) -> Result<(), AllocError> {
+        push_all(&mut self.text, texts)
+    }
+
+    /// Adds a block of lines, in which `$name$` stands for the text that is given with this name.
+    pub fn block(&mut self, block: &str, texts: &[(&str, &str)]) -> Result<(), AllocError> {
+        let mut is_name = false;
+        for piece in block.split('$') {
+            self.text
+                .push_str(if is_name { named(texts, piece) } else { piece })?;
+            is_name = !is_name;
         }
-        self.text.push_str(text)?;
+        Ok(())
+    }
+
+    /// Adds a line of these texts with so many spaces before it.
+    pub fn line(&mut self, indent: usize, texts: &[&str]) -> Result<(), AllocError> {
+        self.begin(indent)?;
+        self.push(texts)?;
         self.text.push('\n')
     }
 
-    /// Adds a call, in one line or with a line for each argument.
+    /// Begins a line with so many spaces.
+    pub fn begin(&mut self, indent: usize) -> Result<(), AllocError> {
+        for _ in 0..indent {
+            self.text.push(' ')?;
+        }
+        Ok(())
+    }
+
+    /// Adds a call, in one line or with a line for each argument. Arguments without text are left out.
     pub fn call(
         &mut self,
         indent: usize,
-        head: &str,
+        head: &[&str],
         arguments: &[&str],
-        tail: &str,
+        tail: &[&str],
     ) -> Result<(), AllocError> {
-        let list = joined(self.alloc, arguments)?;
-        let list = list.as_str();
-        let whole = format!(in self.alloc; "{head}({list}){tail}")?;
-        if width(list) <= ARGUMENTS && indent.saturating_add(width(whole.as_str())) <= LINE {
-            return self.line(indent, whole.as_str());
-        }
-        let first = format!(in self.alloc; "{head}(")?;
-        self.line(indent, first.as_str())?;
-        let inner = indent.saturating_add(4);
-        for argument in arguments {
-            let line = format!(in self.alloc; "{argument},")?;
-            self.line(inner, line.as_str())?;
-        }
-        let last = format!(in self.alloc; "){tail}")?;
-        self.line(indent, last.as_str())
+        self.list(indent, head, arguments, tail, ARGUMENTS)
     }
 
     /// Adds the head of a function, in one line or with a line for each parameter.
     pub fn head(
         &mut self,
-        head: &str,
-        parameters: &[String],
-        tail: &str,
+        head: &[&str],
+        parameters: &[&str],
+        tail: &[&str],
     ) -> Result<(), AllocError> {
-        let mut list = Vec::new(self.alloc);
-        for parameter in parameters {
-            list.push(parameter.as_str())?;
+        self.list(0, head, parameters, tail, LINE)
+    }
+
+    // Adds a list in parentheses, in one line if it has no more than so many characters.
+    fn list(
+        &mut self,
+        indent: usize,
+        head: &[&str],
+        items: &[&str],
+        tail: &[&str],
+        most: usize,
+    ) -> Result<(), AllocError> {
+        let inside = list_width(items);
+        let around = width(head).saturating_add(width(tail)).saturating_add(2);
+        let whole = indent.saturating_add(inside).saturating_add(around);
+        self.begin(indent)?;
+        self.push(head)?;
+        if inside <= most && whole <= LINE {
+            self.text.push('(')?;
+            push_list(&mut self.text, items)?;
+        } else {
+            self.text.push_str("(\n")?;
+            for item in items {
+                if !item.is_empty() {
+                    self.line(indent.saturating_add(4), &[item, ","])?;
+                }
+            }
+            self.begin(indent)?;
         }
-        let list = joined(self.alloc, &list)?;
-        let whole = format!(in self.alloc; "{head}({list}){tail}")?;
-        if width(whole.as_str()) <= LINE {
-            return self.line(0, whole.as_str());
-        }
-        let first = format!(in self.alloc; "{head}(")?;
-        self.line(0, first.as_str())?;
-        for parameter in parameters {
-            let line = format!(in self.alloc; "{parameter},")?;
-            self.line(4, line.as_str())?;
-        }
-        let last = format!(in self.alloc; "){tail}")?;
-        self.line(0, last.as_str())
+        self.text.push(')')?;
+        self.push(tail)?;
+        self.text.push('\n')
     }
 
     /// Adds a `let`, whose value goes into a line of its own if it is long.
-    pub fn set(&mut self, indent: usize, name: &str, value: &str) -> Result<(), AllocError> {
-        let whole = format!(in self.alloc; "let {name} = {value};")?;
-        if indent.saturating_add(width(whole.as_str())) <= LINE {
-            return self.line(indent, whole.as_str());
-        }
-        let first = format!(in self.alloc; "let {name} =")?;
-        self.line(indent, first.as_str())?;
-        let second = format!(in self.alloc; "{value};")?;
-        self.line(indent.saturating_add(4), second.as_str())
-    }
-
-    /// Adds a `use` of names of a module.
-    pub fn import(&mut self, module: &str, names: &[&str]) -> Result<(), AllocError> {
-        let list = joined(self.alloc, names)?;
-        let list = list.as_str();
-        let whole = if names.len() == 1 {
-            format!(in self.alloc; "use {module}::{list};")?
+    pub fn set(&mut self, indent: usize, name: &str, value: &[&str]) -> Result<(), AllocError> {
+        let whole = width(value).saturating_add(width(&["let ", name, " = ;"]));
+        if indent.saturating_add(whole) <= LINE {
+            self.begin(indent)?;
+            self.push(&["let ", name, " = "])?;
         } else {
-            format!(in self.alloc; "use {module}::{{{list}}};")?
-        };
-        if width(whole.as_str()) <= USE {
-            return self.line(0, whole.as_str());
+            self.line(indent, &["let ", name, " ="])?;
+            self.begin(indent.saturating_add(4))?;
         }
-        let first = format!(in self.alloc; "use {module}::{{")?;
-        self.line(0, first.as_str())?;
-        self.filled(names)?;
-        self.line(0, "};")
-    }
-
-    // Adds names with a comma behind each, as many in a line as go into it.
-    fn filled(&mut self, names: &[&str]) -> Result<(), AllocError> {
-        let mut line = String::new(self.alloc);
-        for name in names {
-            let longer = width(line.as_str())
-                .saturating_add(width(name))
-                .saturating_add(7);
-            if !line.is_empty() && longer > LINE {
-                self.line(4, line.as_str())?;
-                line.clear();
-            }
-            if !line.is_empty() {
-                line.push(' ')?;
-            }
-            line.push_str(name)?;
-            line.push(',')?;
-        }
-        self.line(4, line.as_str())
+        self.push(value)?;
+        self.text.push_str(";\n")
     }
 }
 
-// How many characters a text has.
-fn width(text: &str) -> usize {
+// The text with this name.
+fn named<'t>(texts: &[(&str, &'t str)], name: &str) -> &'t str {
+    for (known, text) in texts {
+        if *known == name {
+            return text;
+        }
+    }
+    ""
+}
+
+/// How many characters texts have.
+pub fn width(texts: &[&str]) -> usize {
     let mut count = 0usize;
-    for _ in text.chars() {
-        count = count.saturating_add(1);
+    for text in texts {
+        for _ in text.chars() {
+            count = count.saturating_add(1);
+        }
     }
     count
 }
 
-/// Texts with a comma between them.
-pub fn joined(alloc: Global, texts: &[&str]) -> Result<String, AllocError> {
-    let mut list = String::new(alloc);
+// How many they have as a list, but those without text.
+fn list_width(texts: &[&str]) -> usize {
+    let mut count = 0usize;
     for text in texts {
-        if !list.is_empty() {
-            list.push_str(", ")?;
+        if !text.is_empty() {
+            count = count.saturating_add(width(&[text, ", "]));
         }
-        list.push_str(text)?;
     }
-    Ok(list)
+    count.saturating_sub(2)
+}
+
+// Adds texts with a comma between them, but those without text.
+fn push_list(list: &mut String, texts: &[&str]) -> Result<(), AllocError> {
+    let mut before = "";
+    for text in texts {
+        if !text.is_empty() {
+            list.push_str(before)?;
+            list.push_str(text)?;
+            before = ", ";
+        }
+    }
+    Ok(())
 }

@@ -1,9 +1,31 @@
 //! Texts and JSON values, as they are written in Rattle.
 use std::alloc::{AllocError, Global};
 
+/// Adds texts, one behind the other.
+pub fn push_all(out: &mut String, texts: &[&str]) -> Result<(), AllocError> {
+    for text in texts {
+        out.push_str(text)?;
+    }
+    Ok(())
+}
+
+/// Texts, one behind the other.
+pub fn joined(alloc: Global, texts: &[&str]) -> Result<String, AllocError> {
+    let mut out = String::new(alloc);
+    push_all(&mut out, texts)?;
+    Ok(out)
+}
+
 /// A text as a literal.
 pub fn literal(alloc: Global, text: &str) -> Result<String, AllocError> {
-    let mut out = String::from_str(alloc, "\"")?;
+    let mut out = String::new(alloc);
+    push_literal(alloc, &mut out, text)?;
+    Ok(out)
+}
+
+/// Adds a text as a literal.
+pub fn push_literal(alloc: Global, out: &mut String, text: &str) -> Result<(), AllocError> {
+    out.push('"')?;
     for c in text.chars() {
         match c {
             '"' => out.push_str("\\\"")?,
@@ -11,16 +33,17 @@ pub fn literal(alloc: Global, text: &str) -> Result<String, AllocError> {
             '\n' => out.push_str("\\n")?,
             '\r' => out.push_str("\\r")?,
             '\t' => out.push_str("\\t")?,
-            c if c < ' ' => {
-                let code = u32::from(c);
-                let escape = format!(in alloc; "\\u{{{code:x}}}")?;
-                out.push_str(escape.as_str())?;
-            }
+            c if c < ' ' => push_code(alloc, out, c)?,
             c => out.push(c)?,
         }
     }
-    out.push('"')?;
-    Ok(out)
+    out.push('"')
+}
+
+fn push_code(alloc: Global, out: &mut String, c: char) -> Result<(), AllocError> {
+    let code = u32::from(c);
+    let escape = format!(in alloc; "\\u{{{code:x}}}")?;
+    out.push_str(escape.as_str())
 }
 
 /// Adds a text to a pattern, in which braces stand for what is put in.
@@ -52,82 +75,71 @@ enum Reached {
 /// A JSON value as the argument of `json!`, and a JSON text as a literal.
 pub fn json_argument(alloc: Global, json: &str) -> Result<String, AllocError> {
     let mut out = String::new(alloc);
-    let mut reached = Reached::Between;
-    for c in json.chars() {
-        reached = match reached {
-            Reached::Text | Reached::Escape | Reached::Code(_) => {
-                push_in_text(&mut out, reached, c)?
-            }
-            Reached::Between | Reached::Number(..) => push_outside(&mut out, reached, c)?,
-        };
-    }
-    end_number(&mut out, reached)?;
+    push_json(&mut out, json)?;
     Ok(out)
 }
 
-// Writes the next character of a text.
-fn push_in_text(out: &mut String, reached: Reached, c: char) -> Result<Reached, AllocError> {
-    match (reached, c) {
-        (Reached::Escape, 'u') => {
-            out.push_str("u{")?;
-            Ok(Reached::Code(4))
+fn push_json(out: &mut String, json: &str) -> Result<(), AllocError> {
+    let mut reached = Reached::Between;
+    for c in json.chars() {
+        let before = reached;
+        reached = reached.behind(c);
+        out.push_str(before.end(reached))?;
+        out.push(c)?;
+        out.push_str(before.filler(c))?;
+    }
+    out.push_str(reached.end(Reached::Between))
+}
+
+impl Reached {
+    // How far it is behind the next character.
+    fn behind(self, c: char) -> Reached {
+        match self {
+            Reached::Text => match c {
+                '\\' => Reached::Escape,
+                '"' => Reached::Between,
+                _ => Reached::Text,
+            },
+            Reached::Escape if c == 'u' => Reached::Code(4),
+            Reached::Escape | Reached::Code(1) => Reached::Text,
+            Reached::Code(digits) => Reached::Code(digits.saturating_sub(1)),
+            Reached::Number(digits, is_whole, is_below) if c.is_ascii_digit() => {
+                Reached::Number(digits.saturating_add(1), is_whole, is_below)
+            }
+            Reached::Number(digits, _, is_below) if is_in_number(c) => {
+                Reached::Number(digits, false, is_below)
+            }
+            Reached::Between | Reached::Number(..) => match c {
+                '"' => Reached::Text,
+                '-' => Reached::Number(0, true, true),
+                c if c.is_ascii_digit() => Reached::Number(1, true, false),
+                _ => Reached::Between,
+            },
         }
-        (Reached::Code(1), c) => {
-            out.push(c)?;
-            out.push('}')?;
-            Ok(Reached::Text)
+    }
+
+    // The type of a number that is none of 32 bits, if it ends before this.
+    fn end(self, next: Reached) -> &'static str {
+        match (self, next) {
+            (_, Reached::Number(..)) => "",
+            (Reached::Number(digits, true, true), _) if digits > 9 => "i64",
+            (Reached::Number(digits, true, false), _) if digits > 9 => "u64",
+            _ => "",
         }
-        (Reached::Code(digits), c) => {
-            out.push(c)?;
-            Ok(Reached::Code(digits.saturating_sub(1)))
-        }
-        (Reached::Text, '\\') => {
-            out.push(c)?;
-            Ok(Reached::Escape)
-        }
-        (Reached::Text, '"') => {
-            out.push(c)?;
-            Ok(Reached::Between)
-        }
-        (_, c) => {
-            out.push(c)?;
-            Ok(Reached::Text)
+    }
+
+    // What is written behind the next character.
+    fn filler(self, c: char) -> &'static str {
+        match (self, c) {
+            (Reached::Escape, 'u') => "{",
+            (Reached::Code(1), _) => "}",
+            (Reached::Between | Reached::Number(..), ',' | ':') => " ",
+            _ => "",
         }
     }
 }
 
-// Writes the next character of what is no text.
-fn push_outside(out: &mut String, reached: Reached, c: char) -> Result<Reached, AllocError> {
-    match (reached, c) {
-        (Reached::Number(digits, is_whole, is_below), c) if c.is_ascii_digit() => {
-            out.push(c)?;
-            return Ok(Reached::Number(digits.saturating_add(1), is_whole, is_below));
-        }
-        (Reached::Number(digits, _, is_below), '.' | 'e' | 'E' | '+' | '-') => {
-            out.push(c)?;
-            return Ok(Reached::Number(digits, false, is_below));
-        }
-        (Reached::Number(..), _) => end_number(out, reached)?,
-        _ => {}
-    }
-    out.push(c)?;
-    match c {
-        '"' => Ok(Reached::Text),
-        '-' => Ok(Reached::Number(0, true, true)),
-        c if c.is_ascii_digit() => Ok(Reached::Number(1, true, false)),
-        ',' | ':' => {
-            out.push(' ')?;
-            Ok(Reached::Between)
-        }
-        _ => Ok(Reached::Between),
-    }
-}
-
-// Writes the type of a number that is none of 32 bits.
-fn end_number(out: &mut String, reached: Reached) -> Result<(), AllocError> {
-    match reached {
-        Reached::Number(digits, true, true) if digits > 9 => out.push_str("i64"),
-        Reached::Number(digits, true, false) if digits > 9 => out.push_str("u64"),
-        _ => Ok(()),
-    }
+// Whether a number has this behind its first digits, besides digits.
+fn is_in_number(c: char) -> bool {
+    matches!(c, '.' | 'e' | 'E' | '+' | '-')
 }
