@@ -51,13 +51,27 @@ fn choice_list(
     let mut list = Vec::new(builder.alloc());
     for variant in variants {
         let mut said = variant_options(&mut builder.context, &variant.attributes)?;
-        let place = said.skipped.unwrap_or(variant.place);
-        if is_present(&builder.context, place, said.presence)? {
-            let choice = choice_of(builder, form, variant, &mut said, options, scope)?;
-            list.push(choice)?;
-        }
+        add_choice(builder, &mut list, form, variant, &mut said, options, scope)?;
     }
     Ok(list)
+}
+
+// Adds a variant, if it is in the values of the table.
+fn add_choice(
+    builder: &mut Builder<'_>,
+    list: &mut Vec<Choice>,
+    form: Form,
+    variant: &Variant<'_>,
+    said: &mut VariantOptions,
+    options: &ContainerOptions,
+    scope: &Scope,
+) -> Result<(), Fault> {
+    let place = said.skipped.unwrap_or(variant.place);
+    if is_present(&builder.context, place, said.presence)? {
+        let choice = choice_of(builder, form, variant, said, options, scope)?;
+        list.push(choice)?;
+    }
+    Ok(())
 }
 
 fn form_of(

@@ -2,8 +2,10 @@
 use crate::choices::choices_of;
 use crate::content::{Content, Definition, Part};
 use crate::fields::struct_members;
-use crate::rules::{noted_part, part_of};
-use schemaderive_options::{ContainerOptions, Notes, container_options, field_options, is_present};
+use crate::rules::{noted_part, whole_part};
+use schemaderive_options::{
+    ContainerOptions, FieldOptions, Notes, container_options, field_options, is_present,
+};
 use schemaderive_rows::{Builder, Scope, one_field};
 use schemaderive_syntax::{Body, Declaration, Fault, Field, Fields, Place, TypeExpr};
 use std::mem;
@@ -147,13 +149,25 @@ pub fn tuple_parts(
     let mut parts = Vec::new(builder.alloc());
     for field in fields {
         let options = field_options(&mut builder.context, &field.attributes)?;
-        let place = options.skipped.unwrap_or(field.place);
-        if is_present(&builder.context, place, options.presence)? {
-            let part = noted_part(builder, field, &options, scope)?;
-            parts.push(part)?;
-        }
+        add_tuple_part(builder, &mut parts, field, &options, scope)?;
     }
     Ok(parts)
+}
+
+// Adds the part of a field, if it is in the values of the table.
+fn add_tuple_part(
+    builder: &mut Builder<'_>,
+    parts: &mut Vec<Part>,
+    field: &Field<'_>,
+    options: &FieldOptions,
+    scope: &Scope,
+) -> Result<(), Fault> {
+    let place = options.skipped.unwrap_or(field.place);
+    if is_present(&builder.context, place, options.presence)? {
+        let part = noted_part(builder, field, options, scope)?;
+        parts.push(part)?;
+    }
+    Ok(())
 }
 
 // The part of the only field of a tuple struct, whose keywords the struct has.
@@ -162,12 +176,8 @@ fn newtype_part(
     field: &Field<'_>,
     scope: &Scope,
 ) -> Result<Part, Fault> {
-    let alloc = builder.alloc();
-    let options = field_options(&mut builder.context, &field.attributes)?;
-    refuse_skipped(builder, options.skipped)?;
-    let mut part = part_of(builder, field, &options, scope)?;
-    part.notes.put_all(alloc, &options.notes)?;
-    Ok(part)
+    let options = only_options(builder, field)?;
+    whole_part(builder, field, &options, scope)
 }
 
 /// The part of the only field of a variant, with its keywords in the row.
@@ -180,17 +190,18 @@ pub fn only_part(
     field: &Field<'_>,
     scope: &Scope,
 ) -> Result<Part, Fault> {
-    let options = field_options(&mut builder.context, &field.attributes)?;
-    refuse_skipped(builder, options.skipped)?;
+    let options = only_options(builder, field)?;
     noted_part(builder, field, &options, scope)
 }
 
-fn refuse_skipped(builder: &Builder<'_>, skipped: Option<Place>) -> Result<(), Fault> {
-    match skipped {
+// What attributes say of an only field, which can't be left out.
+fn only_options(builder: &mut Builder<'_>, field: &Field<'_>) -> Result<FieldOptions, Fault> {
+    let options = field_options(&mut builder.context, &field.attributes)?;
+    match options.skipped {
         Some(place) => {
             let reason = "the only field of a tuple can't be left out";
             Err(builder.context.refused_name(place, "skip", reason))
         }
-        None => Ok(()),
+        None => Ok(options),
     }
 }

@@ -24,13 +24,27 @@ pub fn struct_members(
     let mut list = Vec::new(builder.alloc());
     for field in fields {
         let options = field_options(&mut builder.context, &field.attributes)?;
-        let place = options.skipped.unwrap_or(field.place);
-        if is_present(&builder.context, place, options.presence)? {
-            let member = member_of(builder, field, &options, cases, container, scope)?;
-            list.push(member)?;
-        }
+        add_member(builder, &mut list, field, &options, cases, container, scope)?;
     }
     Ok(Members { list, is_closed })
+}
+
+// Adds the member of a field, if it is in the values of the table.
+fn add_member(
+    builder: &mut Builder<'_>,
+    list: &mut Vec<Member>,
+    field: &Field<'_>,
+    options: &FieldOptions,
+    cases: Cases,
+    container: Option<&ContainerOptions>,
+    scope: &Scope,
+) -> Result<(), Fault> {
+    let place = options.skipped.unwrap_or(field.place);
+    if is_present(&builder.context, place, options.presence)? {
+        let member = member_of(builder, field, options, cases, container, scope)?;
+        list.push(member)?;
+    }
+    Ok(())
 }
 
 fn member_of(

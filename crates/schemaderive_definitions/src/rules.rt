@@ -82,11 +82,25 @@ pub fn noted_part(
     options: &FieldOptions,
     scope: &Scope,
 ) -> Result<Part, Fault> {
-    let alloc = builder.alloc();
-    let mut part = part_of(builder, field, options, scope)?;
-    part.notes.put_all(alloc, &options.notes)?;
-    let notes = part.unsaid(alloc)?;
+    let mut part = whole_part(builder, field, options, scope)?;
+    let notes = part.unsaid(builder.alloc())?;
     part.row = noted(builder, part.row, notes)?;
+    Ok(part)
+}
+
+/// The part of a field's type, with its keywords beside the row.
+///
+/// # Errors
+///
+/// The type is not known.
+pub fn whole_part(
+    builder: &mut Builder<'_>,
+    field: &Field<'_>,
+    options: &FieldOptions,
+    scope: &Scope,
+) -> Result<Part, Fault> {
+    let mut part = part_of(builder, field, options, scope)?;
+    part.notes.put_all(builder.alloc(), &options.notes)?;
     Ok(part)
 }
 
@@ -96,13 +110,24 @@ fn noted(builder: &mut Builder<'_>, row: usize, notes: Notes) -> Result<usize, A
         return Ok(row);
     }
     let alloc = builder.alloc();
-    let mut id = String::from_str(alloc, builder.id(row))?;
-    id.push_str(" with ")?;
-    notes.push_object(alloc, &mut id)?;
-    let shape = format!(in alloc; "{{\"newtype\":{row}}}")?;
-    let mut wrapper = Row::new(alloc, id.as_str(), builder.name(row), shape)?;
+    let mut wrapper = wrapper_of(builder, row, &notes)?;
     wrapper.notes = notes;
     builder.add(wrapper)
+}
+
+fn wrapper_of(builder: &Builder<'_>, row: usize, notes: &Notes) -> Result<Row, AllocError> {
+    let alloc = builder.alloc();
+    let id = id_with(alloc, builder.id(row), notes)?;
+    let shape = format!(in alloc; "{{\"newtype\":{row}}}")?;
+    Row::new(alloc, id.as_str(), builder.name(row), shape)
+}
+
+// The id of a row with keywords.
+fn id_with(alloc: Global, id: &str, notes: &Notes) -> Result<String, AllocError> {
+    let mut whole = String::from_str(alloc, id)?;
+    whole.push_str(" with ")?;
+    notes.push_object(alloc, &mut whole)?;
+    Ok(whole)
 }
 
 // The keywords of rules for values of this row.
@@ -141,48 +166,45 @@ fn add_rule(
 
 // The row of those values of a row that fit keywords; the row itself if its document is not known.
 fn ruled(builder: &mut Builder<'_>, row: usize, keywords: &Notes) -> Result<usize, AllocError> {
-    if keywords.is_empty() {
-        return Ok(row);
-    }
-    match literal_of(builder, row, keywords)? {
-        Some(literal) => builder.add(literal),
-        None => Ok(row),
+    match builder.rows.get(row) {
+        Some(entry) if is_known(entry) && !keywords.is_empty() => {
+            let literal = literal_of(builder.alloc(), entry, keywords)?;
+            builder.add(literal)
+        }
+        _ => Ok(row),
     }
 }
 
-// A literal of the row's document with further keywords; none if the document is not known.
-fn literal_of(
-    builder: &Builder<'_>,
-    row: usize,
-    keywords: &Notes,
-) -> Result<Option<Row>, AllocError> {
-    let alloc = builder.alloc();
-    let Some(entry) = builder.rows.get(row) else {
-        return Ok(None);
-    };
-    if entry.keywords.is_empty() || !entry.is_inline {
-        return Ok(None);
-    }
-    let mut id = String::from_str(alloc, entry.id.as_str())?;
-    id.push_str(" with ")?;
-    keywords.push_object(alloc, &mut id)?;
-    let mut all = copied(alloc, &entry.keywords)?;
+// Whether the document of a row is known.
+fn is_known(entry: &Row) -> bool {
+    !entry.keywords.is_empty() && entry.is_inline
+}
+
+// A literal of a row's document with further keywords.
+fn literal_of(alloc: Global, entry: &Row, keywords: &Notes) -> Result<Row, AllocError> {
+    let mut all = Notes::new(alloc);
+    all.put_all(alloc, &entry.keywords)?;
     all.put_all(alloc, keywords)?;
-    let mut shape = String::from_str(alloc, "{\"literal\":")?;
-    all.push_object(alloc, &mut shape)?;
-    shape.push('}')?;
-    let mut literal = Row::new(alloc, id.as_str(), entry.name.as_str(), shape)?;
+    let mut literal = literal_row(alloc, entry, keywords, &all)?;
     literal.keywords = all;
     literal.kind = entry.kind;
     literal.inner = entry.inner;
     if let Some(json) = &entry.default {
         literal.default = Some(String::from_str(alloc, json.as_str())?);
     }
-    Ok(Some(literal))
+    Ok(literal)
 }
 
-fn copied(alloc: Global, notes: &Notes) -> Result<Notes, AllocError> {
-    let mut copy = Notes::new(alloc);
-    copy.put_all(alloc, notes)?;
-    Ok(copy)
+// The row of a literal with all these keywords, of which some are further ones.
+fn literal_row(
+    alloc: Global,
+    entry: &Row,
+    keywords: &Notes,
+    all: &Notes,
+) -> Result<Row, AllocError> {
+    let id = id_with(alloc, entry.id.as_str(), keywords)?;
+    let mut shape = String::from_str(alloc, "{\"literal\":")?;
+    all.push_object(alloc, &mut shape)?;
+    shape.push('}')?;
+    Row::new(alloc, id.as_str(), entry.name.as_str(), shape)
 }

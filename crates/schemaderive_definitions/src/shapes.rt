@@ -1,24 +1,34 @@
 //! The shapes of types, as JSON.
 use crate::content::{Choice, Choices, Content, Form, Member, Members, Part, Payload, Required};
-use schemaderive_options::push_quoted;
+use schemaderive_options::{Notes, push_quoted};
 use std::alloc::{AllocError, Global};
 
 /// The shape of a type.
 pub fn shape_json(alloc: Global, content: &Content) -> Result<String, AllocError> {
     let mut shape = String::new(alloc);
-    match content {
-        Content::Null => shape.push_str("\"null\"")?,
-        Content::Newtype(part) => push_newtype(alloc, &mut shape, part)?,
-        Content::Tuple(parts) => push_tuple(alloc, &mut shape, parts)?,
-        Content::Struct(members) => push_struct(alloc, &mut shape, members)?,
-        Content::Enum(choices) => push_choices(alloc, &mut shape, choices)?,
-    }
+    push_content(alloc, &mut shape, content)?;
     Ok(shape)
 }
 
+fn push_content(alloc: Global, out: &mut String, content: &Content) -> Result<(), AllocError> {
+    match content {
+        Content::Null => out.push_str("\"null\""),
+        Content::Newtype(part) => push_newtype(alloc, out, part),
+        Content::Tuple(parts) => push_tuple(alloc, out, parts),
+        Content::Struct(members) => push_struct(alloc, out, members),
+        Content::Enum(choices) => push_choices(alloc, out, choices),
+    }
+}
+
 fn push_newtype(alloc: Global, out: &mut String, part: &Part) -> Result<(), AllocError> {
-    let shape = format!(in alloc; "{{\"newtype\":{}}}", part.row)?;
-    out.push_str(shape.as_str())
+    out.push_str("{\"newtype\":")?;
+    push_number(alloc, out, part.row)?;
+    out.push('}')
+}
+
+fn push_number(alloc: Global, out: &mut String, number: usize) -> Result<(), AllocError> {
+    let digits = format!(in alloc; "{number}")?;
+    out.push_str(digits.as_str())
 }
 
 fn push_tuple(alloc: Global, out: &mut String, parts: &[Part]) -> Result<(), AllocError> {
@@ -26,8 +36,7 @@ fn push_tuple(alloc: Global, out: &mut String, parts: &[Part]) -> Result<(), All
     let mut is_first = true;
     for part in parts {
         begin(out, &mut is_first)?;
-        let row = format!(in alloc; "{}", part.row)?;
-        out.push_str(row.as_str())?;
+        push_number(alloc, out, part.row)?;
     }
     out.push_str("]}")
 }
@@ -66,10 +75,15 @@ fn push_field(
 ) -> Result<(), AllocError> {
     out.push_str("{\"name\":")?;
     push_quoted(alloc, out, name)?;
-    let ty = format!(in alloc; ",\"type\":{}", member.part.row)?;
-    out.push_str(ty.as_str())?;
+    out.push_str(",\"type\":")?;
+    push_number(alloc, out, member.part.row)?;
     push_required(out, member.required)?;
     let notes = member.part.unsaid(alloc)?;
+    push_end(alloc, out, &notes)
+}
+
+// Writes the keywords of an item, if there are any, and its end.
+fn push_end(alloc: Global, out: &mut String, notes: &Notes) -> Result<(), AllocError> {
     if !notes.is_empty() {
         out.push_str(",\"notes\":")?;
         notes.push_object(alloc, out)?;
@@ -91,20 +105,15 @@ fn push_flattened(alloc: Global, out: &mut String, members: &Members) -> Result<
     let mut is_first = true;
     for member in &members.list {
         if member.name.is_none() {
-            if is_first {
-                out.push_str(",\"flatten\":[")?;
-            }
-            begin(out, &mut is_first)?;
-            let ty = format!(in alloc; "{{\"type\":{}", member.part.row)?;
-            out.push_str(ty.as_str())?;
+            out.push_str(if is_first { ",\"flatten\":[" } else { "," })?;
+            is_first = false;
+            out.push_str("{\"type\":")?;
+            push_number(alloc, out, member.part.row)?;
             push_required(out, member.required)?;
             out.push('}')?;
         }
     }
-    if !is_first {
-        out.push(']')?;
-    }
-    Ok(())
+    out.push_str(if is_first { "" } else { "]" })
 }
 
 fn push_choices(alloc: Global, out: &mut String, choices: &Choices) -> Result<(), AllocError> {
@@ -147,27 +156,18 @@ fn push_choice(alloc: Global, out: &mut String, choice: &Choice) -> Result<(), A
     out.push_str("{\"name\":")?;
     push_quoted(alloc, out, choice.name.as_str())?;
     push_payload(alloc, out, &choice.payload)?;
-    if !choice.notes.is_empty() {
-        out.push_str(",\"notes\":")?;
-        choice.notes.push_object(alloc, out)?;
-    }
-    out.push('}')
+    push_end(alloc, out, &choice.notes)
 }
 
 fn push_payload(alloc: Global, out: &mut String, payload: &Payload) -> Result<(), AllocError> {
+    out.push_str(match payload {
+        Payload::Unit => "",
+        _ => ",\"payload\":",
+    })?;
     match payload {
-        Payload::Unit => return Ok(()),
-        Payload::Newtype(part) => {
-            out.push_str(",\"payload\":")?;
-            push_newtype(alloc, out, part)
-        }
-        Payload::Tuple(parts) => {
-            out.push_str(",\"payload\":")?;
-            push_tuple(alloc, out, parts)
-        }
-        Payload::Struct(members) => {
-            out.push_str(",\"payload\":")?;
-            push_struct(alloc, out, members)
-        }
+        Payload::Unit => Ok(()),
+        Payload::Newtype(part) => push_newtype(alloc, out, part),
+        Payload::Tuple(parts) => push_tuple(alloc, out, parts),
+        Payload::Struct(members) => push_struct(alloc, out, members),
     }
 }

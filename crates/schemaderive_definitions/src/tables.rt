@@ -1,12 +1,12 @@
 //! Tables of the types that a source declares.
-use crate::content::Content;
+use crate::content::{Content, Definition};
 use crate::defining::definition_of;
 use crate::shapes::shape_json;
 use schemaderive_known::Row;
 use schemaderive_options::{Context, Contract, Notes};
 use schemaderive_rows::{Builder, Scope};
 use schemaderive_syntax::{Cursor, Fault, Place, Refusal, Source, read_tokens, read_type};
-use std::alloc::Global;
+use std::alloc::{AllocError, Global};
 use std::mem;
 
 // How deep types may nest.
@@ -78,24 +78,37 @@ fn define_all(builder: &mut Builder<'_>) -> Result<(), Fault> {
 fn define(builder: &mut Builder<'_>, number: usize) -> Result<(), Fault> {
     let alloc = builder.alloc();
     let empty = Scope::new(alloc, "")?;
-    let (scope, row, index) = match builder.instances.get_mut(number) {
-        Some(instance) => (
-            mem::replace(&mut instance.scope, empty),
-            instance.row,
-            instance.declaration,
-        ),
-        None => return Ok(()),
+    let Some(instance) = builder.instances.get_mut(number) else {
+        return Ok(());
     };
+    let scope = mem::replace(&mut instance.scope, empty);
+    let (row, index) = (instance.row, instance.declaration);
     let definition = definition_of(builder, index, &scope)?;
-    let mut notes = match &definition.content {
-        Content::Newtype(part) => part.unsaid(alloc)?,
-        _ => Notes::new(alloc),
-    };
-    notes.put_all(alloc, &definition.notes)?;
+    Ok(set_definition(builder, row, &definition)?)
+}
+
+// Sets what a row is.
+fn set_definition(
+    builder: &mut Builder<'_>,
+    row: usize,
+    definition: &Definition,
+) -> Result<(), AllocError> {
+    let alloc = builder.alloc();
     let shape = shape_json(alloc, &definition.content)?;
+    let notes = notes_of(alloc, definition)?;
     if let Some(row) = builder.rows.get_mut(row) {
         row.shape = shape;
         row.notes = notes;
     }
     Ok(())
+}
+
+// The keywords that the shape of a definition does not say.
+fn notes_of(alloc: Global, definition: &Definition) -> Result<Notes, AllocError> {
+    let mut notes = match &definition.content {
+        Content::Newtype(part) => part.unsaid(alloc)?,
+        _ => Notes::new(alloc),
+    };
+    notes.put_all(alloc, &definition.notes)?;
+    Ok(notes)
 }
