@@ -59,16 +59,11 @@ pub struct Branching<T> {
     named: BTreeMap<String, Branching<T>>,
 }
 
-// derive(JsonSchema)
-pub struct Branchings {
-    numbers: Branching<u8>,
-    texts: Branching<String>,
-}
-
 /// All of them.
 // derive(JsonSchema)
 pub struct All {
     figure: Figure,
     settings: Settings,
-    branchings: Branchings,
+    numbers: Branching<u8>,
+    texts: Branching<String>,
 }

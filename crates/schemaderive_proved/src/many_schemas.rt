@@ -4,7 +4,7 @@
 ghost use Rattle.std.specs.Prelude.{IfErr, IfOk, OnOk, false, map, string_bytes, ◌++◌, ◌≡◌};
 ghost use Rattle.schemars.specs.Words.{codes, Describes, field_of, FieldsAreKnown, IsIn, IsMapOf, IsNumber, IsOptionOf, IsSeqOf, KeepsRows, KeepsTo, own, RefusesAs, RefusesPart, Unsaid, variant_of, VariantsAreKnown};
 
-use crate::many::{All, Branching, Branchings, Figure, Settings};
+use crate::many::{All, Branching, Figure, Settings};
 use schemars::impls::{
     JsonSchema, READ_OPTIONAL, REQUIRED, add_field, add_field_of, add_newtype, add_one, add_struct,
     add_tuple, add_unit, external_entry, map_of, note_entry, note_field, note_variant, option_of,
@@ -353,31 +353,8 @@ fn branching_part_3<T: JsonSchema>(
     Ok(())
 }
 
-impl JsonSchema for Branchings {
-    ghost says = { own (codes "Branchings") (λ d. IsIn ⟦<Branching<u8> as JsonSchema>⟧.says d × IsIn ⟦<Branching<String> as JsonSchema>⟧.says d) };
-
-    fn inline_schema() -> bool {
-        false
-    }
-
-    fn schema_name(_alloc: Global) -> Result<CowStr<'static>, AllocError> {
-        Ok(CowStr::Borrowed("Branchings"))
-    }
-
-    fn schema_id(alloc: Global) -> Result<CowStr<'static>, AllocError> {
-        Self::schema_name(alloc)
-    }
-
-    fn json_schema(alloc: Global, types: &mut Types) -> Result<TypeEntry, TypesError> {
-        let mut fields = Vec::new(alloc);
-        add_field::<Branching<u8>>(alloc, types, &mut fields, "numbers", REQUIRED)?;
-        add_field::<Branching<String>>(alloc, types, &mut fields, "texts", REQUIRED)?;
-        Ok(struct_entry(alloc, fields, false))
-    }
-}
-
 impl JsonSchema for All {
-    ghost says = { own (codes "All") (λ d. IsIn ⟦<Figure as JsonSchema>⟧.says d × IsIn ⟦<Settings as JsonSchema>⟧.says d × IsIn ⟦<Branchings as JsonSchema>⟧.says d) };
+    ghost says = { own (codes "All") (λ d. IsIn ⟦<Figure as JsonSchema>⟧.says d × IsIn ⟦<Settings as JsonSchema>⟧.says d × IsIn ⟦<Branching<u8> as JsonSchema>⟧.says d × IsIn ⟦<Branching<String> as JsonSchema>⟧.says d) };
 
     fn inline_schema() -> bool {
         false
@@ -395,7 +372,8 @@ impl JsonSchema for All {
         let mut fields = Vec::new(alloc);
         add_field::<Figure>(alloc, types, &mut fields, "figure", REQUIRED)?;
         add_field::<Settings>(alloc, types, &mut fields, "settings", REQUIRED)?;
-        add_field::<Branchings>(alloc, types, &mut fields, "branchings", REQUIRED)?;
+        add_field::<Branching<u8>>(alloc, types, &mut fields, "numbers", REQUIRED)?;
+        add_field::<Branching<String>>(alloc, types, &mut fields, "texts", REQUIRED)?;
         let mut entry = struct_entry(alloc, fields, false);
         let description = Value::try_from_str(alloc, "All of them.")?;
         note_entry(alloc, &mut entry, "description", description)?;
