@@ -20,7 +20,7 @@ pub has_root : {O : Type 0} (Q : TransformStep O) (t : TypeRow) (old new : Gener
     → KeepsDefinitions (with_rows new.rows (state old)) (state new)
     → HasRoot Q (held_transforms old) (held_transforms new) t (state old) (state new) document
 has_root Q t old new document root own keeps =
-    let (d, (untransformed, w, is, same), made) = root.is.made.through in
+    let (d, (untransformed, (w, is, same)), made) = root.is.made.through in
     record {
       root = root;
       settings = ap (λ s. s.settings) same;
