@@ -1,8 +1,15 @@
 //! Issues, and what happens to them.
-use crate::people::{Actor, User};
-use crate::values::{Label, Priority};
+use crate::people::Actor;
+use crate::values::Label;
 use jiff::Timestamp;
 use uuid::Uuid;
+
+/// What an issue is referred to by.
+// derive(JsonSchema)
+pub struct IssueId {
+    pub id: Uuid,
+    pub number: u32,
+}
 
 /// When something was written, and when it was last changed.
 // derive(JsonSchema)
@@ -24,8 +31,8 @@ pub enum State {
         audit: Audit,
         reason: Option<String>,
     },
-    /// worked on by this user
-    Taken(User),
+    /// the same as another issue
+    Duplicate(IssueId),
 }
 
 /// What has happened to an issue. Its name is under `kind`, and the rest under `value`.
@@ -40,16 +47,24 @@ pub enum Change {
     Handed(Actor, Actor),
 }
 
-/// An issue, and those that are parts of it. The members of its audit are among its own.
+/// A note on an issue, and the notes on it. The members of its audit are among its own.
 // derive(JsonSchema)
-pub struct Issue {
-    pub id: Uuid,
-    pub title: String,
-    pub priority: Priority,
-    pub state: State,
-    pub labels: Vec<Label>,
-    pub history: Vec<Change>,
-    pub parts: Vec<Issue>,
+pub struct Note {
+    pub by: Actor,
+    pub text: String,
+    pub notes: Vec<Note>,
     // serde(flatten)
     pub audit: Audit,
+}
+
+/// An issue. The members of its id are among its own.
+// derive(JsonSchema)
+pub struct Issue {
+    pub title: String,
+    pub state: State,
+    pub labels: Vec<Label>,
+    pub notes: Vec<Note>,
+    pub history: Vec<Change>,
+    // serde(flatten)
+    pub id: IssueId,
 }

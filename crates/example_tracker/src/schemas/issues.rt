@@ -4,9 +4,9 @@
 ghost use Rattle.std.specs.Prelude.{IfErr, OnOk, map};
 ghost use Rattle.schemars.specs.Words.{codes, Describes, internal_variant_of, IsIn, IsSeqOf, KeepsRows, own, RefusesPart, variant_of, VariantsAreKnown};
 
-use crate::issues::{Audit, Change, Issue, State};
-use crate::people::{Actor, User};
-use crate::values::{Label, Priority};
+use crate::issues::{Audit, Change, Issue, IssueId, Note, State};
+use crate::people::Actor;
+use crate::values::Label;
 use jiff::Timestamp;
 use schemars::impls::{
     JsonSchema, OPTIONAL, READ_OPTIONAL, REQUIRED, add_field, add_flattened,
@@ -19,6 +19,32 @@ use serde_json::Value;
 use std::alloc::{AllocError, Global};
 use std::borrow::CowStr;
 use uuid::Uuid;
+
+impl JsonSchema for IssueId {
+    ghost says = { own (codes "IssueId") (λ d. IsIn ⟦<Uuid as JsonSchema>⟧.says d × IsIn ⟦<u32 as JsonSchema>⟧.says d) };
+
+    fn inline_schema() -> bool {
+        false
+    }
+
+    fn schema_name(_alloc: Global) -> Result<CowStr<'static>, AllocError> {
+        Ok(CowStr::Borrowed("IssueId"))
+    }
+
+    fn schema_id(alloc: Global) -> Result<CowStr<'static>, AllocError> {
+        Self::schema_name(alloc)
+    }
+
+    fn json_schema(alloc: Global, types: &mut Types) -> Result<TypeEntry, TypesError> {
+        let mut fields = Vec::new(alloc);
+        add_field::<Uuid>(alloc, types, &mut fields, "id", REQUIRED)?;
+        add_field::<u32>(alloc, types, &mut fields, "number", REQUIRED)?;
+        let mut entry = struct_entry(alloc, fields, false);
+        let description = Value::try_from_str(alloc, "What an issue is referred to by.")?;
+        note_entry(alloc, &mut entry, "description", description)?;
+        Ok(entry)
+    }
+}
 
 impl JsonSchema for Audit {
     ghost says = { own (codes "Audit") (λ d. IsIn ⟦<Timestamp as JsonSchema>⟧.says d × IsIn ⟦<Option<Timestamp> as JsonSchema>⟧.says d) };
@@ -50,7 +76,7 @@ impl JsonSchema for Audit {
 }
 
 impl JsonSchema for State {
-    ghost says = { own (codes "State") (λ d. IsIn ⟦<Audit as JsonSchema>⟧.says d × IsIn ⟦<Option<String> as JsonSchema>⟧.says d × IsIn ⟦<User as JsonSchema>⟧.says d) };
+    ghost says = { own (codes "State") (λ d. IsIn ⟦<Audit as JsonSchema>⟧.says d × IsIn ⟦<Option<String> as JsonSchema>⟧.says d × IsIn ⟦<IssueId as JsonSchema>⟧.says d) };
 
     fn inline_schema() -> bool {
         false
@@ -116,8 +142,8 @@ fn state_part_2(
     ensures follows { OnOk result (Describes ⟦<State as JsonSchema>⟧.says types.old types.new) }
     ensures refused { IfErr result (RefusesPart ⟦<State as JsonSchema>⟧.says types.old) }
 {
-    add_internal_newtype::<User>(alloc, types, variants, "taken")?;
-    let description = Value::try_from_str(alloc, "worked on by this user")?;
+    add_internal_newtype::<IssueId>(alloc, types, variants, "duplicate")?;
+    let description = Value::try_from_str(alloc, "the same as another issue")?;
     note_internal_variant(alloc, variants, "description", description)?;
     Ok(())
 }
@@ -182,8 +208,40 @@ fn change_part_1(
     Ok(())
 }
 
+impl JsonSchema for Note {
+    ghost says = { own (codes "Note") (λ d. IsIn ⟦<Actor as JsonSchema>⟧.says d × IsIn ⟦<String as JsonSchema>⟧.says d × IsSeqOf (codes "Note") (codes "Note") d × IsIn ⟦<Audit as JsonSchema>⟧.says d) };
+
+    fn inline_schema() -> bool {
+        false
+    }
+
+    fn schema_name(_alloc: Global) -> Result<CowStr<'static>, AllocError> {
+        Ok(CowStr::Borrowed("Note"))
+    }
+
+    fn schema_id(alloc: Global) -> Result<CowStr<'static>, AllocError> {
+        Self::schema_name(alloc)
+    }
+
+    fn json_schema(alloc: Global, types: &mut Types) -> Result<TypeEntry, TypesError> {
+        let mut fields = Vec::new(alloc);
+        let mut parts = Vec::new(alloc);
+        add_field::<Actor>(alloc, types, &mut fields, "by", REQUIRED)?;
+        add_field::<String>(alloc, types, &mut fields, "text", REQUIRED)?;
+        add_seq_of(alloc, types, &mut fields, "notes", "Note", "Note", REQUIRED)?;
+        add_flattened::<Audit>(alloc, types, &mut parts, REQUIRED)?;
+        let mut entry = flat_entry(alloc, fields, parts, false);
+        let description = Value::try_from_str(
+            alloc,
+            "A note on an issue, and the notes on it. The members of its audit are among its own.",
+        )?;
+        note_entry(alloc, &mut entry, "description", description)?;
+        Ok(entry)
+    }
+}
+
 impl JsonSchema for Issue {
-    ghost says = { own (codes "Issue") (λ d. IsIn ⟦<Uuid as JsonSchema>⟧.says d × IsIn ⟦<String as JsonSchema>⟧.says d × IsIn ⟦<Priority as JsonSchema>⟧.says d × IsIn ⟦<State as JsonSchema>⟧.says d × IsIn ⟦<Vec<Label> as JsonSchema>⟧.says d × IsIn ⟦<Vec<Change> as JsonSchema>⟧.says d × IsSeqOf (codes "Issue") (codes "Issue") d × IsIn ⟦<Audit as JsonSchema>⟧.says d) };
+    ghost says = { own (codes "Issue") (λ d. IsIn ⟦<String as JsonSchema>⟧.says d × IsIn ⟦<State as JsonSchema>⟧.says d × IsIn ⟦<Vec<Label> as JsonSchema>⟧.says d × IsIn ⟦<Vec<Note> as JsonSchema>⟧.says d × IsIn ⟦<Vec<Change> as JsonSchema>⟧.says d × IsIn ⟦<IssueId as JsonSchema>⟧.says d) };
 
     fn inline_schema() -> bool {
         false
@@ -200,26 +258,16 @@ impl JsonSchema for Issue {
     fn json_schema(alloc: Global, types: &mut Types) -> Result<TypeEntry, TypesError> {
         let mut fields = Vec::new(alloc);
         let mut parts = Vec::new(alloc);
-        add_field::<Uuid>(alloc, types, &mut fields, "id", REQUIRED)?;
         add_field::<String>(alloc, types, &mut fields, "title", REQUIRED)?;
-        add_field::<Priority>(alloc, types, &mut fields, "priority", REQUIRED)?;
         add_field::<State>(alloc, types, &mut fields, "state", REQUIRED)?;
         add_field::<Vec<Label>>(alloc, types, &mut fields, "labels", REQUIRED)?;
+        add_field::<Vec<Note>>(alloc, types, &mut fields, "notes", REQUIRED)?;
         add_field::<Vec<Change>>(alloc, types, &mut fields, "history", REQUIRED)?;
-        add_seq_of(
-            alloc,
-            types,
-            &mut fields,
-            "parts",
-            "Issue",
-            "Issue",
-            REQUIRED,
-        )?;
-        add_flattened::<Audit>(alloc, types, &mut parts, REQUIRED)?;
+        add_flattened::<IssueId>(alloc, types, &mut parts, REQUIRED)?;
         let mut entry = flat_entry(alloc, fields, parts, false);
         let description = Value::try_from_str(
             alloc,
-            "An issue, and those that are parts of it. The members of its audit are among its own.",
+            "An issue. The members of its id are among its own.",
         )?;
         note_entry(alloc, &mut entry, "description", description)?;
         Ok(entry)

@@ -5,8 +5,8 @@ ghost use Rattle.schemars.specs.Words.{codes, IsIn, IsMapOf, own};
 
 use crate::issues::Issue;
 use crate::people::User;
-use crate::tracker::Tracker;
-use crate::values::FieldValue;
+use crate::tracker::{Area, Tracker};
+use crate::values::{FieldValue, Priority};
 use schemars::impls::{
     JsonSchema, OPTIONAL, READ_OPTIONAL, REQUIRED, add_field, add_map_of, note_entry, note_field,
     struct_entry,
@@ -18,8 +18,39 @@ use std::borrow::CowStr;
 use std::collections::BTreeMap;
 use url::Url;
 
+impl JsonSchema for Area {
+    ghost says = { own (codes "Area") (λ d. IsIn ⟦<Url as JsonSchema>⟧.says d × IsIn ⟦<Priority as JsonSchema>⟧.says d × IsIn ⟦<Vec<Issue> as JsonSchema>⟧.says d × IsMapOf ⟦<String as JsonSchema>⟧.says (codes "Area") (codes "Area") d) };
+
+    fn inline_schema() -> bool {
+        false
+    }
+
+    fn schema_name(_alloc: Global) -> Result<CowStr<'static>, AllocError> {
+        Ok(CowStr::Borrowed("Area"))
+    }
+
+    fn schema_id(alloc: Global) -> Result<CowStr<'static>, AllocError> {
+        Self::schema_name(alloc)
+    }
+
+    fn json_schema(alloc: Global, types: &mut Types) -> Result<TypeEntry, TypesError> {
+        let mut fields = Vec::new(alloc);
+        add_field::<Url>(alloc, types, &mut fields, "page", REQUIRED)?;
+        add_field::<Priority>(alloc, types, &mut fields, "priority", REQUIRED)?;
+        add_field::<Vec<Issue>>(alloc, types, &mut fields, "issues", REQUIRED)?;
+        add_map_of::<String>(alloc, types, &mut fields, "parts", "Area", "Area", OPTIONAL)?;
+        let mut entry = struct_entry(alloc, fields, false);
+        let description = Value::try_from_str(
+            alloc,
+            "An area with its issues, and the areas that are parts of it by their names.",
+        )?;
+        note_entry(alloc, &mut entry, "description", description)?;
+        Ok(entry)
+    }
+}
+
 impl JsonSchema for Tracker {
-    ghost says = { own (codes "Tracker") (λ d. IsIn ⟦<Url as JsonSchema>⟧.says d × IsIn ⟦<Vec<User> as JsonSchema>⟧.says d × IsIn ⟦<Vec<Issue> as JsonSchema>⟧.says d × IsMapOf ⟦<String as JsonSchema>⟧.says (codes "Tracker") (codes "Tracker") d × IsIn ⟦<BTreeMap<String, FieldValue> as JsonSchema>⟧.says d) };
+    ghost says = { own (codes "Tracker") (λ d. IsIn ⟦<Vec<User> as JsonSchema>⟧.says d × IsIn ⟦<BTreeMap<String, Area> as JsonSchema>⟧.says d × IsIn ⟦<BTreeMap<String, FieldValue> as JsonSchema>⟧.says d) };
 
     fn inline_schema() -> bool {
         false
@@ -35,19 +66,9 @@ impl JsonSchema for Tracker {
 
     fn json_schema(alloc: Global, types: &mut Types) -> Result<TypeEntry, TypesError> {
         let mut fields = Vec::new(alloc);
-        add_field::<Url>(alloc, types, &mut fields, "page", REQUIRED)?;
         add_field::<Vec<User>>(alloc, types, &mut fields, "users", REQUIRED)?;
-        add_field::<Vec<Issue>>(alloc, types, &mut fields, "issues", REQUIRED)?;
-        add_map_of::<String>(
-            alloc,
-            types,
-            &mut fields,
-            "parts",
-            "Tracker",
-            "Tracker",
-            OPTIONAL,
-        )?;
-        let description = Value::try_from_str(alloc, "the trackers of its parts, by their names")?;
+        add_field::<BTreeMap<String, Area>>(alloc, types, &mut fields, "areas", REQUIRED)?;
+        let description = Value::try_from_str(alloc, "the areas by their names")?;
         note_field(alloc, &mut fields, "description", description)?;
         add_field::<BTreeMap<String, FieldValue>>(
             alloc,
