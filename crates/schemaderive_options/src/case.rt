@@ -24,127 +24,83 @@ pub enum Case {
     ScreamingKebab,
 }
 
+// The names of cases.
+const NAMED: [(&str, Case); 8] = [
+    ("lowercase", Case::Lower),
+    ("UPPERCASE", Case::Upper),
+    ("PascalCase", Case::Pascal),
+    ("camelCase", Case::Camel),
+    ("snake_case", Case::Snake),
+    ("SCREAMING_SNAKE_CASE", Case::ScreamingSnake),
+    ("kebab-case", Case::Kebab),
+    ("SCREAMING-KEBAB-CASE", Case::ScreamingKebab),
+];
+
 impl Case {
     /// The case with this name.
     pub fn named(name: &str) -> Option<Case> {
-        match name {
-            "lowercase" => Some(Case::Lower),
-            "UPPERCASE" => Some(Case::Upper),
-            "PascalCase" => Some(Case::Pascal),
-            "camelCase" => Some(Case::Camel),
-            "snake_case" => Some(Case::Snake),
-            "SCREAMING_SNAKE_CASE" => Some(Case::ScreamingSnake),
-            "kebab-case" => Some(Case::Kebab),
-            "SCREAMING-KEBAB-CASE" => Some(Case::ScreamingKebab),
-            _ => None,
+        for (known, case) in &NAMED {
+            if *known == name {
+                return Some(*case);
+            }
         }
+        None
     }
 
     /// The name of a field in this case.
     pub fn of_field(self, alloc: Global, name: &str) -> Result<String, AllocError> {
+        let mut text = String::new(alloc);
+        let has_underscores = self != Case::Pascal && self != Case::Camel;
+        let mut begins = true;
+        for c in name.chars() {
+            if has_underscores || c != '_' {
+                text.push(self.letter_of_field(c, begins, text.is_empty()))?;
+            }
+            begins = c == '_';
+        }
+        Ok(text)
+    }
+
+    // A character of a field, which begins a word or the whole name.
+    fn letter_of_field(self, c: char, begins: bool, is_first: bool) -> char {
         match self {
-            Case::Unchanged | Case::Lower | Case::Snake => String::from_str(alloc, name),
-            Case::Upper | Case::ScreamingSnake => upper(alloc, name),
-            Case::Pascal => pascal(alloc, name),
-            Case::Camel => {
-                let name = pascal(alloc, name)?;
-                camel(alloc, name.as_str())
-            }
-            Case::Kebab => dashed(alloc, name),
-            Case::ScreamingKebab => {
-                let name = upper(alloc, name)?;
-                dashed(alloc, name.as_str())
-            }
+            Case::Camel if is_first => c.to_ascii_lowercase(),
+            Case::Pascal | Case::Camel if begins => c.to_ascii_uppercase(),
+            Case::Kebab | Case::ScreamingKebab if c == '_' => '-',
+            Case::Upper | Case::ScreamingSnake | Case::ScreamingKebab => c.to_ascii_uppercase(),
+            _ => c,
         }
     }
 
     /// The name of a variant in this case.
     pub fn of_variant(self, alloc: Global, name: &str) -> Result<String, AllocError> {
+        let mut text = String::new(alloc);
+        for c in name.chars() {
+            if c.is_uppercase() && !text.is_empty() {
+                self.push_separator(&mut text)?;
+            }
+            text.push(self.letter_of_variant(c, text.is_empty()))?;
+        }
+        Ok(text)
+    }
+
+    // What stands before the capital of a word in the name of a variant.
+    fn push_separator(self, text: &mut String) -> Result<(), AllocError> {
         match self {
-            Case::Unchanged | Case::Pascal => String::from_str(alloc, name),
-            Case::Lower => lower(alloc, name),
-            Case::Upper => upper(alloc, name),
-            Case::Camel => camel(alloc, name),
-            Case::Snake => snake(alloc, name),
-            Case::ScreamingSnake => {
-                let name = snake(alloc, name)?;
-                upper(alloc, name.as_str())
-            }
-            Case::Kebab => {
-                let name = snake(alloc, name)?;
-                dashed(alloc, name.as_str())
-            }
-            Case::ScreamingKebab => {
-                let name = snake(alloc, name)?;
-                let name = upper(alloc, name.as_str())?;
-                dashed(alloc, name.as_str())
-            }
+            Case::Snake | Case::ScreamingSnake => text.push('_'),
+            Case::Kebab | Case::ScreamingKebab => text.push('-'),
+            _ => Ok(()),
         }
     }
-}
 
-fn lower(alloc: Global, name: &str) -> Result<String, AllocError> {
-    let mut text = String::new(alloc);
-    for c in name.chars() {
-        text.push(c.to_ascii_lowercase())?;
-    }
-    Ok(text)
-}
-
-fn upper(alloc: Global, name: &str) -> Result<String, AllocError> {
-    let mut text = String::new(alloc);
-    for c in name.chars() {
-        text.push(c.to_ascii_uppercase())?;
-    }
-    Ok(text)
-}
-
-// A capital for each letter at the beginning or behind an underscore, and no underscores.
-fn pascal(alloc: Global, name: &str) -> Result<String, AllocError> {
-    let mut text = String::new(alloc);
-    let mut begins = true;
-    for c in name.chars() {
-        if c == '_' {
-            begins = true;
-        } else if begins {
-            text.push(c.to_ascii_uppercase())?;
-            begins = false;
-        } else {
-            text.push(c)?;
+    // A character of a variant.
+    fn letter_of_variant(self, c: char, is_first: bool) -> char {
+        match self {
+            Case::Unchanged | Case::Pascal => c,
+            Case::Camel if !is_first => c,
+            Case::Kebab | Case::ScreamingKebab if c == '_' => '-',
+            Case::Upper | Case::ScreamingSnake | Case::ScreamingKebab => c.to_ascii_uppercase(),
+            Case::Lower | Case::Camel | Case::Snake | Case::Kebab => c.to_ascii_lowercase(),
         }
     }
-    Ok(text)
-}
-
-// A small letter at the beginning.
-fn camel(alloc: Global, name: &str) -> Result<String, AllocError> {
-    let mut text = String::new(alloc);
-    for c in name.chars() {
-        if text.is_empty() {
-            text.push(c.to_ascii_lowercase())?;
-        } else {
-            text.push(c)?;
-        }
-    }
-    Ok(text)
-}
-
-// An underscore before each capital but the first letter, and small letters.
-fn snake(alloc: Global, name: &str) -> Result<String, AllocError> {
-    let mut text = String::new(alloc);
-    for c in name.chars() {
-        if c.is_uppercase() && !text.is_empty() {
-            text.push('_')?;
-        }
-        text.push(c.to_ascii_lowercase())?;
-    }
-    Ok(text)
-}
-
-fn dashed(alloc: Global, name: &str) -> Result<String, AllocError> {
-    let mut text = String::new(alloc);
-    for c in name.chars() {
-        text.push(if c == '_' { '-' } else { c })?;
-    }
-    Ok(text)
 }

@@ -3,7 +3,7 @@ use crate::context::{Context, Contract};
 use crate::lists::{derives_name, read_options};
 use crate::names::{Cases, Names, cases_in, names_in};
 use crate::notes::Notes;
-use crate::shared::{Common, DefaultValue, default_in, read_common, type_of};
+use crate::shared::{Common, DefaultValue, default_in, type_of};
 use crate::values::text_of;
 use schemaderive_syntax::{Fault, Meta, Place, TypeExpr};
 
@@ -62,6 +62,48 @@ impl ContainerOptions {
             notes: Notes::new(context.alloc),
         }
     }
+
+    fn read(&mut self, context: &mut Context, attributes: &[Meta<'_>]) -> Result<(), Fault> {
+        let items = read_options(context, attributes)?;
+        let mut common = Common::new(context.alloc);
+        for item in &items {
+            if !common.read(context, item)? {
+                self.read_item(context, item)?;
+            }
+        }
+        self.read_conversions(context, &items)?;
+        self.derives_default = derives_name(context.alloc, attributes, "Default")?;
+        common.put_into(context, attributes, &mut self.notes)
+    }
+
+    fn read_item(&mut self, context: &Context, item: &Meta<'_>) -> Result<(), Fault> {
+        match item.name {
+            "rename" => self.names = names_in(context, item)?,
+            "remote" => self.remote = Some(text_of(context, item)?),
+            "rename_all" => self.rename_all = cases_in(context, item)?,
+            "rename_all_fields" => self.rename_all_fields = cases_in(context, item)?,
+            "tag" => self.tag = Some(text_of(context, item)?),
+            "content" => self.content = Some(text_of(context, item)?),
+            "untagged" => self.untagged = Some(item.place),
+            "deny_unknown_fields" => self.is_closed = true,
+            "default" => self.default = Some(default_in(item)),
+            "transparent" => self.is_transparent = true,
+            "inline" => self.is_inline = true,
+            "with" => self.stands_for = Some(type_of(context, item)?),
+            "from" | "try_from" | "into" => {}
+            _ => return Err(context.refused_meta(item, "this is not known at a type")),
+        }
+        Ok(())
+    }
+
+    // Reads the types that serde converts a value from or to.
+    fn read_conversions(&mut self, context: &Context, items: &[Meta<'_>]) -> Result<(), Fault> {
+        if let Some(item) = conversion_in(context, items)? {
+            self.stands_for = Some(type_of(context, &item)?);
+            self.is_converted = true;
+        }
+        Ok(())
+    }
 }
 
 /// Reads the attributes of a struct or an enum.
@@ -73,54 +115,13 @@ pub fn container_options(
     context: &mut Context,
     attributes: &[Meta<'_>],
 ) -> Result<ContainerOptions, Fault> {
-    let items = read_options(context, attributes)?;
     let mut options = ContainerOptions::new(context);
-    let mut common = Common::new(context.alloc);
-    for item in &items {
-        if !read_common(context, item, &mut common)? {
-            read_item(context, item, &mut options)?;
-        }
-    }
-    read_conversions(context, &items, &mut options)?;
-    options.derives_default = derives_name(context.alloc, attributes, "Default")?;
-    options.notes = common.into_notes(context, attributes)?;
+    options.read(context, attributes)?;
     Ok(options)
 }
 
-fn read_item(
-    context: &mut Context,
-    item: &Meta<'_>,
-    options: &mut ContainerOptions,
-) -> Result<(), Fault> {
-    match item.name {
-        "rename" => options.names = names_in(context, item)?,
-        "remote" => options.remote = Some(text_of(context, item)?),
-        "rename_all" => options.rename_all = cases_in(context, item)?,
-        "rename_all_fields" => options.rename_all_fields = cases_in(context, item)?,
-        "tag" => options.tag = Some(text_of(context, item)?),
-        "content" => options.content = Some(text_of(context, item)?),
-        "untagged" => options.untagged = Some(item.place),
-        "deny_unknown_fields" => options.is_closed = true,
-        "default" => options.default = Some(default_in(item)),
-        "transparent" => options.is_transparent = true,
-        "inline" => options.is_inline = true,
-        "with" => options.stands_for = Some(type_of(context, item)?),
-        "from" | "try_from" | "into" => {}
-        "schema_with" => {
-            let reason = "what a function returns is not known here: say `with` or `extend`";
-            return Err(context.refused_meta(item, reason));
-        }
-        _ => return Err(context.refused_meta(item, "this is not known at a type")),
-    }
-    Ok(())
-}
-
-// Reads the types that serde converts a value from or to.
-fn read_conversions(
-    context: &Context,
-    items: &[Meta<'_>],
-    options: &mut ContainerOptions,
-) -> Result<(), Fault> {
+// The attribute with the type that the values of the table are converted from or to.
+fn conversion_in<'a>(context: &Context, items: &[Meta<'a>]) -> Result<Option<Meta<'a>>, Fault> {
     let mut from = None;
     let mut into = None;
     for item in items {
@@ -130,35 +131,28 @@ fn read_conversions(
             _ => {}
         }
     }
-    let chosen = match context.contract {
-        Contract::Deserialize => from,
-        Contract::Serialize => into,
-        Contract::Both => one_of(context, from, into)?,
-    };
-    if let Some(item) = chosen {
-        options.stands_for = Some(type_of(context, &item)?);
-        options.is_converted = true;
+    match (context.contract, from, into) {
+        (Contract::Deserialize, _, _) => Ok(from),
+        (Contract::Serialize, _, _) => Ok(into),
+        (Contract::Both, None, None) => Ok(None),
+        (Contract::Both, Some(item), None) | (Contract::Both, None, Some(item)) => {
+            Err(context.refused_meta(&item, DIFFERENT))
+        }
+        (Contract::Both, Some(from), Some(into)) => {
+            refuse_other(context, &from, &into)?;
+            Ok(Some(from))
+        }
     }
-    Ok(())
 }
 
-// The one conversion, where a value is read from the type that it is written to.
-fn one_of<'a>(
-    context: &Context,
-    from: Option<Meta<'a>>,
-    into: Option<Meta<'a>>,
-) -> Result<Option<Meta<'a>>, Fault> {
-    let reason = "what is read and what is written differ: say --deserialize or --serialize";
-    match (from, into) {
-        (None, None) => Ok(None),
-        (Some(from), Some(into)) => {
-            let read = text_of(context, &from)?;
-            let written = text_of(context, &into)?;
-            if read.as_str() == written.as_str() {
-                return Ok(Some(from));
-            }
-            Err(context.refused_meta(&from, reason))
-        }
-        (Some(item), None) | (None, Some(item)) => Err(context.refused_meta(&item, reason)),
+const DIFFERENT: &str = "what is read and what is written differ: say --deserialize or --serialize";
+
+// Refuses a value that is read from another type than the one that it is written to.
+fn refuse_other(context: &Context, from: &Meta<'_>, into: &Meta<'_>) -> Result<(), Fault> {
+    let read = text_of(context, from)?;
+    let written = text_of(context, into)?;
+    if read.as_str() == written.as_str() {
+        return Ok(());
     }
+    Err(context.refused_meta(from, DIFFERENT))
 }

@@ -46,16 +46,22 @@ impl Context {
 
     /// The fault of the attribute with this name.
     pub fn refused_name(&self, place: Place, name: &str, reason: &str) -> Fault {
-        match format!(in self.alloc; "`{name}`: {reason}") {
-            Ok(reason) => Fault::Refused(Refusal { place, reason }),
+        match self.refusal(place, name, reason) {
+            Ok(refusal) => Fault::Refused(refusal),
             Err(_) => Fault::OutOfMemory,
         }
     }
 
     /// Adds a warning of the attribute with this name.
     pub fn warn(&mut self, place: Place, name: &str, reason: &str) -> Result<(), AllocError> {
-        let reason = format!(in self.alloc; "`{name}`: {reason}")?;
-        self.warnings.push(Refusal { place, reason })?;
+        let refusal = self.refusal(place, name, reason)?;
+        self.warnings.push(refusal)?;
         Ok(())
+    }
+
+    // What is to be said of the attribute with this name.
+    fn refusal(&self, place: Place, name: &str, reason: &str) -> Result<Refusal, AllocError> {
+        let reason = format!(in self.alloc; "`{name}`: {reason}")?;
+        Ok(Refusal { place, reason })
     }
 }

@@ -1,7 +1,7 @@
 //! What documentation says.
 use crate::context::Context;
 use crate::notes::Notes;
-use crate::values::literal_text;
+use crate::values::text_of;
 use schemaderive_syntax::{Fault, Meta, MetaValue};
 use std::alloc::AllocError;
 
@@ -16,42 +16,31 @@ pub fn add_docs(
     notes: &mut Notes,
 ) -> Result<(), Fault> {
     let mut doc = String::new(context.alloc);
-    let mut is_first = true;
     for attribute in attributes {
-        if attribute.name != "doc" {
-            continue;
+        if attribute.name == "doc" {
+            push_doc(context, attribute, &mut doc)?;
         }
-        let Some(text) = doc_text(context, attribute)? else {
-            continue;
-        };
-        if !is_first {
-            doc.push('\n')?;
-        }
-        is_first = false;
-        doc.push_str(without_space(text.as_str()))?;
     }
     add_parts(context, doc.as_str(), notes)?;
     Ok(())
 }
 
-// The text of an attribute of documentation; none if it is a list, as `doc(hidden)`.
-fn doc_text(context: &Context, attribute: &Meta<'_>) -> Result<Option<String>, Fault> {
+// Adds the lines of an attribute of documentation. One with a list, as `doc(hidden)`, has none.
+fn push_doc(context: &Context, attribute: &Meta<'_>, doc: &mut String) -> Result<(), Fault> {
     match attribute.value {
-        MetaValue::Doc(text) => Ok(Some(String::from_str(context.alloc, text)?)),
-        MetaValue::Equals(cursor) => match literal_text(context, cursor)? {
-            Some(text) => Ok(Some(text)),
-            None => Err(context.refused_meta(attribute, "a literal text is wanted here")),
-        },
-        MetaValue::List(_) | MetaValue::Nothing => Ok(None),
+        MetaValue::List(_) | MetaValue::Nothing => {}
+        MetaValue::Doc(_) | MetaValue::Equals(_) => {
+            let text = text_of(context, attribute)?;
+            doc.push_str(without_space(text.as_str()))?;
+            doc.push('\n')?;
+        }
     }
+    Ok(())
 }
 
 // A line without the space at its beginning.
 fn without_space(line: &str) -> &str {
-    match line.strip_prefix(' ') {
-        Some(rest) => rest,
-        None => line,
-    }
+    line.strip_prefix(' ').unwrap_or(line)
 }
 
 fn trimmed(text: &str) -> &str {
@@ -64,10 +53,7 @@ fn add_parts(context: &Context, doc: &str, notes: &mut Notes) -> Result<(), Allo
     if !text.starts_with('#') {
         return add_text(context, notes, "description", text);
     }
-    let (heading, rest) = match text.split_once('\n') {
-        Some((heading, rest)) => (heading, rest),
-        None => (text, ""),
-    };
+    let (heading, rest) = text.split_once('\n').unwrap_or((text, ""));
     add_text(
         context,
         notes,

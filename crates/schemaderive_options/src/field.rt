@@ -3,10 +3,14 @@ use crate::context::Context;
 use crate::lists::read_options;
 use crate::names::{Names, names_in};
 use crate::notes::Notes;
-use crate::shared::{Common, DefaultValue, Presence, default_in, read_common, type_of};
+use crate::shared::{Common, DefaultValue, Presence, default_in, type_of};
 use crate::validation::Validation;
 use crate::values::text_of;
 use schemaderive_syntax::{Fault, Meta, Place, TypeExpr};
+use std::alloc::AllocError;
+
+/// What is said of another name that is read.
+pub const OTHER_NAME: &str = "the document has the other name alone, as that of the Rust crate";
 
 /// What the attributes of a field say.
 #[derive(Drop)]
@@ -39,10 +43,7 @@ impl FieldOptions {
             names: Names::none(),
             is_flat: false,
             default: None,
-            presence: Presence {
-                deserialize: true,
-                serialize: true,
-            },
+            presence: Presence::everywhere(),
             skipped: None,
             skip_if: None,
             skip_place: None,
@@ -50,6 +51,70 @@ impl FieldOptions {
             validation: Validation::new(context.alloc),
             notes: Notes::new(context.alloc),
         }
+    }
+
+    fn read(&mut self, context: &mut Context, attributes: &[Meta<'_>]) -> Result<(), Fault> {
+        refuse_conditions(context, attributes)?;
+        let items = read_options(context, attributes)?;
+        let mut common = Common::new(context.alloc);
+        for item in &items {
+            if !common.read(context, item)? && !self.validation.read(context, item)? {
+                self.read_item(context, item)?;
+            }
+        }
+        self.warn_of_functions(context, &items)?;
+        common.put_into(context, attributes, &mut self.notes)?;
+        self.add_directions(context)
+    }
+
+    fn read_item(&mut self, context: &mut Context, item: &Meta<'_>) -> Result<(), Fault> {
+        match item.name {
+            "rename" => self.names = names_in(context, item)?,
+            "flatten" => self.is_flat = true,
+            "default" => self.default = Some(default_in(item)),
+            "skip" | "skip_serializing" | "skip_deserializing" => {
+                self.skipped = Some(item.place);
+                self.presence.leave_out(item.name);
+            }
+            "skip_serializing_if" => {
+                self.skip_if = Some(text_of(context, item)?);
+                self.skip_place = Some(item.place);
+            }
+            "with" => self.stands_for = Some(type_of(context, item)?),
+            "alias" => context.warn(item.place, item.name, OTHER_NAME)?,
+            "serialize_with" | "deserialize_with" => {}
+            _ => return Err(context.refused_meta(item, "this is not known at a field")),
+        }
+        Ok(())
+    }
+
+    // A function that writes or reads the value may give it another type.
+    fn warn_of_functions(
+        &self,
+        context: &mut Context,
+        items: &[Meta<'_>],
+    ) -> Result<(), AllocError> {
+        if self.stands_for.is_some() {
+            return Ok(());
+        }
+        for item in items {
+            if item.name == "serialize_with" || item.name == "deserialize_with" {
+                let reason = "the document is that of the type, whatever the function does";
+                context.warn(item.place, item.name, reason)?;
+            }
+        }
+        Ok(())
+    }
+
+    // A field that is only read is `writeOnly`, and one that is only written `readOnly`.
+    fn add_directions(&mut self, context: &Context) -> Result<(), Fault> {
+        let key = match (self.presence.deserialize, self.presence.serialize) {
+            (true, false) => "writeOnly",
+            (false, true) => "readOnly",
+            (true, true) | (false, false) => return Ok(()),
+        };
+        self.notes.put_json(context.alloc, key, "true")?;
+        Ok(())
     }
 }
 
@@ -62,18 +127,8 @@ pub fn field_options(
     context: &mut Context,
     attributes: &[Meta<'_>],
 ) -> Result<FieldOptions, Fault> {
-    refuse_conditions(context, attributes)?;
-    let items = read_options(context, attributes)?;
     let mut options = FieldOptions::new(context);
-    let mut common = Common::new(context.alloc);
-    for item in &items {
-        if !read_common(context, item, &mut common)? && !options.validation.read(context, item)? {
-            read_item(context, item, &mut options)?;
-        }
-    }
-    warn_of_functions(context, &items, &options)?;
-    options.notes = common.into_notes(context, attributes)?;
-    add_directions(context, &mut options)?;
+    options.read(context, attributes)?;
     Ok(options)
 }
 
@@ -89,74 +144,5 @@ pub fn refuse_conditions(context: &Context, attributes: &[Meta<'_>]) -> Result<(
             return Err(context.refused_meta(attribute, reason));
         }
     }
-    Ok(())
-}
-
-fn read_item(
-    context: &mut Context,
-    item: &Meta<'_>,
-    options: &mut FieldOptions,
-) -> Result<(), Fault> {
-    match item.name {
-        "rename" => options.names = names_in(context, item)?,
-        "flatten" => options.is_flat = true,
-        "default" => options.default = Some(default_in(item)),
-        "skip" | "skip_serializing" | "skip_deserializing" => read_skip(item, options),
-        "skip_serializing_if" => {
-            options.skip_if = Some(text_of(context, item)?);
-            options.skip_place = Some(item.place);
-        }
-        "with" => options.stands_for = Some(type_of(context, item)?),
-        "alias" => {
-            let reason = "the document has the other name alone, as that of the Rust crate";
-            context.warn(item.place, item.name, reason)?;
-        }
-        "serialize_with" | "deserialize_with" => {}
-        "schema_with" => {
-            let reason = "what a function returns is not known here: say `with` or `extend`";
-            return Err(context.refused_meta(item, reason));
-        }
-        _ => return Err(context.refused_meta(item, "this is not known at a field")),
-    }
-    Ok(())
-}
-
-fn read_skip(item: &Meta<'_>, options: &mut FieldOptions) {
-    options.skipped = Some(item.place);
-    if item.name != "skip_serializing" {
-        options.presence.deserialize = false;
-    }
-    if item.name != "skip_deserializing" {
-        options.presence.serialize = false;
-    }
-}
-
-// A function that writes or reads the value may give it another type.
-fn warn_of_functions(
-    context: &mut Context,
-    items: &[Meta<'_>],
-    options: &FieldOptions,
-) -> Result<(), Fault> {
-    if options.stands_for.is_some() {
-        return Ok(());
-    }
-    for item in items {
-        if item.name == "serialize_with" || item.name == "deserialize_with" {
-            let reason = "the document is that of the type, whatever the function does";
-            context.warn(item.place, item.name, reason)?;
-        }
-    }
-    Ok(())
-}
-
-// A field that is only read is `writeOnly`, and one that is only written `readOnly`.
-fn add_directions(context: &Context, options: &mut FieldOptions) -> Result<(), Fault> {
-    let key = match (options.presence.deserialize, options.presence.serialize) {
-        (true, false) => "writeOnly",
-        (false, true) => "readOnly",
-        (true, true) | (false, false) => return Ok(()),
-    };
-    let yes = String::from_str(context.alloc, "true")?;
-    options.notes.put(context.alloc, key, yes)?;
     Ok(())
 }

@@ -9,14 +9,7 @@ use std::alloc::Global;
 ///
 /// A list of derives is none of Rust.
 pub fn derives(alloc: Global, attributes: &[Meta<'_>]) -> Result<bool, Fault> {
-    for attribute in attributes {
-        if let MetaValue::List(list) = attribute.value {
-            if attribute.name == "derive" && has_name(alloc, list, "JsonSchema")? {
-                return Ok(true);
-            }
-        }
-    }
-    Ok(false)
+    derives_name(alloc, attributes, "JsonSchema")
 }
 
 /// Whether attributes derive what has this name.
@@ -37,12 +30,7 @@ pub fn derives_name(alloc: Global, attributes: &[Meta<'_>], name: &str) -> Resul
 
 fn has_name(alloc: Global, list: Cursor<'_>, name: &str) -> Result<bool, Fault> {
     let metas = read_metas(alloc, list)?;
-    for meta in &metas {
-        if meta.name == name {
-            return Ok(true);
-        }
-    }
-    Ok(false)
+    Ok(has_item(&metas, name))
 }
 
 /// The items of the attributes `schemars`, `serde`, `validate` and `garde`, and `deprecated`. Where
@@ -57,19 +45,8 @@ pub fn read_options<'a>(
 ) -> Result<Vec<Meta<'a>>, Fault> {
     let own = items_of(context, attributes, "schemars")?;
     let mut items = Vec::new(context.alloc);
-    for item in &own {
-        if !item.is_unset {
-            add_item(context, &mut items, item)?;
-        }
-    }
-    for source in ["serde", "validate", "garde"] {
-        let others = items_of(context, attributes, source)?;
-        for item in &others {
-            let is_read = source == "serde" || is_validation(item.name);
-            if is_read && !has_item(&own, item.name) {
-                add_item(context, &mut items, item)?;
-            }
-        }
+    for source in SOURCES {
+        add_items(context, attributes, source, &own, &mut items)?;
     }
     for attribute in attributes {
         if attribute.name == "deprecated" && !has_item(&own, "deprecated") {
@@ -77,6 +54,31 @@ pub fn read_options<'a>(
         }
     }
     Ok(items)
+}
+
+// The attributes whose items are read, in their order.
+const SOURCES: [&str; 4] = ["schemars", "serde", "validate", "garde"];
+
+// Adds the items of one of these attributes, but for those that `schemars` has otherwise.
+fn add_items<'a>(
+    context: &Context,
+    attributes: &[Meta<'a>],
+    source: &str,
+    own: &[Meta<'_>],
+    items: &mut Vec<Meta<'a>>,
+) -> Result<(), Fault> {
+    let found = items_of(context, attributes, source)?;
+    for item in &found {
+        let is_read = match source {
+            "schemars" => !item.is_unset,
+            "serde" => !has_item(own, item.name),
+            _ => VALIDATIONS.contains(&item.name) && !has_item(own, item.name),
+        };
+        if is_read {
+            add_item(context, items, item)?;
+        }
+    }
+    Ok(())
 }
 
 fn without_value<'a>(attribute: &Meta<'a>) -> Meta<'a> {
@@ -97,20 +99,24 @@ fn items_of<'a>(
 ) -> Result<Vec<Meta<'a>>, Fault> {
     let mut items = Vec::new(context.alloc);
     for attribute in attributes {
-        if attribute.name != name {
-            continue;
-        }
-        match attribute.value {
-            MetaValue::List(list) => {
-                let found = read_metas(context.alloc, list)?;
-                for item in &found {
-                    items.push(*item)?;
-                }
-            }
-            _ => return Err(context.refused_meta(attribute, "a list in parentheses is wanted")),
+        if attribute.name == name {
+            let mut found = items_in(context, attribute)?;
+            items.append(&mut found)?;
         }
     }
     Ok(items)
+}
+
+/// The items of an attribute's list.
+///
+/// # Errors
+///
+/// It has no list, or one that is none of attributes.
+pub fn items_in<'a>(context: &Context, meta: &Meta<'a>) -> Result<Vec<Meta<'a>>, Fault> {
+    match meta.value {
+        MetaValue::List(list) => read_metas(context.alloc, list),
+        _ => Err(context.refused_meta(meta, "a list in parentheses is wanted")),
+    }
 }
 
 fn has_item(items: &[Meta<'_>], name: &str) -> bool {
@@ -127,24 +133,18 @@ fn add_item<'a>(
     items: &mut Vec<Meta<'a>>,
     item: &Meta<'a>,
 ) -> Result<(), Fault> {
-    if !may_repeat(item.name) && has_item(items, item.name) {
+    if has_item(items, item.name) && !REPEATED.contains(&item.name) {
         return Err(context.refused_meta(item, "this stands twice"));
     }
     items.push(*item)?;
     Ok(())
 }
 
-fn may_repeat(name: &str) -> bool {
-    match name {
-        "alias" | "example" | "extend" | "bound" | "transform" => true,
-        _ => false,
-    }
-}
+// The items that may stand more than once.
+const REPEATED: [&str; 5] = ["alias", "example", "extend", "bound", "transform"];
 
-fn is_validation(name: &str) -> bool {
-    match name {
-        "range" | "length" | "regex" | "pattern" | "contains" | "required" | "inner" => true,
-        "email" | "url" | "ip" | "ipv4" | "ipv6" => true,
-        _ => false,
-    }
-}
+// The items of `validate` and `garde` that are read.
+const VALIDATIONS: [&str; 12] = [
+    "range", "length", "regex", "pattern", "contains", "required", "inner", "email", "url", "ip",
+    "ipv4", "ipv6",
+];

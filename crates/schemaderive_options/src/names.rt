@@ -3,6 +3,7 @@ use crate::case::Case;
 use crate::context::{Context, Contract};
 use crate::values::text_of;
 use schemaderive_syntax::{Fault, Meta, MetaValue, Place, read_metas};
+use std::alloc::AllocError;
 
 /// The names that an attribute gives for values that are read, and for those that are written.
 #[derive(Drop)]
@@ -48,28 +49,33 @@ impl Cases {
 ///
 /// It gives none.
 pub fn names_in(context: &Context, meta: &Meta<'_>) -> Result<Names, Fault> {
+    let mut names = Names::none();
     match meta.value {
         MetaValue::List(list) => {
             let items = read_metas(context.alloc, list)?;
-            let mut names = Names::none();
             for item in &items {
-                let text = text_of(context, item)?;
-                match item.name {
-                    "deserialize" => names.deserialize = Some(text),
-                    "serialize" => names.serialize = Some(text),
-                    _ => {
-                        let reason = "`serialize` or `deserialize` is wanted here";
-                        return Err(context.refused_meta(item, reason));
-                    }
-                }
+                read_name(context, item, &mut names)?;
             }
-            Ok(names)
         }
-        _ => Ok(Names {
-            deserialize: Some(text_of(context, meta)?),
-            serialize: Some(text_of(context, meta)?),
-        }),
+        _ => {
+            names.deserialize = Some(text_of(context, meta)?);
+            names.serialize = Some(text_of(context, meta)?);
+        }
     }
+    Ok(names)
+}
+
+fn read_name(context: &Context, item: &Meta<'_>, names: &mut Names) -> Result<(), Fault> {
+    let text = text_of(context, item)?;
+    match item.name {
+        "deserialize" => names.deserialize = Some(text),
+        "serialize" => names.serialize = Some(text),
+        _ => {
+            let reason = "`serialize` or `deserialize` is wanted here";
+            return Err(context.refused_meta(item, reason));
+        }
+    }
+    Ok(())
 }
 
 /// The cases that `rename_all` gives.
@@ -115,6 +121,9 @@ pub fn name_of(
         cases.deserialize,
         is_variant,
     )?;
+    if context.contract == Contract::Deserialize {
+        return Ok(read);
+    }
     let sent = one_name(
         context,
         written,
@@ -122,16 +131,12 @@ pub fn name_of(
         cases.serialize,
         is_variant,
     )?;
-    match context.contract {
-        Contract::Deserialize => Ok(read),
-        Contract::Serialize => Ok(sent),
-        Contract::Both if read.as_str() == sent.as_str() => Ok(read),
-        Contract::Both => Err(context.refused_name(
-            place,
-            "rename",
-            "the name differs between what is read and what is written: say --deserialize or --serialize",
-        )),
+    if context.contract == Contract::Serialize || read.as_str() == sent.as_str() {
+        return Ok(sent);
     }
+    let reason =
+        "the name differs between what is read and what is written: say --deserialize or --serialize";
+    Err(context.refused_name(place, "rename", reason))
 }
 
 fn one_name(
@@ -140,12 +145,10 @@ fn one_name(
     name: &Option<String>,
     case: Case,
     is_variant: bool,
-) -> Result<String, Fault> {
-    if let Some(name) = name {
-        return Ok(String::from_str(context.alloc, name.as_str())?);
+) -> Result<String, AllocError> {
+    match name {
+        Some(name) => String::from_str(context.alloc, name.as_str()),
+        None if is_variant => case.of_variant(context.alloc, written),
+        None => case.of_field(context.alloc, written),
     }
-    if is_variant {
-        return Ok(case.of_variant(context.alloc, written)?);
-    }
-    Ok(case.of_field(context.alloc, written)?)
 }

@@ -11,6 +11,13 @@ pub struct Note {
     pub json: String,
 }
 
+impl Note {
+    // Whether it is a title or a description without text.
+    fn is_empty_text(&self) -> bool {
+        self.json.as_str() == "\"\"" && ["title", "description"].contains(&self.key.as_str())
+    }
+}
+
 /// Keywords that are added to a document.
 #[derive(Drop)]
 pub struct Notes {
@@ -41,17 +48,30 @@ impl Notes {
         None
     }
 
-    /// Sets the value of a keyword.
-    pub fn put(&mut self, alloc: Global, key: &str, json: String) -> Result<(), AllocError> {
+    // The note of a keyword.
+    fn note_of(&mut self, key: &str) -> Option<&mut Note> {
         for note in self.list.iter_mut() {
             if note.key.as_str() == key {
-                note.json = json;
-                return Ok(());
+                return Some(note);
             }
+        }
+        None
+    }
+
+    /// Sets the value of a keyword.
+    pub fn put(&mut self, alloc: Global, key: &str, json: String) -> Result<(), AllocError> {
+        if let Some(note) = self.note_of(key) {
+            note.json = json;
+            return Ok(());
         }
         let key = String::from_str(alloc, key)?;
         self.list.push(Note { key, json })?;
         Ok(())
+    }
+
+    /// Sets the value of a keyword to a copy of this.
+    pub fn put_json(&mut self, alloc: Global, key: &str, json: &str) -> Result<(), AllocError> {
+        self.put(alloc, key, String::from_str(alloc, json)?)
     }
 
     /// Sets the value of a keyword to a text.
@@ -61,39 +81,26 @@ impl Notes {
         self.put(alloc, key, json)
     }
 
-    /// Removes a keyword whose value is the empty text.
-    pub fn remove_text(&mut self, alloc: Global, key: &str) -> Result<(), AllocError> {
-        let mut kept = Vec::new(alloc);
-        for note in self.list.drain(..) {
-            if note.key.as_str() != key || note.json.as_str() != "\"\"" {
-                kept.push(note)?;
-            }
-        }
-        self.list = kept;
-        Ok(())
-    }
-
     /// Sets the keywords that others have.
     pub fn put_all(&mut self, alloc: Global, others: &Notes) -> Result<(), AllocError> {
         for note in &others.list {
-            self.put(
-                alloc,
-                note.key.as_str(),
-                String::from_str(alloc, note.json.as_str())?,
-            )?;
+            self.put_json(alloc, note.key.as_str(), note.json.as_str())?;
         }
         Ok(())
+    }
+
+    /// Removes the title and the description, where they are the empty text.
+    pub fn remove_empty_texts(&mut self) {
+        self.list.retain(|note| !note.is_empty_text());
     }
 
     /// Writes them as an object.
     pub fn push_object(&self, alloc: Global, out: &mut String) -> Result<(), AllocError> {
         out.push('{')?;
-        let mut is_first = true;
-        for note in &self.list {
-            if !is_first {
+        for (number, note) in self.list.iter().enumerate() {
+            if number > 0 {
                 out.push(',')?;
             }
-            is_first = false;
             push_quoted(alloc, out, note.key.as_str())?;
             out.push(':')?;
             out.push_str(note.json.as_str())?;

@@ -1,10 +1,11 @@
 //! What types, fields and variants have in common.
 use crate::context::{Context, Contract};
 use crate::docs::add_docs;
+use crate::lists::items_in;
 use crate::notes::Notes;
 use crate::values::{json_of, text_of};
 use schemaderive_syntax::{
-    Cursor, Fault, Meta, MetaValue, Place, TokenKind, TypeExpr, read_metas, read_tokens, read_type,
+    Cursor, Fault, Meta, MetaValue, Place, TokenKind, TypeExpr, read_tokens, read_type,
 };
 use std::alloc::Global;
 
@@ -24,6 +25,26 @@ pub struct Presence {
     pub deserialize: bool,
     /// in those that are written
     pub serialize: bool,
+}
+
+impl Presence {
+    /// In all values.
+    pub fn everywhere() -> Presence {
+        Presence {
+            deserialize: true,
+            serialize: true,
+        }
+    }
+
+    /// Leaves it out where an attribute says so: `skip`, `skip_serializing` or `skip_deserializing`.
+    pub fn leave_out(&mut self, attribute: &str) {
+        if attribute != "skip_serializing" {
+            self.deserialize = false;
+        }
+        if attribute != "skip_deserializing" {
+            self.serialize = false;
+        }
+    }
 }
 
 /// Whether what has this presence is in the table.
@@ -49,49 +70,17 @@ pub fn is_present(context: &Context, place: Place, presence: Presence) -> Result
     }
 }
 
-/// Reads an attribute of a name that all of them may have; false if it is none.
-///
-/// # Errors
-///
-/// Its value is computed, or of another form.
-pub fn read_common(
-    context: &mut Context,
-    meta: &Meta<'_>,
-    common: &mut Common,
-) -> Result<bool, Fault> {
-    match meta.name {
-        "title" | "description" => {
-            let text = text_of(context, meta)?;
-            common
-                .own
-                .put_text(context.alloc, meta.name, text.as_str())?;
-        }
-        "deprecated" => {
-            let yes = String::from_str(context.alloc, "true")?;
-            common.own.put(context.alloc, "deprecated", yes)?;
-        }
-        "example" => {
-            let json = json_of(context, meta)?;
-            refuse_path(context, meta)?;
-            push_example(&mut common.examples, json.as_str())?;
-        }
-        "extend" => read_extensions(context, meta, &mut common.extensions)?,
-        "transform" => {
-            return Err(context.refused_meta(meta, "a table has no transforms"));
-        }
-        "bound" | "crate" | "borrow" | "expecting" | "getter" => {}
-        _ => return Ok(false),
-    }
-    Ok(true)
-}
-
 /// The keywords that attributes give to a type, a field or a variant.
 #[derive(Drop)]
 pub struct Common {
     own: Notes,
+    // the examples, each behind a bracket or a comma
     examples: String,
     extensions: Notes,
 }
+
+// The names of attributes that say nothing of a document.
+const SILENT: [&str; 5] = ["bound", "crate", "borrow", "expecting", "getter"];
 
 impl Common {
     /// No keywords.
@@ -103,34 +92,74 @@ impl Common {
         }
     }
 
-    /// The keywords, with those that documentation gives. What attributes say goes before
+    /// Reads an attribute of a name that types, fields and variants may have; false if it is none.
+    ///
+    /// # Errors
+    ///
+    /// Its value is computed, or of another form.
+    pub fn read(&mut self, context: &Context, meta: &Meta<'_>) -> Result<bool, Fault> {
+        match meta.name {
+            "title" | "description" => {
+                let text = text_of(context, meta)?;
+                self.own.put_text(context.alloc, meta.name, text.as_str())?;
+            }
+            "deprecated" => self.own.put_json(context.alloc, "deprecated", "true")?,
+            "example" => self.read_example(context, meta)?,
+            "extend" => self.read_extensions(context, meta)?,
+            "transform" => return Err(context.refused_meta(meta, "a table has no transforms")),
+            "schema_with" => {
+                let reason = "what a function returns is not known here: say `with` or `extend`";
+                return Err(context.refused_meta(meta, reason));
+            }
+            name => return Ok(SILENT.contains(&name)),
+        }
+        Ok(true)
+    }
+
+    fn read_example(&mut self, context: &Context, meta: &Meta<'_>) -> Result<(), Fault> {
+        let json = json_of(context, meta)?;
+        refuse_path(context, meta)?;
+        let mark = if self.examples.is_empty() { '[' } else { ',' };
+        self.examples.push(mark)?;
+        self.examples.push_str(json.as_str())?;
+        Ok(())
+    }
+
+    fn read_extensions(&mut self, context: &Context, meta: &Meta<'_>) -> Result<(), Fault> {
+        let items = items_in(context, meta)?;
+        for item in &items {
+            if !item.is_text {
+                return Err(context.refused_meta(meta, "keywords are texts"));
+            }
+            let json = json_of(context, item)?;
+            self.extensions.put(context.alloc, item.name, json)?;
+        }
+        Ok(())
+    }
+
+    /// Adds the keywords, with those that documentation gives. What attributes say goes before
     /// documentation, and `extend` before both.
     ///
     /// # Errors
     ///
     /// The text of a documentation is computed.
-    pub fn into_notes(self, context: &Context, attributes: &[Meta<'_>]) -> Result<Notes, Fault> {
+    pub fn put_into(
+        &mut self,
+        context: &Context,
+        attributes: &[Meta<'_>],
+        notes: &mut Notes,
+    ) -> Result<(), Fault> {
         let alloc = context.alloc;
-        let mut notes = Notes::new(alloc);
-        add_docs(context, attributes, &mut notes)?;
+        add_docs(context, attributes, notes)?;
         notes.put_all(alloc, &self.own)?;
-        notes.remove_text(alloc, "title")?;
-        notes.remove_text(alloc, "description")?;
+        notes.remove_empty_texts();
         if !self.examples.is_empty() {
-            let list = format!(in alloc; "[{}]", self.examples.as_str())?;
-            notes.put(alloc, "examples", list)?;
+            self.examples.push(']')?;
+            notes.put_json(alloc, "examples", self.examples.as_str())?;
         }
         notes.put_all(alloc, &self.extensions)?;
-        Ok(notes)
+        Ok(())
     }
-}
-
-fn push_example(examples: &mut String, json: &str) -> Result<(), Fault> {
-    if !examples.is_empty() {
-        examples.push(',')?;
-    }
-    examples.push_str(json)?;
-    Ok(())
 }
 
 // The Rust derive refuses the text of an example that could be a path.
@@ -154,25 +183,6 @@ fn is_path(text: &str) -> bool {
         }
     }
     !text.is_empty() && !text.starts_with(|c: char| c.is_ascii_digit())
-}
-
-fn read_extensions(
-    context: &Context,
-    meta: &Meta<'_>,
-    extensions: &mut Notes,
-) -> Result<(), Fault> {
-    let MetaValue::List(list) = meta.value else {
-        return Err(context.refused_meta(meta, "a list in parentheses is wanted"));
-    };
-    let items = read_metas(context.alloc, list)?;
-    for item in &items {
-        if !item.is_text {
-            return Err(context.refused_meta(meta, "keywords are texts"));
-        }
-        let json = json_of(context, item)?;
-        extensions.put(context.alloc, item.name, json)?;
-    }
-    Ok(())
 }
 
 /// The type that an attribute names in a text.

@@ -1,8 +1,9 @@
 //! Attributes that say which values a field may have.
 use crate::context::Context;
-use crate::values::{json_of, literal_text};
-use schemaderive_syntax::{Fault, Meta, MetaValue, Place, read_metas};
-use std::alloc::Global;
+use crate::lists::items_in;
+use crate::values::{json_of, literal_text, push_quoted, wanted_text};
+use schemaderive_syntax::{Fault, Meta, MetaValue, Place};
+use std::alloc::{AllocError, Global};
 
 /// What a rule bounds.
 #[derive(Clone, Copy, Debug, PartialEq, Eq)]
@@ -64,73 +65,84 @@ impl Validation {
     /// Its value is computed, or it is of another form.
     pub fn read(&mut self, context: &Context, meta: &Meta<'_>) -> Result<bool, Fault> {
         match meta.name {
-            "range" => self.read_range(context, meta)?,
-            "length" => self.read_length(context, meta)?,
-            "regex" | "pattern" => {
-                let pattern = pattern_of(context, meta, "pattern")?;
-                self.add_text(context, meta, RuleKind::Pattern, pattern.as_str())?;
-            }
-            "contains" => {
-                let substring = pattern_of(context, meta, "pattern")?;
-                let pattern = escaped(context.alloc, substring.as_str())?;
-                self.add_text(context, meta, RuleKind::Pattern, pattern.as_str())?;
-            }
-            "email" => self.add_text(context, meta, RuleKind::Format, "email")?,
-            "url" => self.add_text(context, meta, RuleKind::Format, "uri")?,
-            "ip" => self.add_text(context, meta, RuleKind::Format, "ip")?,
-            "ipv4" => self.add_text(context, meta, RuleKind::Format, "ipv4")?,
-            "ipv6" => self.add_text(context, meta, RuleKind::Format, "ipv6")?,
+            "range" | "length" => self.read_bounds(context, meta)?,
+            "regex" | "pattern" | "contains" => self.read_pattern(context, meta)?,
+            "email" | "ip" | "ipv4" | "ipv6" => self.add_format(context, meta, meta.name)?,
+            "url" => self.add_format(context, meta, "uri")?,
             "required" => self.is_required = true,
             _ => return Ok(false),
         }
         Ok(true)
     }
 
-    fn read_range(&mut self, context: &Context, meta: &Meta<'_>) -> Result<(), Fault> {
+    fn read_bounds(&mut self, context: &Context, meta: &Meta<'_>) -> Result<(), Fault> {
         let items = items_in(context, meta)?;
         for item in &items {
-            let kind = match item.name {
-                "min" => RuleKind::Minimum,
-                "max" => RuleKind::Maximum,
-                _ => return Err(context.refused_meta(item, "`min` or `max` is wanted here")),
-            };
-            let json = json_of(context, item)?;
-            self.add(context, meta, kind, json)?;
-        }
-        Ok(())
-    }
-
-    fn read_length(&mut self, context: &Context, meta: &Meta<'_>) -> Result<(), Fault> {
-        let items = items_in(context, meta)?;
-        for item in &items {
-            let json = json_of(context, item)?;
-            match item.name {
-                "min" => self.add(context, meta, RuleKind::Shortest, json)?,
-                "max" => self.add(context, meta, RuleKind::Longest, json)?,
-                "equal" => {
-                    let copy = String::from_str(context.alloc, json.as_str())?;
-                    self.add(context, meta, RuleKind::Shortest, copy)?;
-                    self.add(context, meta, RuleKind::Longest, json)?;
-                }
-                _ => {
-                    let reason = "`min`, `max` or `equal` is wanted here";
-                    return Err(context.refused_meta(item, reason));
-                }
+            match meta.name {
+                "range" => self.read_bound(context, meta, item)?,
+                _ => self.read_length(context, meta, item)?,
             }
         }
         Ok(())
     }
 
-    fn add_text(
+    // Reads a bound of a number.
+    fn read_bound(
         &mut self,
         context: &Context,
         meta: &Meta<'_>,
-        kind: RuleKind,
-        text: &str,
+        item: &Meta<'_>,
+    ) -> Result<(), Fault> {
+        let kind = match item.name {
+            "min" => RuleKind::Minimum,
+            "max" => RuleKind::Maximum,
+            _ => return Err(context.refused_meta(item, "`min` or `max` is wanted here")),
+        };
+        let json = json_of(context, item)?;
+        self.add(context, meta, kind, json.as_str())
+    }
+
+    // Reads a bound of a length.
+    fn read_length(
+        &mut self,
+        context: &Context,
+        meta: &Meta<'_>,
+        item: &Meta<'_>,
+    ) -> Result<(), Fault> {
+        let json = json_of(context, item)?;
+        let json = json.as_str();
+        match item.name {
+            "min" => self.add(context, meta, RuleKind::Shortest, json),
+            "max" => self.add(context, meta, RuleKind::Longest, json),
+            "equal" => {
+                self.add(context, meta, RuleKind::Shortest, json)?;
+                self.add(context, meta, RuleKind::Longest, json)
+            }
+            _ => Err(context.refused_meta(item, "`min`, `max` or `equal` is wanted here")),
+        }
+    }
+
+    fn read_pattern(&mut self, context: &Context, meta: &Meta<'_>) -> Result<(), Fault> {
+        let text = pattern_of(context, meta)?;
+        let mut json = String::new(context.alloc);
+        if meta.name == "contains" {
+            let pattern = escaped(context.alloc, text.as_str())?;
+            push_quoted(context.alloc, &mut json, pattern.as_str())?;
+        } else {
+            push_quoted(context.alloc, &mut json, text.as_str())?;
+        }
+        self.add(context, meta, RuleKind::Pattern, json.as_str())
+    }
+
+    fn add_format(
+        &mut self,
+        context: &Context,
+        meta: &Meta<'_>,
+        format: &str,
     ) -> Result<(), Fault> {
         let mut json = String::new(context.alloc);
-        crate::values::push_quoted(context.alloc, &mut json, text)?;
-        self.add(context, meta, kind, json)
+        push_quoted(context.alloc, &mut json, format)?;
+        self.add(context, meta, RuleKind::Format, json.as_str())
     }
 
     fn add(
@@ -138,46 +150,36 @@ impl Validation {
         context: &Context,
         meta: &Meta<'_>,
         kind: RuleKind,
-        json: String,
+        json: &str,
     ) -> Result<(), Fault> {
-        let name = String::from_str(context.alloc, meta.name)?;
-        self.rules.push(Rule {
+        let rule = Rule {
             kind,
-            json,
+            json: String::from_str(context.alloc, json)?,
             place: meta.place,
-            name,
-        })?;
+            name: String::from_str(context.alloc, meta.name)?,
+        };
+        self.rules.push(rule)?;
         Ok(())
     }
 }
 
-fn items_in<'a>(context: &Context, meta: &Meta<'a>) -> Result<Vec<Meta<'a>>, Fault> {
-    match meta.value {
-        MetaValue::List(list) => read_metas(context.alloc, list),
-        _ => Err(context.refused_meta(meta, "a list in parentheses is wanted")),
-    }
-}
-
-// The text in parentheses, by itself or under this name.
-fn pattern_of(context: &Context, meta: &Meta<'_>, name: &str) -> Result<String, Fault> {
+// The text behind `=` or in parentheses, by itself or under the name `pattern`.
+fn pattern_of(context: &Context, meta: &Meta<'_>) -> Result<String, Fault> {
     let found = match meta.value {
         MetaValue::Equals(cursor) => literal_text(context, cursor)?,
         MetaValue::List(list) => match literal_text(context, list)? {
             Some(text) => Some(text),
-            None => named_text(context, meta, name)?,
+            None => named_pattern(context, meta)?,
         },
         _ => None,
     };
-    match found {
-        Some(text) => Ok(text),
-        None => Err(context.refused_meta(meta, "a literal text is wanted here")),
-    }
+    wanted_text(context, meta, found)
 }
 
-fn named_text(context: &Context, meta: &Meta<'_>, name: &str) -> Result<Option<String>, Fault> {
+fn named_pattern(context: &Context, meta: &Meta<'_>) -> Result<Option<String>, Fault> {
     let items = items_in(context, meta)?;
     for item in &items {
-        if item.name != name {
+        if item.name != "pattern" {
             return Err(context.refused_meta(item, "a literal text is wanted here"));
         }
         if let MetaValue::Equals(cursor) = item.value {
@@ -187,14 +189,15 @@ fn named_text(context: &Context, meta: &Meta<'_>, name: &str) -> Result<Option<S
     Ok(None)
 }
 
+// The characters that mean something else in a pattern.
+const SPECIAL: &str = "\\.+*?()|[]{}^$#&-~";
+
 // A pattern that matches where this text stands.
-fn escaped(alloc: Global, text: &str) -> Result<String, Fault> {
+fn escaped(alloc: Global, text: &str) -> Result<String, AllocError> {
     let mut pattern = String::new(alloc);
     for c in text.chars() {
-        match c {
-            '\\' | '.' | '+' | '*' | '?' | '(' | ')' | '|' | '[' | ']' => pattern.push('\\')?,
-            '{' | '}' | '^' | '$' | '#' | '&' | '-' | '~' => pattern.push('\\')?,
-            _ => {}
+        if SPECIAL.contains(c) {
+            pattern.push('\\')?;
         }
         pattern.push(c)?;
     }

@@ -6,25 +6,41 @@ use std::alloc::{AllocError, Global};
 // How deep values may nest.
 const MAX_DEPTH: usize = 64;
 
+// The words that are values.
+const CONSTANTS: [&str; 3] = ["true", "false", "null"];
+
 /// Writes a text as a JSON string.
 pub fn push_quoted(alloc: Global, out: &mut String, text: &str) -> Result<(), AllocError> {
     out.push('"')?;
     for c in text.chars() {
-        match c {
-            '"' => out.push_str("\\\"")?,
-            '\\' => out.push_str("\\\\")?,
-            '\n' => out.push_str("\\n")?,
-            '\r' => out.push_str("\\r")?,
-            '\t' => out.push_str("\\t")?,
-            c if c < ' ' => {
-                let code = u32::from(c);
-                let escape = format!(in alloc; "\\u{code:04x}")?;
-                out.push_str(escape.as_str())?;
+        match letter_of(c) {
+            Some(letter) => {
+                out.push('\\')?;
+                out.push(letter)?;
             }
-            c => out.push(c)?,
+            None if c < ' ' => push_code(alloc, out, c)?,
+            None => out.push(c)?,
         }
     }
     out.push('"')
+}
+
+// What is behind the backslash of a character that has an escape of its own.
+fn letter_of(c: char) -> Option<char> {
+    match c {
+        '"' | '\\' => Some(c),
+        '\n' => Some('n'),
+        '\r' => Some('r'),
+        '\t' => Some('t'),
+        _ => None,
+    }
+}
+
+// Writes the escape of a control character.
+fn push_code(alloc: Global, out: &mut String, c: char) -> Result<(), AllocError> {
+    let code = u32::from(c);
+    let escape = format!(in alloc; "\\u{code:04x}")?;
+    out.push_str(escape.as_str())
 }
 
 /// The text that an attribute has behind `=`.
@@ -33,13 +49,27 @@ pub fn push_quoted(alloc: Global, out: &mut String, text: &str) -> Result<(), Al
 ///
 /// It has none, or the text is computed.
 pub fn text_of(context: &Context, meta: &Meta<'_>) -> Result<String, Fault> {
-    match meta.value {
-        MetaValue::Doc(text) => Ok(String::from_str(context.alloc, text)?),
-        MetaValue::Equals(cursor) => match literal_text(context, cursor)? {
-            Some(text) => Ok(text),
-            None => Err(context.refused_meta(meta, "a literal text is wanted here")),
-        },
-        _ => Err(context.refused_meta(meta, "a text is wanted here")),
+    let found = match meta.value {
+        MetaValue::Doc(text) => Some(String::from_str(context.alloc, text)?),
+        MetaValue::Equals(cursor) => literal_text(context, cursor)?,
+        _ => return Err(context.refused_meta(meta, "a text is wanted here")),
+    };
+    wanted_text(context, meta, found)
+}
+
+/// The text that was found.
+///
+/// # Errors
+///
+/// None was.
+pub fn wanted_text(
+    context: &Context,
+    meta: &Meta<'_>,
+    found: Option<String>,
+) -> Result<String, Fault> {
+    match found {
+        Some(text) => Ok(text),
+        None => Err(context.refused_meta(meta, "a literal text is wanted here")),
     }
 }
 
@@ -50,7 +80,7 @@ pub fn literal_text(context: &Context, tokens: Cursor<'_>) -> Result<Option<Stri
         let _ = cursor.advance();
         let _ = cursor.advance();
         let inside = cursor.group(context.alloc)?;
-        return joined_text(context, inside);
+        return Ok(joined_text(context, inside)?);
     }
     let _ = cursor.take_symbol('&');
     match cursor.advance() {
@@ -62,18 +92,24 @@ pub fn literal_text(context: &Context, tokens: Cursor<'_>) -> Result<Option<Stri
 }
 
 // The texts in a list, one behind the other.
-fn joined_text(context: &Context, list: Cursor<'_>) -> Result<Option<String>, Fault> {
-    let mut cursor = list;
+fn joined_text(context: &Context, list: Cursor<'_>) -> Result<Option<String>, AllocError> {
     let mut text = String::new(context.alloc);
+    let are_texts = push_texts(list, &mut text)?;
+    Ok(if are_texts { Some(text) } else { None })
+}
+
+// Writes the texts in a list; false if one of its items is none.
+fn push_texts(list: Cursor<'_>, out: &mut String) -> Result<bool, AllocError> {
+    let mut cursor = list;
     for _ in 0..list.len() {
         match cursor.advance() {
             None => break,
-            Some(token) if token.kind == TokenKind::Text => text.push_str(token.text.as_str())?,
-            Some(_) => return Ok(None),
+            Some(token) if token.kind == TokenKind::Text => out.push_str(token.text.as_str())?,
+            Some(_) => return Ok(false),
         }
         let _ = cursor.take_symbol(',');
     }
-    Ok(Some(text))
+    Ok(true)
 }
 
 /// The value that an attribute has behind `=`, as JSON.
@@ -82,27 +118,17 @@ fn joined_text(context: &Context, list: Cursor<'_>) -> Result<Option<String>, Fa
 ///
 /// It has none, or the value is computed.
 pub fn json_of(context: &Context, meta: &Meta<'_>) -> Result<String, Fault> {
-    match meta.value {
-        MetaValue::Equals(cursor) => match json_text(context, cursor)? {
-            Some(json) => Ok(json),
-            None => Err(context.refused_meta(
-                meta,
-                "a literal is wanted here, since what an expression gives is not known",
-            )),
-        },
-        _ => Err(context.refused_meta(meta, "a value is wanted here")),
-    }
-}
-
-// The JSON of all the tokens.
-fn json_text(context: &Context, tokens: Cursor<'_>) -> Result<Option<String>, Fault> {
-    let mut cursor = tokens;
-    let mut out = String::new(context.alloc);
-    let is_read = push_value(context, &mut cursor, &mut out, MAX_DEPTH)?;
+    let MetaValue::Equals(value) = meta.value else {
+        return Err(context.refused_meta(meta, "a value is wanted here"));
+    };
+    let mut cursor = value;
+    let mut json = String::new(context.alloc);
+    let is_read = push_value(context, &mut cursor, &mut json, MAX_DEPTH)?;
     if is_read && cursor.is_empty() {
-        return Ok(Some(out));
+        return Ok(json);
     }
-    Ok(None)
+    let reason = "a literal is wanted here, since what an expression gives is not known";
+    Err(context.refused_meta(meta, reason))
 }
 
 // Writes the value that comes next; false if it is computed.
@@ -125,19 +151,11 @@ fn push_value(
             push_quoted(context.alloc, out, token.text.as_str())?;
             Ok(true)
         }
-        TokenKind::Number => {
-            let _ = cursor.advance();
-            push_number(out, token.text.as_str())
-        }
+        TokenKind::Number => Ok(push_number(cursor, out)?),
         TokenKind::Symbol('-') => {
             let _ = cursor.advance();
             out.push('-')?;
-            match cursor.advance() {
-                Some(token) if token.kind == TokenKind::Number => {
-                    push_number(out, token.text.as_str())
-                }
-                _ => Ok(false),
-            }
+            Ok(push_number(cursor, out)?)
         }
         TokenKind::Symbol('&') => {
             let _ = cursor.advance();
@@ -145,25 +163,24 @@ fn push_value(
         }
         TokenKind::Symbol('[') => push_group(context, cursor, out, false, depth - 1),
         TokenKind::Symbol('{') => push_group(context, cursor, out, true, depth - 1),
-        TokenKind::Word => push_word(context, cursor, out, depth - 1),
+        TokenKind::Word if CONSTANTS.contains(&token.text.as_str()) => {
+            let _ = cursor.advance();
+            out.push_str(token.text.as_str())?;
+            Ok(true)
+        }
+        TokenKind::Word => push_macro(context, cursor, out, depth - 1),
         _ => Ok(false),
     }
 }
 
-// Writes a constant, or the value in `json!`.
+// Writes the value in `json!`.
 #[cycle(values)]
-fn push_word(
+fn push_macro(
     context: &Context,
     cursor: &mut Cursor<'_>,
     out: &mut String,
     depth: usize,
 ) -> Result<bool, Fault> {
-    for word in ["true", "false", "null"] {
-        if cursor.take_word(word) {
-            out.push_str(word)?;
-            return Ok(true);
-        }
-    }
     if cursor.take_word("serde_json") && !cursor.take_colons() {
         return Ok(false);
     }
@@ -221,8 +238,16 @@ fn push_key(context: &Context, cursor: &mut Cursor<'_>, out: &mut String) -> Res
     }
 }
 
-// Writes a number in decimal digits; false if it is written otherwise.
-fn push_number(out: &mut String, text: &str) -> Result<bool, Fault> {
+// Writes the number that comes next in decimal digits; false if there is none, or one that is
+// written otherwise.
+fn push_number(cursor: &mut Cursor<'_>, out: &mut String) -> Result<bool, AllocError> {
+    match cursor.advance() {
+        Some(token) if token.kind == TokenKind::Number => push_digits(out, token.text.as_str()),
+        _ => Ok(false),
+    }
+}
+
+fn push_digits(out: &mut String, text: &str) -> Result<bool, AllocError> {
     if text.starts_with("0x") || text.starts_with("0b") || text.starts_with("0o") {
         return Ok(false);
     }
