@@ -1,6 +1,6 @@
 //! The types of std and of other crates.
-use crate::numbers::{atomic_name, nonzero_row, number_row};
-use crate::row::{Kind, Row};
+use crate::numbers::{atomic_value, number_row, shape_of};
+use crate::row::{Kind, Row, Texts};
 use std::alloc::{AllocError, Global};
 
 /// What a type is made of its arguments.
@@ -44,10 +44,7 @@ impl Made {
 
 // The first name of a path.
 fn crate_of(path: &str) -> &str {
-    match path.split_once("::") {
-        Some((first, _)) => first,
-        None => path,
-    }
+    path.split_once("::").unwrap_or((path, "")).0
 }
 
 // Types with arguments: their names, the crates that have them, and what they are made of.
@@ -218,15 +215,20 @@ fn formatted_under(name: &str) -> Option<Formatted> {
 
 fn formatted_row(alloc: Global, ty: Formatted) -> Result<Row, AllocError> {
     let (_, path, id, name, format) = ty;
-    let shape = format!(in alloc; "{{\"format\":\"{format}\"}}")?;
-    let mut row = Row::new(alloc, id, name, shape)?;
-    row.kind = Kind::Text;
-    row.keywords.put_text(alloc, "type", "string")?;
-    row.keywords.put_text(alloc, "format", format)?;
-    if path.contains("::") {
-        return row.typed(alloc, path);
-    }
-    Ok(row)
+    let shape = shape_of(alloc, "format", format)?;
+    let texts = Texts {
+        id,
+        name,
+        shape: shape.as_str(),
+        ty: if path.contains("::") { path } else { "" },
+        default: "",
+        kind: Kind::Text,
+        is_inline: true,
+        type_name: "string",
+        format,
+        length: "",
+    };
+    Row::of_texts(alloc, &texts)
 }
 
 /// The row of a type that is not made of others, if it comes from a crate that has it.
@@ -242,185 +244,224 @@ pub fn known_row(
         }
         return Ok(None);
     }
-    if !is_from(home_of(name), origin) {
-        return Ok(None);
-    }
-    if let Some(value) = atomic_name(name) {
-        return known_value(alloc, value);
-    }
-    known_value(alloc, name)
-}
-
-// The crates of types that are neither made of others nor texts with a format, unless it is std.
-const HOMES: [(&str, &str); 10] = [
-    ("Value", "serde_json"),
-    ("Number", "serde_json"),
-    ("Version", "semver"),
-    ("Bytes", "bytes"),
-    ("BytesMut", "bytes"),
-    ("ArrayString", "arrayvec"),
-    ("SmolStr", "smol_str"),
-    ("Weekday", "chrono"),
-    ("TimeDelta", "chrono"),
-    ("Schema", "schemars"),
-];
-
-// The crate of a type that is neither made of others nor a text with a format.
-fn home_of(name: &str) -> &'static str {
-    for (known, home) in &HOMES {
-        if *known == name {
-            return home;
+    let name = atomic_value(name).unwrap_or(name);
+    match listed(name) {
+        Some((_, home, texts)) if is_from(home, origin) => {
+            Ok(Some(Row::of_texts(alloc, texts)?))
         }
+        None if is_from("std", origin) => number_row(alloc, name),
+        _ => Ok(None),
     }
-    "std"
-}
-
-fn known_value(alloc: Global, name: &str) -> Result<Option<Row>, AllocError> {
-    match unnumbered(alloc, name)? {
-        Some(row) => Ok(Some(row.typed(alloc, implemented(name))?)),
-        None => numbered(alloc, name),
-    }
-}
-
-// The path of a type that has an implementation; of a text, the one that has its row.
-fn implemented(name: &str) -> &str {
-    match name {
-        "bool" | "char" => name,
-        "PhantomData" => "()",
-        "Value" => "serde_json::Value",
-        "Number" => "serde_json::Number",
-        "Version" => "semver::Version",
-        "Bytes" | "BytesMut" => "bytes::Bytes",
-        "Schema" => "schemars::Schema",
-        "Weekday" | "TimeDelta" => "",
-        _ => "String",
-    }
-}
-
-fn numbered(alloc: Global, name: &str) -> Result<Option<Row>, AllocError> {
-    match number_row(alloc, name)? {
-        Some(row) => Ok(Some(row)),
-        None => nonzero_row(alloc, name),
-    }
-}
-
-fn unnumbered(alloc: Global, name: &str) -> Result<Option<Row>, AllocError> {
-    if is_text(name) {
-        return Ok(Some(text_row(alloc)?));
-    }
-    Ok(match name {
-        "bool" => Some(bool_row(alloc)?),
-        "char" => Some(char_row(alloc)?),
-        "PhantomData" => Some(null_row(alloc)?),
-        "Value" => Some(any_row(alloc)?),
-        "Number" => Some(plain_row(alloc, "Number", "Number", "\"number\"", Kind::Number)?),
-        "Version" => Some(version_row(alloc)?),
-        "Bytes" | "BytesMut" => Some(defined_row(alloc, "bytes::Bytes", "Bytes", "\"bytes\"")?),
-        "Schema" => Some(defined_row(alloc, "schemars::Schema", "Schema", "\"schema\"")?),
-        "Weekday" => Some(weekday_row(alloc)?),
-        "TimeDelta" => Some(time_delta_row(alloc)?),
-        _ => None,
-    })
-}
-
-// The types whose values are all texts.
-const TEXTS: [&str; 9] = [
-    "str",
-    "String",
-    "Path",
-    "PathBuf",
-    "ArrayString",
-    "SmolStr",
-    "SocketAddr",
-    "SocketAddrV4",
-    "SocketAddrV6",
-];
-
-fn is_text(name: &str) -> bool {
-    for known in &TEXTS {
-        if *known == name {
-            return true;
-        }
-    }
-    false
-}
-
-fn plain_row(
-    alloc: Global,
-    id: &str,
-    name: &str,
-    shape: &str,
-    kind: Kind,
-) -> Result<Row, AllocError> {
-    let shape = String::from_str(alloc, shape)?;
-    let mut row = Row::new(alloc, id, name, shape)?;
-    row.kind = kind;
-    Ok(row)
-}
-
-// A row that is a definition.
-fn defined_row(alloc: Global, id: &str, name: &str, shape: &str) -> Result<Row, AllocError> {
-    let mut row = plain_row(alloc, id, name, shape, Kind::Other)?;
-    row.is_inline = false;
-    Ok(row)
-}
-
-/// The row of texts.
-pub fn text_row(alloc: Global) -> Result<Row, AllocError> {
-    let mut row = plain_row(alloc, "string", "string", "\"text\"", Kind::Text)?;
-    row.keywords.put_text(alloc, "type", "string")?;
-    row.default = Some(String::from_str(alloc, "\"\"")?);
-    Ok(row)
 }
 
 /// The row of null alone.
 pub fn null_row(alloc: Global) -> Result<Row, AllocError> {
-    let mut row = plain_row(alloc, "null", "null", "\"null\"", Kind::Other)?;
-    row.default = Some(String::from_str(alloc, "null")?);
-    row.typed(alloc, "()")
+    Row::of_texts(alloc, &NULL)
 }
 
-fn bool_row(alloc: Global) -> Result<Row, AllocError> {
-    let mut row = plain_row(alloc, "boolean", "boolean", "\"bool\"", Kind::Other)?;
-    row.keywords.put_text(alloc, "type", "boolean")?;
-    row.default = Some(String::from_str(alloc, "false")?);
-    Ok(row)
+// The crate of a type that is neither whole numbers nor a text with a format, and what its row has.
+fn listed(name: &str) -> Option<&'static Listed> {
+    for listed in &LISTED {
+        if listed.0 == name {
+            return Some(listed);
+        }
+    }
+    None
 }
 
-fn char_row(alloc: Global) -> Result<Row, AllocError> {
-    let mut row = plain_row(alloc, "char", "Character", "\"char\"", Kind::Text)?;
-    row.keywords.put_text(alloc, "type", "string")?;
-    let one = String::from_str(alloc, "1")?;
-    row.keywords.put(alloc, "minLength", one)?;
-    let one = String::from_str(alloc, "1")?;
-    row.keywords.put(alloc, "maxLength", one)?;
-    row.default = Some(String::from_str(alloc, "\"\\u0000\"")?);
-    Ok(row)
-}
+// A name, its crate, and what its row has.
+type Listed = (&'static str, &'static str, Texts<'static>);
 
-fn any_row(alloc: Global) -> Result<Row, AllocError> {
-    let mut row = plain_row(alloc, "AnyValue", "AnyValue", "\"any\"", Kind::Other)?;
-    row.default = Some(String::from_str(alloc, "null")?);
-    Ok(row)
-}
+static LISTED: [Listed; 22] = [
+    ("str", "std", TEXT),
+    ("String", "std", TEXT),
+    ("Path", "std", TEXT),
+    ("PathBuf", "std", TEXT),
+    ("SocketAddr", "std", TEXT),
+    ("SocketAddrV4", "std", TEXT),
+    ("SocketAddrV6", "std", TEXT),
+    ("ArrayString", "arrayvec", TEXT),
+    ("SmolStr", "smol_str", TEXT),
+    ("bool", "std", TRUTH_VALUE),
+    ("char", "std", CHARACTER),
+    ("f32", "std", FLOAT),
+    ("f64", "std", DOUBLE),
+    ("PhantomData", "std", NULL),
+    ("Value", "serde_json", ANY),
+    ("Number", "serde_json", NUMBER),
+    ("Version", "semver", VERSION),
+    ("Bytes", "bytes", BYTES),
+    ("BytesMut", "bytes", BYTES),
+    ("Schema", "schemars", SCHEMA),
+    ("Weekday", "chrono", WEEKDAY),
+    ("TimeDelta", "chrono", TIME_DELTA),
+];
 
-fn version_row(alloc: Global) -> Result<Row, AllocError> {
-    let pattern =
-        "^(0|[1-9]\\\\d*)\\\\.(0|[1-9]\\\\d*)\\\\.(0|[1-9]\\\\d*)(?:-((?:0|[1-9]\\\\d*|\\\\d*[a-zA-Z-][0-9a-zA-Z-]*)(?:\\\\.(?:0|[1-9]\\\\d*|\\\\d*[a-zA-Z-][0-9a-zA-Z-]*))*))?(?:\\\\+([0-9a-zA-Z-]+(?:\\\\.[0-9a-zA-Z-]+)*))?$";
-    let shape = format!(in alloc;
-        "{{\"literal\":{{\"type\":\"string\",\"pattern\":\"{pattern}\"}}}}"
-    )?;
-    defined_row(alloc, "semver::Version", "SemVer", shape.as_str())
-}
+const TEXT: Texts<'static> = Texts {
+    id: "string",
+    name: "string",
+    shape: "\"text\"",
+    ty: "String",
+    default: "\"\"",
+    kind: Kind::Text,
+    is_inline: true,
+    type_name: "string",
+    format: "",
+    length: "",
+};
 
-fn weekday_row(alloc: Global) -> Result<Row, AllocError> {
-    let shape =
-        "{\"literal\":{\"type\":\"string\",\"enum\":[\"Mon\",\"Tue\",\"Wed\",\"Thu\",\"Fri\",\"Sat\",\"Sun\"]}}";
-    plain_row(alloc, "chrono::Weekday", "Weekday", shape, Kind::Text)
-}
+const TRUTH_VALUE: Texts<'static> = Texts {
+    id: "boolean",
+    name: "boolean",
+    shape: "\"bool\"",
+    ty: "bool",
+    default: "false",
+    kind: Kind::Other,
+    is_inline: true,
+    type_name: "boolean",
+    format: "",
+    length: "",
+};
 
-fn time_delta_row(alloc: Global) -> Result<Row, AllocError> {
-    let shape =
-        "{\"literal\":{\"type\":\"array\",\"prefixItems\":[{\"type\":\"integer\",\"format\":\"int64\"},{\"type\":\"integer\",\"minimum\":0,\"exclusiveMaximum\":1000000000}],\"minItems\":2,\"maxItems\":2}}";
-    plain_row(alloc, "chrono::TimeDelta", "TimeDelta", shape, Kind::List)
-}
+const CHARACTER: Texts<'static> = Texts {
+    id: "char",
+    name: "Character",
+    shape: "\"char\"",
+    ty: "char",
+    default: "\"\\u0000\"",
+    kind: Kind::Text,
+    is_inline: true,
+    type_name: "string",
+    format: "",
+    length: "1",
+};
+
+const FLOAT: Texts<'static> = Texts {
+    id: "float",
+    name: "float",
+    shape: "{\"literal\":{\"type\":\"number\",\"format\":\"float\"}}",
+    ty: "f32",
+    default: "0.0",
+    kind: Kind::Number,
+    is_inline: true,
+    type_name: "number",
+    format: "float",
+    length: "",
+};
+
+const DOUBLE: Texts<'static> = Texts {
+    id: "double",
+    name: "double",
+    shape: "{\"literal\":{\"type\":\"number\",\"format\":\"double\"}}",
+    ty: "f64",
+    default: "0.0",
+    kind: Kind::Number,
+    is_inline: true,
+    type_name: "number",
+    format: "double",
+    length: "",
+};
+
+const NULL: Texts<'static> = Texts {
+    id: "null",
+    name: "null",
+    shape: "\"null\"",
+    ty: "()",
+    default: "null",
+    kind: Kind::Other,
+    is_inline: true,
+    type_name: "",
+    format: "",
+    length: "",
+};
+
+const ANY: Texts<'static> = Texts {
+    id: "AnyValue",
+    name: "AnyValue",
+    shape: "\"any\"",
+    ty: "serde_json::Value",
+    default: "null",
+    kind: Kind::Other,
+    is_inline: true,
+    type_name: "",
+    format: "",
+    length: "",
+};
+
+const NUMBER: Texts<'static> = Texts {
+    id: "Number",
+    name: "Number",
+    shape: "\"number\"",
+    ty: "serde_json::Number",
+    default: "",
+    kind: Kind::Number,
+    is_inline: true,
+    type_name: "",
+    format: "",
+    length: "",
+};
+
+const VERSION: Texts<'static> = Texts {
+    id: "semver::Version",
+    name: "SemVer",
+    shape: "{\"literal\":{\"type\":\"string\",\"pattern\":\"^(0|[1-9]\\\\d*)\\\\.(0|[1-9]\\\\d*)\\\\.(0|[1-9]\\\\d*)(?:-((?:0|[1-9]\\\\d*|\\\\d*[a-zA-Z-][0-9a-zA-Z-]*)(?:\\\\.(?:0|[1-9]\\\\d*|\\\\d*[a-zA-Z-][0-9a-zA-Z-]*))*))?(?:\\\\+([0-9a-zA-Z-]+(?:\\\\.[0-9a-zA-Z-]+)*))?$\"}}",
+    ty: "semver::Version",
+    default: "",
+    kind: Kind::Other,
+    is_inline: false,
+    type_name: "",
+    format: "",
+    length: "",
+};
+
+const BYTES: Texts<'static> = Texts {
+    id: "bytes::Bytes",
+    name: "Bytes",
+    shape: "\"bytes\"",
+    ty: "bytes::Bytes",
+    default: "",
+    kind: Kind::Other,
+    is_inline: false,
+    type_name: "",
+    format: "",
+    length: "",
+};
+
+const SCHEMA: Texts<'static> = Texts {
+    id: "schemars::Schema",
+    name: "Schema",
+    shape: "\"schema\"",
+    ty: "schemars::Schema",
+    default: "",
+    kind: Kind::Other,
+    is_inline: false,
+    type_name: "",
+    format: "",
+    length: "",
+};
+
+const WEEKDAY: Texts<'static> = Texts {
+    id: "chrono::Weekday",
+    name: "Weekday",
+    shape: "{\"literal\":{\"type\":\"string\",\"enum\":[\"Mon\",\"Tue\",\"Wed\",\"Thu\",\"Fri\",\"Sat\",\"Sun\"]}}",
+    ty: "",
+    default: "",
+    kind: Kind::Text,
+    is_inline: true,
+    type_name: "",
+    format: "",
+    length: "",
+};
+
+const TIME_DELTA: Texts<'static> = Texts {
+    id: "chrono::TimeDelta",
+    name: "TimeDelta",
+    shape: "{\"literal\":{\"type\":\"array\",\"prefixItems\":[{\"type\":\"integer\",\"format\":\"int64\"},{\"type\":\"integer\",\"minimum\":0,\"exclusiveMaximum\":1000000000}],\"minItems\":2,\"maxItems\":2}}",
+    ty: "",
+    default: "",
+    kind: Kind::List,
+    is_inline: true,
+    type_name: "",
+    format: "",
+    length: "",
+};

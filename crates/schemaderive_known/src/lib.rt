@@ -7,4 +7,4 @@ mod row;
 
 pub use known::{Made, known_row, made_named, null_row, path_of};
 pub use numbers::nonzero_name;
-pub use row::{Kind, Makeup, Row};
+pub use row::{Kind, Makeup, Row, Texts};

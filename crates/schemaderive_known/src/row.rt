@@ -69,14 +69,39 @@ pub struct Row {
     pub length: String,
 }
 
+/// What the row of a type has that is made of no others.
+#[derive(Clone, Copy)]
+pub struct Texts<'t> {
+    /// the id
+    pub id: &'t str,
+    /// the name
+    pub name: &'t str,
+    /// the shape, as JSON
+    pub shape: &'t str,
+    /// the type, with whole paths; empty if it has no implementation
+    pub ty: &'t str,
+    /// the default of the type, as JSON; empty if it has none
+    pub default: &'t str,
+    /// which values it accepts
+    pub kind: Kind,
+    /// whether it is written in place
+    pub is_inline: bool,
+    /// the keyword `type`; empty if it has none
+    pub type_name: &'t str,
+    /// the keyword `format`; empty if it has none
+    pub format: &'t str,
+    /// the length of each of its texts; empty if they differ
+    pub length: &'t str,
+}
+
 impl Row {
-    /// A row in place, without keywords.
-    pub fn new(alloc: Global, id: &str, name: &str, shape: String) -> Result<Row, AllocError> {
-        Ok(Row {
-            id: String::from_str(alloc, id)?,
-            name: String::from_str(alloc, name)?,
+    /// A row in place, without texts and keywords.
+    pub fn empty(alloc: Global) -> Row {
+        Row {
+            id: String::new(alloc),
+            name: String::new(alloc),
             is_inline: true,
-            shape,
+            shape: String::new(alloc),
             notes: Notes::new(alloc),
             keywords: Notes::new(alloc),
             kind: Kind::Other,
@@ -87,13 +112,55 @@ impl Row {
             makeup: Makeup::Plain,
             parts: Vec::new(alloc),
             length: String::new(alloc),
-        })
+        }
     }
 
-    /// The row with its type.
-    pub fn typed(self, alloc: Global, ty: &str) -> Result<Row, AllocError> {
-        let mut row = self;
-        row.ty = String::from_str(alloc, ty)?;
+    /// A row in place, without keywords.
+    pub fn new(alloc: Global, id: &str, name: &str, shape: String) -> Result<Row, AllocError> {
+        let mut row = Row::empty(alloc);
+        row.set_texts(id, name, shape)?;
         Ok(row)
+    }
+
+    fn set_texts(&mut self, id: &str, name: &str, shape: String) -> Result<(), AllocError> {
+        self.shape = shape;
+        self.id.push_str(id)?;
+        self.name.push_str(name)
+    }
+
+    /// A row that has this.
+    pub fn of_texts(alloc: Global, texts: &Texts<'_>) -> Result<Row, AllocError> {
+        let mut row = Row::empty(alloc);
+        row.fill(alloc, texts)?;
+        Ok(row)
+    }
+
+    fn fill(&mut self, alloc: Global, texts: &Texts<'_>) -> Result<(), AllocError> {
+        self.kind = texts.kind;
+        self.is_inline = texts.is_inline;
+        self.id.push_str(texts.id)?;
+        self.name.push_str(texts.name)?;
+        self.shape.push_str(texts.shape)?;
+        self.ty.push_str(texts.ty)?;
+        self.set_default(alloc, texts.default)?;
+        if !texts.type_name.is_empty() {
+            self.keywords.put_text(alloc, "type", texts.type_name)?;
+        }
+        if !texts.format.is_empty() {
+            self.keywords.put_text(alloc, "format", texts.format)?;
+        }
+        if !texts.length.is_empty() {
+            self.keywords.put_json(alloc, "minLength", texts.length)?;
+            self.keywords.put_json(alloc, "maxLength", texts.length)?;
+        }
+        Ok(())
+    }
+
+    /// Sets the default of the type, unless this is empty.
+    pub fn set_default(&mut self, alloc: Global, json: &str) -> Result<(), AllocError> {
+        if !json.is_empty() {
+            self.default = Some(String::from_str(alloc, json)?);
+        }
+        Ok(())
     }
 }

@@ -84,6 +84,14 @@ impl Scope {
         }
         None
     }
+
+    /// The constant that the parameter with this name stands for.
+    pub fn constant(&self, name: &str) -> Option<&str> {
+        match self.get(name)? {
+            Value::Constant(text) => Some(text.as_str()),
+            Value::Row(_) => None,
+        }
+    }
 }
 
 /// A declaration with arguments, whose row is reserved.
@@ -120,19 +128,10 @@ impl<'a> Builder<'a> {
     /// A builder without rows.
     pub fn new(context: Context, source: &'a Source<'a>) -> Result<Builder<'a>, AllocError> {
         let alloc = context.alloc;
-        let mut items = BTreeMap::new(alloc);
-        for (number, declaration) in source.declarations.iter().enumerate() {
-            let path = joined(alloc, declaration.module.as_str(), declaration.name)?;
-            items.insert(path, Item::Declaration(number))?;
-        }
-        for (number, alias) in source.aliases.iter().enumerate() {
-            let path = joined(alloc, alias.module.as_str(), alias.name)?;
-            items.insert(path, Item::Alias(number))?;
-        }
         Ok(Builder {
             context,
             source,
-            items,
+            items: items_of(alloc, source)?,
             rows: Vec::new(alloc),
             ids: BTreeMap::new(alloc),
             instances: Vec::new(alloc),
@@ -166,14 +165,21 @@ impl<'a> Builder<'a> {
         if self.lack_types(&row.parts) {
             row.ty.clear();
         }
-        if let Some(number) = self.row_by_id(row.id.as_str(), row.ty.as_str()) {
-            return Ok(number);
+        match self.row_by_id(row.id.as_str(), row.ty.as_str()) {
+            Some(number) => Ok(number),
+            None => {
+                let number = self.keep_id(row.id.as_str(), row.ty.as_str())?;
+                self.rows.push(row)?;
+                Ok(number)
+            }
         }
+    }
+
+    // Keeps what the next row is known by, and returns its number.
+    fn keep_id(&mut self, id: &str, ty: &str) -> Result<usize, AllocError> {
         let number = self.rows.len();
-        let key = self.key_of(row.id.as_str(), row.ty.as_str());
-        let key = String::from_str(self.alloc(), key)?;
+        let key = String::from_str(self.alloc(), self.key_of(id, ty))?;
         self.ids.insert(key, number)?;
-        self.rows.push(row)?;
         Ok(number)
     }
 
@@ -217,13 +223,31 @@ impl<'a> Builder<'a> {
     }
 }
 
+// What the paths of a source stand for.
+fn items_of(alloc: Global, source: &Source<'_>) -> Result<BTreeMap<String, Item>, AllocError> {
+    let mut items = BTreeMap::new(alloc);
+    for (number, declaration) in source.declarations.iter().enumerate() {
+        let path = joined(alloc, declaration.module.as_str(), declaration.name)?;
+        items.insert(path, Item::Declaration(number))?;
+    }
+    for (number, alias) in source.aliases.iter().enumerate() {
+        let path = joined(alloc, alias.module.as_str(), alias.name)?;
+        items.insert(path, Item::Alias(number))?;
+    }
+    Ok(items)
+}
+
 /// A path of two.
 pub fn joined(alloc: Global, module: &str, name: &str) -> Result<String, AllocError> {
-    if module.is_empty() {
-        return String::from_str(alloc, name);
+    let mut path = String::from_str(alloc, module)?;
+    push_segment(&mut path, name)?;
+    Ok(path)
+}
+
+/// Adds a name or a path to a path.
+pub fn push_segment(path: &mut String, name: &str) -> Result<(), AllocError> {
+    if !path.is_empty() && !name.is_empty() {
+        path.push_str("::")?;
     }
-    if name.is_empty() {
-        return String::from_str(alloc, module);
-    }
-    format!(in alloc; "{module}::{name}")
+    path.push_str(name)
 }

@@ -1,8 +1,206 @@
 //! Rows that are made of others.
-use crate::builder::Builder;
+use crate::builder::{Builder, Value};
 use schemaderive_known::{Kind, Made, Makeup, Row};
 use schemaderive_options::Notes;
 use std::alloc::{AllocError, Global};
+
+/// How the row of a type is written that is made of others. In its texts `1` and `2` are its parts,
+/// and `#` is the length or the path that the type has beside them.
+#[derive(Clone, Copy)]
+pub struct Form {
+    id: &'static str,
+    name: &'static str,
+    shape: &'static str,
+    ty: &'static str,
+    // the default, if it has one
+    default: &'static str,
+    kind: Kind,
+    makeup: Makeup,
+    is_inline: bool,
+}
+
+const OPTION: Form = Form {
+    id: "Option<1>",
+    name: "Nullable_1",
+    shape: "{\"option\":1}",
+    ty: "Option<1>",
+    default: "null",
+    kind: Kind::Other,
+    makeup: Makeup::Optional,
+    is_inline: true,
+};
+
+const LIST: Form = Form {
+    id: "[1]",
+    name: "Array_of_1",
+    shape: "{\"seq\":1}",
+    ty: "Vec<1>",
+    default: "[]",
+    kind: Kind::List,
+    makeup: Makeup::List,
+    is_inline: true,
+};
+
+const SET: Form = Form {
+    id: "Set<1>",
+    name: "Set_of_1",
+    shape: "{\"set\":1}",
+    ty: "#<1>",
+    default: "[]",
+    kind: Kind::List,
+    makeup: Makeup::Set,
+    is_inline: true,
+};
+
+const UP_TO: Form = Form {
+    id: "[1; up to #]",
+    name: "Array_up_to_size_#_of_1",
+    shape: "{\"up_to\":{\"of\":1,\"cap\":#}}",
+    ty: "arrayvec::ArrayVec<1, #>",
+    default: "[]",
+    kind: Kind::List,
+    makeup: Makeup::Other,
+    is_inline: true,
+};
+
+const ARRAY: Form = Form {
+    id: "[#; 1]",
+    name: "Array_size_#_of_1",
+    shape: "{\"array\":{\"of\":1,\"len\":#}}",
+    ty: "[1; #]",
+    default: "",
+    kind: Kind::List,
+    makeup: Makeup::Array,
+    is_inline: true,
+};
+
+const EMPTY_ARRAY: Form = Form {
+    id: "[]",
+    name: "EmptyArray",
+    shape: "{\"tuple\":[]}",
+    ty: "[(); 0]",
+    default: "[]",
+    kind: Kind::List,
+    makeup: Makeup::Plain,
+    is_inline: true,
+};
+
+const RANGE: Form = Form {
+    id: "Range<1>",
+    name: "Range_of_1",
+    shape: "{\"range\":1}",
+    ty: "std::ops::Range<1>",
+    default: "",
+    kind: Kind::Other,
+    makeup: Makeup::Other,
+    is_inline: false,
+};
+
+const BOUND: Form = Form {
+    id: "Bound<1>",
+    name: "Bound_of_1",
+    shape: "{\"bound\":1}",
+    ty: "std::ops::Bound<1>",
+    default: "",
+    kind: Kind::Other,
+    makeup: Makeup::Other,
+    is_inline: false,
+};
+
+const OUTCOME: Form = Form {
+    id: "Result<1, 2>",
+    name: "Result_of_1_or_2",
+    shape: "{\"result\":{\"ok\":1,\"err\":2}}",
+    ty: "Result<1, 2>",
+    default: "",
+    kind: Kind::Other,
+    makeup: Makeup::Other,
+    is_inline: false,
+};
+
+const EITHER: Form = Form {
+    id: "either::Either<1, 2>",
+    name: "Either_1_or_2",
+    shape: "{\"either\":{\"left\":1,\"right\":2}}",
+    ty: "either::Either<1, 2>",
+    default: "",
+    kind: Kind::Other,
+    makeup: Makeup::Other,
+    is_inline: true,
+};
+
+const MAP: Form = Form {
+    id: "Map<1, 2>",
+    name: "Map_from_1_to_2",
+    shape: "{\"map\":{\"key\":1,\"value\":2}}",
+    ty: "#<1, 2>",
+    default: "{}",
+    kind: Kind::Other,
+    makeup: Makeup::Map,
+    is_inline: true,
+};
+
+// Keys that are texts are not in the id and the name.
+const MAP_OF_TEXTS: Form = Form {
+    id: "Map<2>",
+    name: "Map_of_2",
+    shape: "{\"map\":{\"key\":1,\"value\":2}}",
+    ty: "#<1, 2>",
+    default: "{}",
+    kind: Kind::Other,
+    makeup: Makeup::Map,
+    is_inline: true,
+};
+
+/// The form of a time that passes.
+pub const DURATION: Form = Form {
+    id: "std::time::Duration",
+    name: "Duration",
+    shape: "{\"struct\":{\"fields\":[{\"name\":\"secs\",\"type\":1},{\"name\":\"nanos\",\"type\":2}]}}",
+    ty: "std::time::Duration",
+    default: "",
+    kind: Kind::Other,
+    makeup: Makeup::Plain,
+    is_inline: false,
+};
+
+/// The form of a point in time.
+pub const SYSTEM_TIME: Form = Form {
+    id: "std::time::SystemTime",
+    name: "SystemTime",
+    shape: "{\"struct\":{\"fields\":[{\"name\":\"secs_since_epoch\",\"type\":1},{\"name\":\"nanos_since_epoch\",\"type\":2}]}}",
+    ty: "std::time::SystemTime",
+    default: "",
+    kind: Kind::Other,
+    makeup: Makeup::Plain,
+    is_inline: false,
+};
+
+/// What of a row is written for a part.
+#[derive(Clone, Copy)]
+pub enum Text {
+    /// its id
+    Id,
+    /// its name
+    Name,
+    /// its type
+    Type,
+    /// its default
+    Default,
+    /// its number
+    Number,
+}
+
+/// What is written before, between and behind parts.
+#[derive(Clone, Copy)]
+pub struct Marks {
+    /// before the first
+    pub before: &'static str,
+    /// between two
+    pub between: &'static str,
+    /// behind the last
+    pub behind: &'static str,
+}
 
 impl<'a> Builder<'a> {
     /// The row of what the type with this path is made of its arguments; none if there are too few.
@@ -13,296 +211,275 @@ impl<'a> Builder<'a> {
         arguments: &[usize],
         length: Option<&str>,
     ) -> Result<Option<usize>, AllocError> {
-        let Some(first) = arguments.first() else {
+        if arguments.len() < made.arity() {
             return Ok(None);
+        }
+        let first = arguments.first().copied().unwrap_or(0);
+        let form = match made {
+            Made::Same => return Ok(Some(first)),
+            Made::NonZero => return Ok(None),
+            Made::Optional => &OPTION,
+            Made::List | Made::Small => &LIST,
+            Made::Set => &SET,
+            Made::Range => &RANGE,
+            Made::Bound => &BOUND,
+            Made::UpTo => &UP_TO,
+            Made::Outcome => &OUTCOME,
+            Made::Either => &EITHER,
+            Made::Map if self.id(first) == "string" => &MAP_OF_TEXTS,
+            Made::Map => &MAP,
         };
-        let n = *first;
-        match made {
-            Made::Same => Ok(Some(n)),
-            Made::Optional => Ok(Some(self.option_row(n)?)),
-            Made::List | Made::Small => Ok(Some(self.list_row(n)?)),
-            Made::Set => Ok(Some(self.set_row(path, n)?)),
-            Made::Range => Ok(Some(self.one_row("Range", "range", n)?)),
-            Made::Bound => Ok(Some(self.one_row("Bound", "bound", n)?)),
-            Made::UpTo => match length {
-                Some(length) => Ok(Some(self.up_to_row(n, length)?)),
-                None => Ok(None),
-            },
-            Made::NonZero => Ok(None),
-            Made::Map | Made::Outcome | Made::Either => match arguments.get(1) {
-                Some(second) => Ok(Some(self.two_row(made, path, n, *second)?)),
-                None => Ok(None),
-            },
-        }
-    }
-
-    /// The row of an Option.
-    pub fn option_row(&mut self, n: usize) -> Result<usize, AllocError> {
-        let alloc = self.alloc();
-        let id = format!(in alloc; "Option<{}>", self.id(n))?;
-        let name = format!(in alloc; "Nullable_{}", self.name(n))?;
-        let shape = format!(in alloc; "{{\"option\":{n}}}")?;
-        let mut row = Row::new(alloc, id.as_str(), name.as_str(), shape)?;
-        row.inner = Some(n);
-        row.default = Some(String::from_str(alloc, "null")?);
-        row.makeup = Makeup::Optional;
-        row.parts.push(n)?;
-        row.ty = self.applied("Option", &row.parts)?;
-        if let Some(inner) = self.row(n) {
-            if inner.is_inline {
-                row.kind = inner.kind;
-                row.keywords = nullable(alloc, &inner.keywords)?;
-            }
-        }
-        self.add(row)
+        let beside = match (made, length) {
+            (Made::UpTo, Some(length)) => length,
+            (Made::UpTo, None) => return Ok(None),
+            _ => path,
+        };
+        Ok(Some(self.formed_row(form, arguments, beside)?))
     }
 
     /// The row of a list.
-    pub fn list_row(&mut self, n: usize) -> Result<usize, AllocError> {
-        let alloc = self.alloc();
-        let id = format!(in alloc; "[{}]", self.id(n))?;
-        let name = format!(in alloc; "Array_of_{}", self.name(n))?;
-        let shape = format!(in alloc; "{{\"seq\":{n}}}")?;
-        let mut row = self.list(id.as_str(), name.as_str(), shape, n)?;
-        row.makeup = Makeup::List;
-        row.ty = self.applied("Vec", &row.parts)?;
-        self.add(row)
-    }
-
-    fn set_row(&mut self, path: &str, n: usize) -> Result<usize, AllocError> {
-        let alloc = self.alloc();
-        let id = format!(in alloc; "Set<{}>", self.id(n))?;
-        let name = format!(in alloc; "Set_of_{}", self.name(n))?;
-        let shape = format!(in alloc; "{{\"set\":{n}}}")?;
-        let mut row = self.list(id.as_str(), name.as_str(), shape, n)?;
-        row.makeup = Makeup::Set;
-        row.ty = self.applied(path, &row.parts)?;
-        self.add(row)
-    }
-
-    fn up_to_row(&mut self, n: usize, length: &str) -> Result<usize, AllocError> {
-        let alloc = self.alloc();
-        let id = format!(in alloc; "[{}; up to {length}]", self.id(n))?;
-        let name = format!(in alloc; "Array_up_to_size_{length}_of_{}", self.name(n))?;
-        let shape = format!(in alloc; "{{\"up_to\":{{\"of\":{n},\"cap\":{length}}}}}")?;
-        let mut row = self.list(id.as_str(), name.as_str(), shape, n)?;
-        row.makeup = Makeup::Other;
-        row.ty = format!(in alloc; "arrayvec::ArrayVec<{}, {length}>", self.ty(n))?;
-        self.add(row)
+    pub fn list_row(&mut self, item: usize) -> Result<usize, AllocError> {
+        self.formed_row(&LIST, &[item], "")
     }
 
     /// The row of an array.
-    pub fn array_row(&mut self, n: usize, length: &str) -> Result<usize, AllocError> {
-        let alloc = self.alloc();
-        let id = format!(in alloc; "[{length}; {}]", self.id(n))?;
-        let name = format!(in alloc; "Array_size_{length}_of_{}", self.name(n))?;
-        let shape = format!(in alloc; "{{\"array\":{{\"of\":{n},\"len\":{length}}}}}")?;
-        let mut row = self.list(id.as_str(), name.as_str(), shape, n)?;
-        row.default = None;
-        row.makeup = Makeup::Array;
-        row.length = String::from_str(alloc, length)?;
-        row.ty = format!(in alloc; "[{}; {length}]", self.ty(n))?;
-        self.add(row)
+    pub fn array_row(&mut self, item: usize, length: &str) -> Result<usize, AllocError> {
+        self.formed_row(&ARRAY, &[item], length)
     }
 
     /// The row of an array without items.
     pub fn empty_array_row(&mut self) -> Result<usize, AllocError> {
-        let alloc = self.alloc();
-        let shape = String::from_str(alloc, "{\"tuple\":[]}")?;
-        let mut row = Row::new(alloc, "[]", "EmptyArray", shape)?;
-        row.kind = Kind::List;
-        row.default = Some(String::from_str(alloc, "[]")?);
-        self.add(row.typed(alloc, "[(); 0]")?)
+        self.formed_row(&EMPTY_ARRAY, &[], "")
+    }
+
+    /// The row of a form.
+    pub fn formed_row(
+        &mut self,
+        form: &Form,
+        parts: &[usize],
+        beside: &str,
+    ) -> Result<usize, AllocError> {
+        let mut row = Row::empty(self.alloc());
+        self.fill(&mut row, form, parts, beside)?;
+        self.add(row)
+    }
+
+    // Gives a row what its form says.
+    fn fill(
+        &self,
+        row: &mut Row,
+        form: &Form,
+        parts: &[usize],
+        beside: &str,
+    ) -> Result<(), AllocError> {
+        self.push_filled(&mut row.id, form.id, Text::Id, parts, beside)?;
+        self.push_filled(&mut row.name, form.name, Text::Name, parts, beside)?;
+        self.push_filled(&mut row.shape, form.shape, Text::Number, parts, beside)?;
+        self.push_filled(&mut row.ty, form.ty, Text::Type, parts, beside)?;
+        row.set_default(self.alloc(), form.default)?;
+        row.parts.extend_from_slice(parts)?;
+        row.kind = form.kind;
+        row.makeup = form.makeup;
+        row.is_inline = form.is_inline;
+        match form.makeup {
+            Makeup::Optional => self.fill_optional(row, parts),
+            Makeup::Array => {
+                row.item = parts.first().copied();
+                row.length.push_str(beside)
+            }
+            _ if form.kind == Kind::List => {
+                row.item = parts.first().copied();
+                Ok(())
+            }
+            _ => Ok(()),
+        }
+    }
+
+    // Gives the row of an Option what that of its part has.
+    fn fill_optional(&self, row: &mut Row, parts: &[usize]) -> Result<(), AllocError> {
+        row.inner = parts.first().copied();
+        match row.inner.and_then(|number| self.row(number)) {
+            Some(inner) if inner.is_inline => {
+                row.kind = inner.kind;
+                put_nullable(self.alloc(), &mut row.keywords, &inner.keywords)
+            }
+            _ => Ok(()),
+        }
+    }
+
+    // Adds a text of a form.
+    fn push_filled(
+        &self,
+        out: &mut String,
+        form: &str,
+        text: Text,
+        parts: &[usize],
+        beside: &str,
+    ) -> Result<(), AllocError> {
+        for c in form.chars() {
+            match c {
+                '1' => self.push_part(out, text, parts.first())?,
+                '2' => self.push_part(out, text, parts.get(1))?,
+                '#' => out.push_str(beside)?,
+                c => out.push(c)?,
+            }
+        }
+        Ok(())
+    }
+
+    // Adds what is written for a part.
+    fn push_part(
+        &self,
+        out: &mut String,
+        text: Text,
+        part: Option<&usize>,
+    ) -> Result<(), AllocError> {
+        let Some(part) = part else {
+            return Ok(());
+        };
+        match text {
+            Text::Id => out.push_str(self.id(*part)),
+            Text::Name => out.push_str(self.name(*part)),
+            Text::Type => out.push_str(self.ty(*part)),
+            Text::Default => out.push_str(self.default_of(*part).unwrap_or("")),
+            Text::Number => write!(out, "{part}"),
+        }
+    }
+
+    /// Adds what is written for what a parameter stands for.
+    pub fn push_value(
+        &self,
+        out: &mut String,
+        text: Text,
+        value: &Value,
+    ) -> Result<(), AllocError> {
+        match value {
+            Value::Row(row) => self.push_part(out, text, Some(row)),
+            Value::Constant(constant) => out.push_str(constant.as_str()),
+        }
+    }
+
+    /// Adds what is written for parts, between marks.
+    pub fn push_parts(
+        &self,
+        out: &mut String,
+        marks: Marks,
+        text: Text,
+        parts: &[usize],
+    ) -> Result<(), AllocError> {
+        let mut mark = marks.before;
+        for part in parts {
+            out.push_str(mark)?;
+            self.push_part(out, text, Some(part))?;
+            mark = marks.between;
+        }
+        out.push_str(marks.behind)
     }
 
     /// The row of a tuple, which has parts.
     pub fn tuple_row(&mut self, parts: &[usize]) -> Result<usize, AllocError> {
-        let alloc = self.alloc();
-        let mut id = String::from_str(alloc, "(")?;
-        let mut name = String::from_str(alloc, "Tuple_of")?;
-        let mut default = String::from_str(alloc, "[")?;
-        let mut has_default = true;
-        for (number, part) in parts.iter().enumerate() {
-            if number > 0 {
-                id.push(',')?;
-                name.push_str("_and")?;
-                default.push(',')?;
-            }
-            id.push_str(self.id(*part))?;
-            name.push('_')?;
-            name.push_str(self.name(*part))?;
-            match self.default_of(*part) {
-                Some(json) => default.push_str(json)?,
-                None => has_default = false,
-            }
-        }
-        id.push(')')?;
-        default.push(']')?;
-        let mut shape = String::from_str(alloc, "{\"tuple\":")?;
-        push_numbers(alloc, &mut shape, parts)?;
-        shape.push('}')?;
-        let mut row = Row::new(alloc, id.as_str(), name.as_str(), shape)?;
-        row.kind = Kind::List;
-        if has_default {
-            row.default = Some(default);
-        }
-        row.ty = self.tuple_type(parts)?;
-        self.composed(row, parts)
-    }
-
-    // The type of a tuple.
-    fn tuple_type(&self, parts: &[usize]) -> Result<String, AllocError> {
-        let alloc = self.alloc();
-        let list = self.types_of(parts)?;
-        if parts.len() == 1 {
-            return format!(in alloc; "({},)", list.as_str());
-        }
-        format!(in alloc; "({})", list.as_str())
-    }
-
-    // The types of rows, with a comma between them.
-    fn types_of(&self, rows: &[usize]) -> Result<String, AllocError> {
-        let mut list = String::new(self.alloc());
-        for (number, row) in rows.iter().enumerate() {
-            if number > 0 {
-                list.push_str(", ")?;
-            }
-            list.push_str(self.ty(*row))?;
-        }
-        Ok(list)
-    }
-
-    /// The type with this path and the types of these rows as arguments.
-    pub fn applied(&self, path: &str, rows: &[usize]) -> Result<String, AllocError> {
-        let list = self.types_of(rows)?;
-        format!(in self.alloc(); "{path}<{}>", list.as_str())
-    }
-
-    // Adds a row of a type that is made of these in its own way.
-    fn composed(&mut self, row: Row, parts: &[usize]) -> Result<usize, AllocError> {
-        let mut row = row;
-        row.makeup = Makeup::Other;
-        for part in parts {
-            row.parts.push(*part)?;
-        }
+        let mut row = Row::empty(self.alloc());
+        self.fill_tuple(&mut row, parts)?;
         self.add(row)
+    }
+
+    fn fill_tuple(&self, row: &mut Row, parts: &[usize]) -> Result<(), AllocError> {
+        self.push_parts(&mut row.id, TUPLE_ID, Text::Id, parts)?;
+        self.push_parts(&mut row.name, TUPLE_NAME, Text::Name, parts)?;
+        self.push_parts(&mut row.shape, TUPLE_SHAPE, Text::Number, parts)?;
+        let marks = if parts.len() == 1 {
+            TUPLE_OF_ONE
+        } else {
+            TUPLE
+        };
+        self.push_parts(&mut row.ty, marks, Text::Type, parts)?;
+        row.parts.extend_from_slice(parts)?;
+        row.kind = Kind::List;
+        row.makeup = Makeup::Other;
+        if self.have_defaults(parts) {
+            row.default = Some(self.tuple_default(parts)?);
+        }
+        Ok(())
+    }
+
+    fn tuple_default(&self, parts: &[usize]) -> Result<String, AllocError> {
+        let mut default = String::new(self.alloc());
+        self.push_parts(&mut default, TUPLE_DEFAULT, Text::Default, parts)?;
+        Ok(default)
+    }
+
+    // Whether the types of these rows all have a default.
+    fn have_defaults(&self, rows: &[usize]) -> bool {
+        for row in rows {
+            if self.default_of(*row).is_none() {
+                return false;
+            }
+        }
+        true
     }
 
     /// The default of the type of a row, as JSON.
     pub fn default_of(&self, n: usize) -> Option<&str> {
-        match self.rows.get(n) {
-            Some(row) => match &row.default {
-                Some(json) => Some(json.as_str()),
-                None => None,
-            },
+        match &self.rows.get(n)?.default {
+            Some(json) => Some(json.as_str()),
             None => None,
         }
     }
-
-    // A row of a list.
-    fn list(&self, id: &str, name: &str, shape: String, item: usize) -> Result<Row, AllocError> {
-        let alloc = self.alloc();
-        let mut row = Row::new(alloc, id, name, shape)?;
-        row.kind = Kind::List;
-        row.item = Some(item);
-        row.default = Some(String::from_str(alloc, "[]")?);
-        row.parts.push(item)?;
-        Ok(row)
-    }
-
-    // A row of one other, which is a definition.
-    fn one_row(&mut self, title: &str, shape: &str, n: usize) -> Result<usize, AllocError> {
-        let alloc = self.alloc();
-        let id = format!(in alloc; "{title}<{}>", self.id(n))?;
-        let name = format!(in alloc; "{title}_of_{}", self.name(n))?;
-        let shape = format!(in alloc; "{{\"{shape}\":{n}}}")?;
-        let mut row = Row::new(alloc, id.as_str(), name.as_str(), shape)?;
-        row.is_inline = false;
-        row.ty = format!(in alloc; "std::ops::{title}<{}>", self.ty(n))?;
-        self.composed(row, &[n])
-    }
-
-    fn two_row(&mut self, made: Made, path: &str, m: usize, n: usize) -> Result<usize, AllocError> {
-        match made {
-            Made::Outcome => self.result_row(m, n),
-            Made::Either => self.either_row(m, n),
-            _ => self.map_row(path, m, n),
-        }
-    }
-
-    fn result_row(&mut self, ok: usize, err: usize) -> Result<usize, AllocError> {
-        let alloc = self.alloc();
-        let id = format!(in alloc; "Result<{}, {}>", self.id(ok), self.id(err))?;
-        let name = format!(in alloc; "Result_of_{}_or_{}", self.name(ok), self.name(err))?;
-        let shape = format!(in alloc; "{{\"result\":{{\"ok\":{ok},\"err\":{err}}}}}")?;
-        let mut row = Row::new(alloc, id.as_str(), name.as_str(), shape)?;
-        row.is_inline = false;
-        row.ty = self.applied("Result", &[ok, err])?;
-        self.composed(row, &[ok, err])
-    }
-
-    fn either_row(&mut self, left: usize, right: usize) -> Result<usize, AllocError> {
-        let alloc = self.alloc();
-        let id = format!(in alloc; "either::Either<{}, {}>", self.id(left), self.id(right))?;
-        let name = format!(in alloc; "Either_{}_or_{}", self.name(left), self.name(right))?;
-        let shape = format!(in alloc; "{{\"either\":{{\"left\":{left},\"right\":{right}}}}}")?;
-        let mut row = Row::new(alloc, id.as_str(), name.as_str(), shape)?;
-        row.ty = self.applied("either::Either", &[left, right])?;
-        self.composed(row, &[left, right])
-    }
-
-    // The row of a map.
-    fn map_row(&mut self, path: &str, key: usize, value: usize) -> Result<usize, AllocError> {
-        let alloc = self.alloc();
-        let (id, name) = self.map_texts(key, value)?;
-        let shape = format!(in alloc; "{{\"map\":{{\"key\":{key},\"value\":{value}}}}}")?;
-        let mut row = Row::new(alloc, id.as_str(), name.as_str(), shape)?;
-        row.default = Some(String::from_str(alloc, "{}")?);
-        row.makeup = Makeup::Map;
-        row.parts.push(key)?;
-        row.parts.push(value)?;
-        row.ty = self.applied(path, &row.parts)?;
-        self.add(row)
-    }
-
-    // The id and the name of a map. Keys that are texts are not in them.
-    fn map_texts(&self, key: usize, value: usize) -> Result<(String, String), AllocError> {
-        let alloc = self.alloc();
-        if self.id(key) == "string" {
-            let id = format!(in alloc; "Map<{}>", self.id(value))?;
-            let name = format!(in alloc; "Map_of_{}", self.name(value))?;
-            return Ok((id, name));
-        }
-        let id = format!(in alloc; "Map<{}, {}>", self.id(key), self.id(value))?;
-        let name = format!(in alloc; "Map_from_{}_to_{}", self.name(key), self.name(value))?;
-        Ok((id, name))
-    }
 }
 
-// Writes a list of numbers.
-fn push_numbers(alloc: Global, out: &mut String, numbers: &[usize]) -> Result<(), AllocError> {
-    out.push('[')?;
-    for (place, number) in numbers.iter().enumerate() {
-        if place > 0 {
-            out.push(',')?;
-        }
-        let text = format!(in alloc; "{number}")?;
-        out.push_str(text.as_str())?;
-    }
-    out.push(']')
-}
+/// Arguments in angle brackets.
+pub const ARGUMENTS: Marks = Marks {
+    before: "<",
+    between: ", ",
+    behind: ">",
+};
 
-// The keywords of a document that accepts null too.
-fn nullable(alloc: Global, keywords: &Notes) -> Result<Notes, AllocError> {
-    let mut all = Notes::new(alloc);
+const TUPLE: Marks = Marks {
+    before: "(",
+    between: ", ",
+    behind: ")",
+};
+
+const TUPLE_OF_ONE: Marks = Marks {
+    before: "(",
+    between: ", ",
+    behind: ",)",
+};
+
+const TUPLE_ID: Marks = Marks {
+    before: "(",
+    between: ",",
+    behind: ")",
+};
+
+const TUPLE_NAME: Marks = Marks {
+    before: "Tuple_of_",
+    between: "_and_",
+    behind: "",
+};
+
+const TUPLE_SHAPE: Marks = Marks {
+    before: "{\"tuple\":[",
+    between: ",",
+    behind: "]}",
+};
+
+const TUPLE_DEFAULT: Marks = Marks {
+    before: "[",
+    between: ",",
+    behind: "]",
+};
+
+// Adds the keywords of a document that accepts null too.
+fn put_nullable(alloc: Global, all: &mut Notes, keywords: &Notes) -> Result<(), AllocError> {
     for note in &keywords.list {
         let json = note.json.as_str();
-        let json = if note.key.as_str() == "type" && !json.starts_with('[') {
-            format!(in alloc; "[{json},\"null\"]")?
+        if note.key.as_str() == "type" && !json.starts_with('[') {
+            let json = format!(in alloc; "[{json},\"null\"]")?;
+            all.put(alloc, "type", json)?;
         } else {
-            String::from_str(alloc, json)?
-        };
-        all.put(alloc, note.key.as_str(), json)?;
+            all.put_json(alloc, note.key.as_str(), json)?;
+        }
     }
-    Ok(all)
+    Ok(())
 }

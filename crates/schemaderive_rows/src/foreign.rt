@@ -1,8 +1,10 @@
 //! The rows of the types of other crates, and of constants.
 use crate::builder::{Builder, Scope, Value};
-use schemaderive_known::{Made, Makeup, Row, known_row, nonzero_name, path_of};
+use crate::containers::{ARGUMENTS, DURATION, Form, SYSTEM_TIME, Text};
+use schemaderive_known::{Kind, Made, Makeup, Row, Texts, known_row, nonzero_name, path_of};
 use schemaderive_options::Contract;
 use schemaderive_syntax::{Fault, Place, TypeExpr};
+use std::alloc::AllocError;
 
 impl<'a> Builder<'a> {
     /// The row of a parameter, or of `Self`.
@@ -43,8 +45,7 @@ impl<'a> Builder<'a> {
         scope: &Scope,
         place: Place,
     ) -> Result<bool, Fault> {
-        let length = self.length_of(length, scope, place)?;
-        Ok(length.as_str() == "0")
+        Ok(self.length_of(length, scope, place)? == "0")
     }
 
     /// The row of an array with items of this row.
@@ -60,7 +61,7 @@ impl<'a> Builder<'a> {
         place: Place,
     ) -> Result<usize, Fault> {
         let length = self.length_of(length, scope, place)?;
-        Ok(self.array_row(item, length.as_str())?)
+        Ok(self.array_row(item, length)?)
     }
 
     /// The row of what a type is made of arguments with these rows.
@@ -80,11 +81,8 @@ impl<'a> Builder<'a> {
         if made == Made::Small {
             return self.row_of_small(rows, place);
         }
-        let found = match self.length_in(arguments, scope, place)? {
-            Some(length) => self.made_row(made, path_of(name), rows, Some(length.as_str()))?,
-            None => self.made_row(made, path_of(name), rows, None)?,
-        };
-        match found {
+        let length = length_in(arguments, scope);
+        match self.made_row(made, path_of(name), rows, length)? {
             Some(row) => Ok(row),
             None => Err(self.context.refused(place, "an argument is missing here")),
         }
@@ -102,19 +100,13 @@ impl<'a> Builder<'a> {
         arguments: &[TypeExpr],
         place: Place,
     ) -> Result<usize, Fault> {
-        if name == "Decimal" || name == "BigDecimal" {
-            return self.decimal_row(name, place);
+        match special_named(name, origin) {
+            Some(Special::Decimal) => self.decimal_row(name, place),
+            Some(Special::Duration) => Ok(self.time_row(&DURATION)?),
+            Some(Special::SystemTime) => Ok(self.time_row(&SYSTEM_TIME)?),
+            Some(Special::TimeDelta) => self.plain_known("TimeDelta", origin, arguments, place),
+            None => self.plain_known(name, origin, arguments, place),
         }
-        if name == "Duration" && (origin == "" || origin == "std" || origin == "core") {
-            return self.time_row("Duration", "secs", "nanos");
-        }
-        if name == "Duration" && origin == "chrono" {
-            return self.plain_known("TimeDelta", origin, arguments, place);
-        }
-        if name == "SystemTime" && (origin == "" || origin == "std") {
-            return self.time_row("SystemTime", "secs_since_epoch", "nanos_since_epoch");
-        }
-        self.plain_known(name, origin, arguments, place)
     }
 
     // The row of a type that is listed.
@@ -125,10 +117,9 @@ impl<'a> Builder<'a> {
         arguments: &[TypeExpr],
         place: Place,
     ) -> Result<usize, Fault> {
-        let alloc = self.alloc();
-        match known_row(alloc, name, origin, !arguments.is_empty())? {
+        match known_row(self.alloc(), name, origin, !arguments.is_empty())? {
             Some(row) => Ok(self.add(row)?),
-            None => Err(self.unknown_type(name, place)?),
+            None => Err(self.context.refused_name(place, name, UNKNOWN)),
         }
     }
 
@@ -138,8 +129,10 @@ impl<'a> Builder<'a> {
     ///
     /// Memory runs out.
     pub fn is_known(&self, name: &str, origin: &str, has_arguments: bool) -> Result<bool, Fault> {
-        let is_listed = known_row(self.alloc(), name, origin, has_arguments)?.is_some();
-        Ok(is_listed || is_special(name, origin))
+        if special_named(name, origin).is_some() {
+            return Ok(true);
+        }
+        Ok(known_row(self.alloc(), name, origin, has_arguments)?.is_some())
     }
 
     /// The row of a type that is declared elsewhere, with these arguments. What it is made of is not
@@ -154,50 +147,39 @@ impl<'a> Builder<'a> {
         rows: &[usize],
         place: Place,
     ) -> Result<usize, Fault> {
-        let alloc = self.alloc();
         if !path.contains("::") {
-            return Err(self.unknown_type(path, place)?);
+            return Err(self.context.refused_name(place, path, UNKNOWN));
         }
-        let ty = if rows.is_empty() {
-            String::from_str(alloc, path)?
-        } else {
-            self.applied(path, rows)?
-        };
-        let mut row = Row::new(alloc, ty.as_str(), path, String::new(alloc))?;
-        row.is_inline = false;
-        row.makeup = Makeup::Other;
-        for part in rows {
-            row.parts.push(*part)?;
-        }
-        Ok(self.add(row.typed(alloc, ty.as_str())?)?)
+        let mut row = Row::empty(self.alloc());
+        self.fill_elsewhere(&mut row, path, rows)?;
+        Ok(self.add(row)?)
     }
 
-    fn unknown_type(&self, name: &str, place: Place) -> Result<Fault, Fault> {
-        let alloc = self.alloc();
-        let reason = format!(in alloc;
-            "`{name}`: no type of this name is declared here, and none is known"
-        )?;
-        Ok(self.context.refused(place, reason.as_str()))
+    fn fill_elsewhere(&self, row: &mut Row, path: &str, parts: &[usize]) -> Result<(), AllocError> {
+        row.is_inline = false;
+        row.makeup = Makeup::Other;
+        row.name.push_str(path)?;
+        row.ty.push_str(path)?;
+        if !parts.is_empty() {
+            self.push_parts(&mut row.ty, ARGUMENTS, Text::Type, parts)?;
+        }
+        row.id.push_str(row.ty.as_str())?;
+        row.parts.extend_from_slice(parts)
     }
 
     // The row of a time of seconds and nanoseconds.
-    fn time_row(&mut self, name: &str, secs: &str, nanos: &str) -> Result<usize, Fault> {
-        let alloc = self.alloc();
-        let mut rows = Vec::new(alloc);
-        for kind in ["u64", "u32"] {
-            if let Some(row) = known_row(alloc, kind, "", false)? {
-                rows.push(self.add(row)?)?;
-            }
+    fn time_row(&mut self, form: &Form) -> Result<usize, AllocError> {
+        let seconds = self.number_row("u64")?;
+        let nanoseconds = self.number_row("u32")?;
+        self.formed_row(form, &[seconds, nanoseconds], "")
+    }
+
+    // The row of these numbers.
+    fn number_row(&mut self, kind: &str) -> Result<usize, AllocError> {
+        match known_row(self.alloc(), kind, "", false)? {
+            Some(row) => self.add(row),
+            None => Ok(0),
         }
-        let first = rows.first().copied().unwrap_or(0);
-        let second = rows.last().copied().unwrap_or(0);
-        let id = format!(in alloc; "std::time::{name}")?;
-        let shape = format!(in alloc;
-            "{{\"struct\":{{\"fields\":[{{\"name\":\"{secs}\",\"type\":{first}}},{{\"name\":\"{nanos}\",\"type\":{second}}}]}}}}"
-        )?;
-        let mut row = Row::new(alloc, id.as_str(), name, shape)?;
-        row.is_inline = false;
-        Ok(self.add(row.typed(alloc, id.as_str())?)?)
     }
 
     // The row of decimals, which are read from numbers too.
@@ -215,54 +197,41 @@ impl<'a> Builder<'a> {
                 return Err(self.context.refused_name(place, name, reason));
             }
         };
-        let alloc = self.alloc();
-        let shape = String::from_str(alloc, shape)?;
-        let row = Row::new(alloc, "Decimal", "Decimal", shape)?;
+        let texts = Texts {
+            id: "Decimal",
+            name: "Decimal",
+            shape,
+            ty: "",
+            default: "",
+            kind: Kind::Other,
+            is_inline: true,
+            type_name: "",
+            format: "",
+            length: "",
+        };
+        let row = Row::of_texts(self.alloc(), &texts)?;
         Ok(self.add(row)?)
     }
 
     // The number that a length is.
-    fn length_of(&self, length: &str, scope: &Scope, place: Place) -> Result<String, Fault> {
-        let alloc = self.alloc();
+    fn length_of<'t>(
+        &self,
+        length: &'t str,
+        scope: &'t Scope,
+        place: Place,
+    ) -> Result<&'t str, Fault> {
         if length.starts_with(|c: char| c.is_ascii_digit()) {
-            return Ok(String::from_str(alloc, length)?);
+            return Ok(length);
         }
-        match scope.get(length) {
-            Some(Value::Constant(text)) => Ok(String::from_str(alloc, text.as_str())?),
-            _ => {
-                let reason = format!(in alloc; "the length `{length}` is not known here")?;
-                Err(self.context.refused(place, reason.as_str()))
-            }
+        match scope.constant(length) {
+            Some(text) => Ok(text),
+            None => Err(self.unknown_length(length, place)?),
         }
     }
 
-    // The constant that is the second argument.
-    fn length_in(
-        &self,
-        arguments: &[TypeExpr],
-        scope: &Scope,
-        place: Place,
-    ) -> Result<Option<String>, Fault> {
-        let alloc = self.alloc();
-        match arguments.get(1) {
-            Some(TypeExpr::Constant(text)) => Ok(Some(String::from_str(alloc, text.as_str())?)),
-            Some(
-                TypeExpr::Path {
-                    segments,
-                    arguments: _,
-                    place: _,
-                },
-            ) if segments.len() == 1 => match segments.first() {
-                Some(name) => match scope.get(name.as_str()) {
-                    Some(Value::Constant(_)) => {
-                        Ok(Some(self.length_of(name.as_str(), scope, place)?))
-                    }
-                    _ => Ok(None),
-                },
-                None => Ok(None),
-            },
-            _ => Ok(None),
-        }
+    fn unknown_length(&self, length: &str, place: Place) -> Result<Fault, AllocError> {
+        let reason = format!(in self.alloc(); "the length `{length}` is not known here")?;
+        Ok(self.context.refused(place, reason.as_str()))
     }
 
     /// The row of whole numbers without 0.
@@ -271,25 +240,17 @@ impl<'a> Builder<'a> {
     ///
     /// The argument is no kind of whole numbers.
     pub fn row_of_nonzero(&mut self, arguments: &[TypeExpr], place: Place) -> Result<usize, Fault> {
-        let alloc = self.alloc();
-        if let Some(
-            TypeExpr::Path {
-                segments,
-                arguments: _,
-                place: _,
-            },
-        ) = arguments.first()
-        {
-            if let Some(kind) = segments.last() {
-                if let Some(name) = nonzero_name(alloc, kind.as_str())? {
-                    return self.row_of_known(name.as_str(), "", &[], place);
-                }
-            }
+        let kind = match arguments.first() {
+            Some(TypeExpr::Path { segments, .. }) => segments.last(),
+            _ => None,
+        };
+        match kind.and_then(|kind| nonzero_name(kind.as_str())) {
+            Some(name) => self.row_of_known(name, "", &[], place),
+            None => Err(
+                self.context
+                    .refused(place, "`NonZero`: whole numbers are wanted"),
+            ),
         }
-        Err(
-            self.context
-                .refused(place, "`NonZero`: whole numbers are wanted"),
-        )
     }
 
     // The row of a list with the items of an array.
@@ -318,27 +279,46 @@ impl<'a> Builder<'a> {
         scope: &Scope,
         place: Place,
     ) -> Result<String, Fault> {
-        match argument {
-            TypeExpr::Constant(text) => Ok(String::from_str(self.alloc(), text.as_str())?),
-            TypeExpr::Path {
-                segments,
-                arguments: _,
-                place: _,
-            } => match segments.first() {
-                Some(name) => self.length_of(name.as_str(), scope, place),
-                None => Err(self.context.refused(place, "a constant is wanted here")),
+        let text = match argument {
+            TypeExpr::Constant(text) => text.as_str(),
+            TypeExpr::Path { segments, .. } => match segments.first() {
+                Some(name) => self.length_of(name.as_str(), scope, place)?,
+                None => return Err(self.context.refused(place, "a constant is wanted here")),
             },
-            _ => Err(self.context.refused(place, "a constant is wanted here")),
-        }
+            _ => return Err(self.context.refused(place, "a constant is wanted here")),
+        };
+        Ok(String::from_str(self.alloc(), text)?)
     }
 }
 
-// Whether a type has a row of its own kind, beside those that are listed.
-fn is_special(name: &str, origin: &str) -> bool {
+const UNKNOWN: &str = "no type of this name is declared here, and none is known";
+
+// The constant that is the second argument.
+fn length_in<'t>(arguments: &'t [TypeExpr], scope: &'t Scope) -> Option<&'t str> {
+    match arguments.get(1)? {
+        TypeExpr::Constant(text) => Some(text.as_str()),
+        TypeExpr::Path { segments, .. } if segments.len() == 1 => {
+            scope.constant(segments.first()?.as_str())
+        }
+        _ => None,
+    }
+}
+
+// A type with a row of its own kind, beside those that are listed.
+#[derive(Clone, Copy)]
+enum Special {
+    Decimal,
+    Duration,
+    SystemTime,
+    TimeDelta,
+}
+
+fn special_named(name: &str, origin: &str) -> Option<Special> {
     match name {
-        "Decimal" | "BigDecimal" => true,
-        "Duration" => origin == "" || origin == "std" || origin == "core" || origin == "chrono",
-        "SystemTime" => origin == "" || origin == "std",
-        _ => false,
+        "Decimal" | "BigDecimal" => Some(Special::Decimal),
+        "Duration" if origin == "chrono" => Some(Special::TimeDelta),
+        "Duration" if ["", "std", "core"].contains(&origin) => Some(Special::Duration),
+        "SystemTime" if ["", "std"].contains(&origin) => Some(Special::SystemTime),
+        _ => None,
     }
 }

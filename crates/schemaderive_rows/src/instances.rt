@@ -1,11 +1,12 @@
 //! The rows of declarations with arguments, which are reserved and defined later.
-use crate::builder::{Builder, Instance, Scope, Value, joined};
+use crate::builder::{Builder, Instance, Scope, Value, push_segment};
+use crate::containers::{ARGUMENTS, Marks, Text};
 use crate::parameters::one_field;
 use schemaderive_known::{Makeup, Row};
 use schemaderive_options::{
     Cases, ContainerOptions, container_options, derives, field_options, name_of,
 };
-use schemaderive_syntax::{Declaration, Fault, Place, TypeExpr};
+use schemaderive_syntax::{Declaration, Fault, Field, Place, TypeExpr};
 use std::alloc::AllocError;
 
 /// Whose row a declaration has.
@@ -28,23 +29,17 @@ impl<'a> Builder<'a> {
     /// An attribute is not known.
     pub fn standing(&mut self, declaration: &Declaration<'_>) -> Result<Standing, Fault> {
         let mut options = container_options(&mut self.context, &declaration.attributes)?;
-        if !options.notes.is_empty() || is_renamed(&options) || options.is_converted {
-            return Ok(Standing::Itself);
+        match standing_of(&mut options) {
+            Some(standing) => Ok(standing),
+            None => match one_field(&declaration.body) {
+                Some(field) => self.field_standing(field),
+                None => Ok(Standing::Itself),
+            },
         }
-        if !options.is_transparent {
-            return Ok(match options.stands_for.take() {
-                Some(ty) => Standing::Type(ty),
-                None => Standing::Itself,
-            });
-        }
-        self.field_standing(declaration)
     }
 
-    // Whose row a transparent declaration has.
-    fn field_standing(&mut self, declaration: &Declaration<'_>) -> Result<Standing, Fault> {
-        let Some(field) = one_field(&declaration.body) else {
-            return Ok(Standing::Itself);
-        };
+    // Whose row a transparent declaration with this field has.
+    fn field_standing(&mut self, field: &Field<'_>) -> Result<Standing, Fault> {
         let mut options = field_options(&mut self.context, &field.attributes)?;
         if !options.notes.is_empty() || !options.validation.is_empty() {
             return Ok(Standing::Itself);
@@ -61,13 +56,11 @@ impl<'a> Builder<'a> {
     ///
     /// It does not.
     pub fn require_derive(&self, declaration: &Declaration<'_>, place: Place) -> Result<(), Fault> {
-        let alloc = self.alloc();
-        if derives(alloc, &declaration.attributes)? {
+        if derives(self.alloc(), &declaration.attributes)? {
             return Ok(());
         }
-        let name = declaration.name;
-        let reason = format!(in alloc; "`{name}`: this type does not derive JsonSchema")?;
-        Err(self.context.refused(place, reason.as_str()))
+        let reason = "this type does not derive JsonSchema";
+        Err(self.context.refused_name(place, declaration.name, reason))
     }
 
     /// The row of a declaration with what its parameters stand for, which is defined later.
@@ -81,46 +74,67 @@ impl<'a> Builder<'a> {
         declaration: &Declaration<'_>,
         scope: Scope,
     ) -> Result<usize, Fault> {
-        let alloc = self.alloc();
-        let id = self.instance_id(declaration, &scope)?;
-        let ty = self.declared_type(declaration, &scope)?;
-        if let Some(row) = self.row_by_id(id.as_str(), ty.as_str()) {
-            return Ok(row);
+        let mut row = Row::empty(self.alloc());
+        row.makeup = Makeup::Declared(number);
+        if let Some(known) = self.fill_new(&mut row, declaration, &scope)? {
+            return Ok(known);
         }
-        let number_of_row = self.reserved(number, declaration, id.as_str(), ty, &scope)?;
+        let row = self.add(row)?;
         let mut scope = scope;
-        scope.this = Some(number_of_row);
+        scope.this = Some(row);
         self.instances.push(Instance {
-            row: number_of_row,
+            row,
             declaration: number,
             scope,
         })?;
-        Ok(number_of_row)
+        Ok(row)
     }
 
-    // A row of a declaration, without a shape.
-    fn reserved(
+    // Gives the row of a declaration what it has, unless there is one already, whose number it returns.
+    fn fill_new(
         &mut self,
-        number: usize,
+        row: &mut Row,
         declaration: &Declaration<'_>,
-        id: &str,
-        ty: String,
         scope: &Scope,
-    ) -> Result<usize, Fault> {
-        let alloc = self.alloc();
-        let options = container_options(&mut self.context, &declaration.attributes)?;
-        let name = self.instance_name(declaration, &options, scope)?;
-        let mut row = Row::new(alloc, id, name.as_str(), String::new(alloc))?;
-        row.is_inline = options.is_inline;
-        row.makeup = Makeup::Declared(number);
+    ) -> Result<Option<usize>, Fault> {
+        self.fill_declared(row, declaration, scope)?;
+        let known = self.row_by_id(row.id.as_str(), row.ty.as_str());
+        if known.is_none() {
+            self.fill_named(row, declaration, scope)?;
+        }
+        Ok(known)
+    }
+
+    // Gives the row of a declaration its id, its type and its parts.
+    fn fill_declared(
+        &self,
+        row: &mut Row,
+        declaration: &Declaration<'_>,
+        scope: &Scope,
+    ) -> Result<(), AllocError> {
+        row.id.push_str(declaration.module.as_str())?;
+        push_segment(&mut row.id, declaration.name)?;
+        self.push_used(&mut row.id, ARGUMENTS, Text::Id, scope)?;
+        self.push_type(&mut row.ty, declaration, scope)?;
         for binding in &scope.bindings {
             match &binding.value {
                 Value::Row(part) if binding.is_used => row.parts.push(*part)?,
                 _ => {}
             }
         }
-        row.ty = ty;
-        Ok(self.add(row)?)
+        Ok(())
+    }
+
+    // Gives the row of a declaration what its attributes say.
+    fn fill_named(
+        &mut self,
+        row: &mut Row,
+        declaration: &Declaration<'_>,
+        scope: &Scope,
+    ) -> Result<(), Fault> {
+        let options = container_options(&mut self.context, &declaration.attributes)?;
+        row.is_inline = options.is_inline;
+        self.push_name(&mut row.name, declaration, &options, scope)
     }
 
     /// The whole path of a declaration.
@@ -129,93 +143,95 @@ impl<'a> Builder<'a> {
     ///
     /// Memory runs out.
     pub fn path_to(&self, declaration: &Declaration<'_>) -> Result<String, AllocError> {
-        let alloc = self.alloc();
-        let home = match &self.home {
-            Some(home) => home.as_str(),
-            None => "",
-        };
-        let module = joined(alloc, home, declaration.module.as_str())?;
-        joined(alloc, module.as_str(), declaration.name)
+        let mut path = self.path_of_module(declaration.module.as_str())?;
+        push_segment(&mut path, declaration.name)?;
+        Ok(path)
     }
 
-    // The type of a declaration with these arguments; none if one of its parameters has none.
-    fn declared_type(
+    // Adds the type of a declaration with these arguments; nothing if one of them has none.
+    fn push_type(
         &self,
+        ty: &mut String,
         declaration: &Declaration<'_>,
         scope: &Scope,
-    ) -> Result<String, AllocError> {
-        let alloc = self.alloc();
-        if declaration.parameters.len() != scope.bindings.len() {
-            return Ok(String::new(alloc));
+    ) -> Result<(), AllocError> {
+        if declaration.parameters.len() != scope.bindings.len() || self.lacks_type(scope) {
+            return Ok(());
         }
-        let mut arguments = String::new(alloc);
+        let path = self.path_to(declaration)?;
+        ty.push_str(path.as_str())?;
+        let mut mark = ARGUMENTS.before;
         for _ in &declaration.lifetimes {
-            push_argument(&mut arguments, "'static")?;
+            ty.push_str(mark)?;
+            ty.push_str("'static")?;
+            mark = ARGUMENTS.between;
         }
         for binding in &scope.bindings {
-            match &binding.value {
-                Value::Row(row) if self.ty(*row).is_empty() => return Ok(String::new(alloc)),
-                Value::Row(row) => push_argument(&mut arguments, self.ty(*row))?,
-                Value::Constant(text) => push_argument(&mut arguments, text.as_str())?,
-            }
+            ty.push_str(mark)?;
+            self.push_value(ty, Text::Type, &binding.value)?;
+            mark = ARGUMENTS.between;
         }
-        let mut ty = self.path_to(declaration)?;
-        push_arguments(&mut ty, arguments.as_str())?;
-        Ok(ty)
+        if mark == ARGUMENTS.between {
+            ty.push_str(ARGUMENTS.behind)?;
+        }
+        Ok(())
     }
 
-    fn instance_id(&self, declaration: &Declaration<'_>, scope: &Scope) -> Result<String, Fault> {
-        let alloc = self.alloc();
-        let module = declaration.module.as_str();
-        let mut arguments = String::new(alloc);
+    // Whether a parameter stands for what has no type.
+    fn lacks_type(&self, scope: &Scope) -> bool {
         for binding in &scope.bindings {
             match &binding.value {
-                _ if !binding.is_used => {}
-                Value::Row(row) => push_argument(&mut arguments, self.id(*row))?,
-                Value::Constant(text) => push_argument(&mut arguments, text.as_str())?,
+                Value::Row(row) if self.ty(*row).is_empty() => return true,
+                _ => {}
             }
         }
-        let mut id = joined(alloc, module, declaration.name)?;
-        push_arguments(&mut id, arguments.as_str())?;
-        Ok(id)
+        false
     }
 
-    fn instance_name(
+    // Adds what is written for the parameters that the values of a type have, unless there are none.
+    fn push_used(
         &self,
+        out: &mut String,
+        marks: Marks,
+        text: Text,
+        scope: &Scope,
+    ) -> Result<(), AllocError> {
+        if !scope.has_used() {
+            return Ok(());
+        }
+        let mut mark = marks.before;
+        for binding in &scope.bindings {
+            if binding.is_used {
+                out.push_str(mark)?;
+                self.push_value(out, text, &binding.value)?;
+                mark = marks.between;
+            }
+        }
+        out.push_str(marks.behind)
+    }
+
+    // Adds the name of a declaration with what its parameters stand for.
+    fn push_name(
+        &self,
+        out: &mut String,
         declaration: &Declaration<'_>,
         options: &ContainerOptions,
         scope: &Scope,
-    ) -> Result<String, Fault> {
+    ) -> Result<(), Fault> {
         let cases = Cases::unchanged();
         let written = match &options.remote {
             Some(path) => last_segment(path.as_str()),
             None => declaration.name,
         };
-        let base = name_of(
-            &self.context,
-            declaration.place,
-            written,
-            &options.names,
-            cases,
-            true,
-        )?;
-        self.refuse_other_letters(declaration, base.as_str())?;
-        if !scope.has_used() {
-            return Ok(base);
+        let place = declaration.place;
+        let name = name_of(&self.context, place, written, &options.names, cases, true)?;
+        let name = name.as_str();
+        self.refuse_other_letters(declaration, name)?;
+        if is_renamed(options) && scope.has_used() {
+            return self.push_filled_name(out, name, place, scope);
         }
-        if is_renamed(options) {
-            return self.filled_name(base.as_str(), declaration, scope);
-        }
-        let mut name = base;
-        let mut joint = "_for_";
-        for binding in &scope.bindings {
-            if binding.is_used {
-                name.push_str(joint)?;
-                self.push_value(&mut name, &binding.value)?;
-                joint = "_and_";
-            }
-        }
-        Ok(name)
+        out.push_str(name)?;
+        Ok(self.push_used(out, NAMED_FOR, Text::Name, scope)?)
     }
 
     // Clauses cite the letters of a name one by one, and know those of ASCII alone.
@@ -228,24 +244,15 @@ impl<'a> Builder<'a> {
         Err(self.context.refused_name(declaration.place, name, reason))
     }
 
-    // Adds what a parameter stands for to a name.
-    fn push_value(&self, name: &mut String, value: &Value) -> Result<(), AllocError> {
-        match value {
-            Value::Row(row) => name.push_str(self.name(*row)),
-            Value::Constant(text) => name.push_str(text.as_str()),
-        }
-    }
-
-    // A name with those of its parameters in braces.
-    fn filled_name(
+    // Adds a name with what its parameters in braces stand for.
+    fn push_filled_name(
         &self,
+        out: &mut String,
         pattern: &str,
-        declaration: &Declaration<'_>,
+        place: Place,
         scope: &Scope,
-    ) -> Result<String, Fault> {
-        let alloc = self.alloc();
-        let mut name = String::new(alloc);
-        let mut parameter = String::new(alloc);
+    ) -> Result<(), Fault> {
+        let mut parameter = String::new(self.alloc());
         let mut is_inside = false;
         let mut last = ' ';
         for c in pattern.chars() {
@@ -256,50 +263,63 @@ impl<'a> Builder<'a> {
                 }
                 ('{', true) if parameter.is_empty() => {
                     is_inside = false;
-                    name.push('{')?;
+                    out.push('{')?;
                 }
                 ('}', true) => {
                     is_inside = false;
-                    match scope.used(parameter.as_str()) {
-                        Some(value) => self.push_value(&mut name, value)?,
-                        None => {
-                            let reason = "this name has a parameter that the type has not";
-                            let place = declaration.place;
-                            return Err(self.context.refused_name(place, "rename", reason));
-                        }
-                    }
+                    self.push_parameter(out, parameter.as_str(), place, scope)?;
                 }
                 ('}', false) if last == '}' => last = ' ',
                 ('}', false) => {
-                    name.push('}')?;
+                    out.push('}')?;
                     last = '}';
                     continue;
                 }
                 (c, true) => parameter.push(c)?,
-                (c, false) => name.push(c)?,
+                (c, false) => out.push(c)?,
             }
             last = ' ';
         }
-        Ok(name)
+        Ok(())
+    }
+
+    // Adds what the parameter with this name stands for.
+    fn push_parameter(
+        &self,
+        out: &mut String,
+        name: &str,
+        place: Place,
+        scope: &Scope,
+    ) -> Result<(), Fault> {
+        match scope.used(name) {
+            Some(value) => Ok(self.push_value(out, Text::Name, value)?),
+            None => {
+                let reason = "this name has a parameter that the type has not";
+                Err(self.context.refused_name(place, "rename", reason))
+            }
+        }
     }
 }
 
-// Adds an argument behind the others.
-fn push_argument(arguments: &mut String, argument: &str) -> Result<(), AllocError> {
-    if !arguments.is_empty() {
-        arguments.push_str(", ")?;
-    }
-    arguments.push_str(argument)
-}
+// What stands around the parameters in a name.
+const NAMED_FOR: Marks = Marks {
+    before: "_for_",
+    between: "_and_",
+    behind: "",
+};
 
-// Adds arguments in angle brackets, unless there are none.
-fn push_arguments(text: &mut String, arguments: &str) -> Result<(), AllocError> {
-    if arguments.is_empty() {
-        return Ok(());
+// Whose row a declaration with these attributes has; none if its field decides.
+fn standing_of(options: &mut ContainerOptions) -> Option<Standing> {
+    if !options.notes.is_empty() || is_renamed(options) || options.is_converted {
+        return Some(Standing::Itself);
     }
-    text.push('<')?;
-    text.push_str(arguments)?;
-    text.push('>')
+    if options.is_transparent {
+        return None;
+    }
+    Some(match options.stands_for.take() {
+        Some(ty) => Standing::Type(ty),
+        None => Standing::Itself,
+    })
 }
 
 fn is_renamed(options: &ContainerOptions) -> bool {
@@ -308,12 +328,7 @@ fn is_renamed(options: &ContainerOptions) -> bool {
 
 // The last segment of a path.
 fn last_segment(path: &str) -> &str {
-    let path = match path.split_once('<') {
-        Some((path, _)) => path,
-        None => path,
-    };
-    match path.rsplit_once("::") {
-        Some((_, last)) => last,
-        None => path,
-    }
+    let (path, _) = path.split_once('<').unwrap_or((path, ""));
+    let (_, last) = path.rsplit_once("::").unwrap_or(("", path));
+    last
 }

@@ -1,8 +1,8 @@
 //! The parameters of a declaration, and which of them occur in its fields.
 use crate::builder::{Binding, Builder, Scope, Value};
-use schemaderive_known::Row;
+use schemaderive_known::{Kind, Row, Texts};
 use schemaderive_syntax::{
-    Body, Declaration, Fault, Field, Fields, MetaValue, Parameter, TypeExpr,
+    Body, Cursor, Declaration, Fault, Field, Fields, MetaValue, Parameter, TypeExpr,
 };
 use std::alloc::{AllocError, Global};
 
@@ -20,31 +20,46 @@ impl<'a> Builder<'a> {
     ///
     /// A parameter is a constant.
     pub fn parameter_scope(&mut self, declaration: &Declaration<'_>) -> Result<Scope, Fault> {
-        let alloc = self.alloc();
-        let used = used_parameters(alloc, declaration)?;
-        let mut scope = Scope::new(alloc, declaration.module.as_str())?;
-        for (number, parameter) in declaration.parameters.iter().enumerate() {
+        let mut scope = Scope::new(self.alloc(), declaration.module.as_str())?;
+        for parameter in &declaration.parameters {
             let Parameter::Type(name, _) = parameter else {
                 let place = declaration.place;
                 let reason = "an implementation for a type with a constant is not written";
                 return Err(self.context.refused_name(place, declaration.name, reason));
             };
-            let row = self.parameter_row(name)?;
-            scope.bindings.push(Binding {
-                name: String::from_str(alloc, name)?,
-                value: Value::Row(row),
-                is_used: used.get(number) != Some(&false),
-            })?;
+            let binding = self.own_binding(name, occurs(&declaration.body, name))?;
+            scope.bindings.push(binding)?;
         }
         Ok(scope)
+    }
+
+    // A parameter that stands for itself.
+    fn own_binding(&mut self, name: &str, is_used: bool) -> Result<Binding, AllocError> {
+        let row = self.parameter_row(name)?;
+        Ok(Binding {
+            name: String::from_str(self.alloc(), name)?,
+            value: Value::Row(row),
+            is_used,
+        })
     }
 
     // The row of a parameter.
     fn parameter_row(&mut self, name: &str) -> Result<usize, AllocError> {
         let alloc = self.alloc();
         let id = format!(in alloc; "{}{name}{}", OPENING, CLOSING)?;
-        let row = Row::new(alloc, id.as_str(), id.as_str(), String::new(alloc))?;
-        self.add(row.typed(alloc, name)?)
+        let texts = Texts {
+            id: id.as_str(),
+            name: id.as_str(),
+            shape: "",
+            ty: name,
+            default: "",
+            kind: Kind::Other,
+            is_inline: true,
+            type_name: "",
+            format: "",
+            length: "",
+        };
+        self.add(Row::of_texts(alloc, &texts)?)
     }
 }
 
@@ -66,12 +81,18 @@ pub fn used_parameters(
 ) -> Result<Vec<bool>, AllocError> {
     let mut used = Vec::new(alloc);
     for parameter in &declaration.parameters {
-        used.push(match parameter {
-            Parameter::Constant(_) => true,
-            Parameter::Type(name, _) => occurs(&declaration.body, name),
-        })?;
+        used.push(is_used_in(parameter, &declaration.body))?;
     }
     Ok(used)
+}
+
+/// Whether a parameter occurs in a body, other than in skipped fields and in `PhantomData`. A
+/// constant always does.
+pub fn is_used_in(parameter: &Parameter<'_>, body: &Body<'_>) -> bool {
+    match parameter {
+        Parameter::Constant(_) => true,
+        Parameter::Type(name, _) => occurs(body, name),
+    }
 }
 
 fn occurs(body: &Body<'_>, name: &str) -> bool {
@@ -106,16 +127,21 @@ fn occurs_in_fields(fields: &Fields<'_>, name: &str) -> bool {
 fn is_skipped(field: &Field<'_>) -> bool {
     for attribute in &field.attributes {
         if let MetaValue::List(list) = attribute.value {
-            if attribute.name == "serde" || attribute.name == "schemars" {
-                let mut cursor = list;
-                for _ in 0..list.len() {
-                    if cursor.is_word("skip") {
-                        return true;
-                    }
-                    let _ = cursor.advance();
-                }
+            if ["serde", "schemars"].contains(&attribute.name) && has_word(list, "skip") {
+                return true;
             }
         }
+    }
+    false
+}
+
+fn has_word(list: Cursor<'_>, word: &str) -> bool {
+    let mut cursor = list;
+    for _ in 0..list.len() {
+        if cursor.is_word(word) {
+            return true;
+        }
+        let _ = cursor.advance();
     }
     false
 }

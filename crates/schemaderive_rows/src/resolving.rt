@@ -1,5 +1,5 @@
 //! What paths stand for.
-use crate::builder::{Builder, Item, joined};
+use crate::builder::{Builder, Item, joined, push_segment};
 use schemaderive_known::{known_row, made_named};
 use std::alloc::{AllocError, Global};
 
@@ -15,31 +15,30 @@ pub enum Resolved {
 impl<'a> Builder<'a> {
     /// What a path in this module stands for.
     pub fn resolve(&self, module: &str, segments: &[String]) -> Result<Resolved, AllocError> {
-        let alloc = self.alloc();
-        if let Some(item) = self.own_item(module, segments)? {
+        if let Some(item) = self.own_item(module, segments, &[])? {
             return Ok(Resolved::Own(item));
         }
         let source = self.source;
+        let rest = behind_first(segments);
         for import in &source.uses.imports {
-            if !is_named(&import.name, segments) || !is_around(import.module.as_str(), module) {
-                continue;
+            if is_named(&import.name, segments) && is_around(import.module.as_str(), module) {
+                return match self.own_item(import.module.as_str(), &import.path, rest)? {
+                    Some(item) => Ok(Resolved::Own(item)),
+                    None => self.foreign(&import.path, rest),
+                };
             }
-            let path = replaced(alloc, &import.path, segments)?;
-            if let Some(item) = self.own_item(import.module.as_str(), &path)? {
-                return Ok(Resolved::Own(item));
-            }
-            return foreign(alloc, &path);
         }
         for glob in &source.uses.globs {
-            if !is_around(glob.module.as_str(), module) {
-                continue;
-            }
-            let path = appended(alloc, &glob.path, segments)?;
-            if let Some(item) = self.own_item(glob.module.as_str(), &path)? {
-                return Ok(Resolved::Own(item));
+            if is_around(glob.module.as_str(), module) {
+                if let Some(item) = self.own_item(glob.module.as_str(), &glob.path, segments)? {
+                    return Ok(Resolved::Own(item));
+                }
             }
         }
-        self.by_name(segments)
+        match self.item_by_name(segments)? {
+            Some(item) => Ok(Resolved::Own(item)),
+            None => self.foreign(segments, &[]),
+        }
     }
 
     /// The whole path of a name that is declared elsewhere; the name alone if no `use` has it.
@@ -50,48 +49,59 @@ impl<'a> Builder<'a> {
     pub fn path_elsewhere(&self, module: &str, segments: &[String]) -> Result<String, AllocError> {
         for import in &self.source.uses.imports {
             if is_named(&import.name, segments) && is_around(import.module.as_str(), module) {
-                let path = replaced(self.alloc(), &import.path, segments)?;
-                return self.whole_path(import.module.as_str(), &path);
+                let rest = behind_first(segments);
+                return self.whole_path(import.module.as_str(), &import.path, rest);
             }
         }
-        self.whole_path(module, segments)
+        self.whole_path(module, segments, &[])
     }
 
-    // A path as it is outside of this module of the source.
-    fn whole_path(&self, module: &str, segments: &[String]) -> Result<String, AllocError> {
-        let alloc = self.alloc();
-        let home = match &self.home {
-            Some(home) => home.as_str(),
-            None => "",
-        };
-        let around = joined(alloc, home, module)?;
-        let mut path = String::new(alloc);
-        for segment in segments {
-            path = match segment.as_str() {
-                "self" if path.is_empty() => String::from_str(alloc, around.as_str())?,
-                "super" if path.is_empty() => parent(alloc, around.as_str())?,
-                "super" => parent(alloc, path.as_str())?,
-                name => joined(alloc, path.as_str(), name)?,
-            };
+    // A path of these two parts as it is outside of this module of the source.
+    fn whole_path(
+        &self,
+        module: &str,
+        head: &[String],
+        tail: &[String],
+    ) -> Result<String, AllocError> {
+        let around = self.path_of_module(module)?;
+        let mut path = String::new(self.alloc());
+        for segment in head.iter().chain(tail) {
+            match segment.as_str() {
+                "self" if path.is_empty() => path.push_str(around.as_str())?,
+                "super" if path.is_empty() => path.push_str(parent(around.as_str()))?,
+                "super" => path = self.parent(path.as_str())?,
+                name => push_segment(&mut path, name)?,
+            }
         }
         Ok(path)
     }
 
-    // A type of another crate, or else the one type of this name.
-    fn by_name(&self, segments: &[String]) -> Result<Resolved, AllocError> {
-        let alloc = self.alloc();
-        let Resolved::Foreign(name, origin) = foreign(alloc, segments)? else {
-            return foreign(alloc, segments);
-        };
-        let is_known = made_named(name.as_str(), origin.as_str()).is_some()
-            || known_row(alloc, name.as_str(), origin.as_str(), false)?.is_some();
-        if is_known {
-            return Ok(Resolved::Foreign(name, origin));
+    /// The whole path of a module of the source.
+    pub fn path_of_module(&self, module: &str) -> Result<String, AllocError> {
+        match &self.home {
+            Some(home) => joined(self.alloc(), home.as_str(), module),
+            None => String::from_str(self.alloc(), module),
         }
-        match self.only_item(name.as_str()) {
-            Some(item) => Ok(Resolved::Own(item)),
-            None => Ok(Resolved::Foreign(name, origin)),
+    }
+
+    // The one declaration with the name that a path ends in, unless that is a type of another crate.
+    fn item_by_name(&self, segments: &[String]) -> Result<Option<Item>, AllocError> {
+        let (name, origin) = ends_of(segments, &[]);
+        if made_named(name, origin).is_some()
+            || known_row(self.alloc(), name, origin, false)?.is_some()
+        {
+            return Ok(None);
         }
+        Ok(self.only_item(name))
+    }
+
+    // The name that a path of these two parts ends in, and the crate that it begins with.
+    fn foreign(&self, head: &[String], tail: &[String]) -> Result<Resolved, AllocError> {
+        let (name, origin) = ends_of(head, tail);
+        Ok(Resolved::Foreign(
+            String::from_str(self.alloc(), name)?,
+            String::from_str(self.alloc(), origin)?,
+        ))
     }
 
     // The one declaration of this name, in any module.
@@ -116,13 +126,17 @@ impl<'a> Builder<'a> {
         None
     }
 
-    // What the source declares under a path in this module, or in one around it.
-    fn own_item(&self, module: &str, segments: &[String]) -> Result<Option<Item>, AllocError> {
-        let alloc = self.alloc();
-        let mut base = String::from_str(alloc, module)?;
-        let mut path = String::new(alloc);
+    // What the source declares under a path of these two parts in this module, or in one around it.
+    fn own_item(
+        &self,
+        module: &str,
+        head: &[String],
+        tail: &[String],
+    ) -> Result<Option<Item>, AllocError> {
+        let mut base = String::from_str(self.alloc(), module)?;
+        let mut path = String::new(self.alloc());
         let mut is_fixed = false;
-        for segment in segments {
+        for segment in head.iter().chain(tail) {
             match segment.as_str() {
                 "crate" if path.is_empty() => {
                     base.clear();
@@ -130,32 +144,45 @@ impl<'a> Builder<'a> {
                 }
                 "self" if path.is_empty() => is_fixed = true,
                 "super" if path.is_empty() => {
-                    base = parent(alloc, base.as_str())?;
+                    base = self.parent(base.as_str())?;
                     is_fixed = true;
                 }
-                name => path = joined(alloc, path.as_str(), name)?,
+                name => push_segment(&mut path, name)?,
             }
         }
+        self.item_under(base.as_str(), path.as_str(), is_fixed)
+    }
+
+    // What the source declares under a path in this module, or if that is not fixed in one around it.
+    fn item_under(
+        &self,
+        module: &str,
+        path: &str,
+        is_fixed: bool,
+    ) -> Result<Option<Item>, AllocError> {
+        let mut base = String::from_str(self.alloc(), module)?;
         for _ in 0..=module.len() {
-            let whole = joined(alloc, base.as_str(), path.as_str())?;
+            let whole = joined(self.alloc(), base.as_str(), path)?;
             if let Some(item) = self.items.get(whole.as_str()) {
                 return Ok(Some(*item));
             }
             if is_fixed || base.is_empty() {
                 break;
             }
-            base = parent(alloc, base.as_str())?;
+            base = self.parent(base.as_str())?;
         }
         Ok(None)
+    }
+
+    // The path of the module around a module.
+    fn parent(&self, module: &str) -> Result<String, AllocError> {
+        String::from_str(self.alloc(), parent(module))
     }
 }
 
 // The path of the module around a module.
-fn parent(alloc: Global, module: &str) -> Result<String, AllocError> {
-    match module.rsplit_once("::") {
-        Some((parent, _)) => String::from_str(alloc, parent),
-        None => Ok(String::new(alloc)),
-    }
+fn parent(module: &str) -> &str {
+    module.rsplit_once("::").unwrap_or(("", module)).0
 }
 
 fn is_named(name: &String, segments: &[String]) -> bool {
@@ -176,46 +203,22 @@ fn is_around(outer: &str, module: &str) -> bool {
     }
 }
 
-// The path with what its first segment stands for.
-fn replaced(
-    alloc: Global,
-    path: &[String],
-    segments: &[String],
-) -> Result<Vec<String>, AllocError> {
-    let mut whole = Vec::new(alloc);
-    for segment in path {
-        whole.push(String::from_str(alloc, segment.as_str())?)?;
-    }
-    for segment in segments.iter().skip(1) {
-        whole.push(String::from_str(alloc, segment.as_str())?)?;
-    }
-    Ok(whole)
+fn behind_first(segments: &[String]) -> &[String] {
+    segments.get(1..).unwrap_or(&[])
 }
 
-fn appended(
-    alloc: Global,
-    path: &[String],
-    segments: &[String],
-) -> Result<Vec<String>, AllocError> {
-    let mut whole = Vec::new(alloc);
-    for segment in path {
-        whole.push(String::from_str(alloc, segment.as_str())?)?;
+// The last segment of a path of these two parts, and the first if it is another.
+fn ends_of<'s>(head: &'s [String], tail: &'s [String]) -> (&'s str, &'s str) {
+    let last = segment_text(tail.last().or(head.last()));
+    if head.len().saturating_add(tail.len()) > 1 {
+        return (last, segment_text(head.first().or(tail.first())));
     }
-    for segment in segments {
-        whole.push(String::from_str(alloc, segment.as_str())?)?;
-    }
-    Ok(whole)
+    (last, "")
 }
 
-// The last segment of a path, and the first if it is another.
-fn foreign(alloc: Global, segments: &[String]) -> Result<Resolved, AllocError> {
-    let name = match segments.last() {
-        Some(last) => String::from_str(alloc, last.as_str())?,
-        None => String::new(alloc),
-    };
-    let origin = match segments.first() {
-        Some(first) if segments.len() > 1 => String::from_str(alloc, first.as_str())?,
-        _ => String::new(alloc),
-    };
-    Ok(Resolved::Foreign(name, origin))
+fn segment_text(segment: Option<&String>) -> &str {
+    match segment {
+        Some(segment) => segment.as_str(),
+        None => "",
+    }
 }

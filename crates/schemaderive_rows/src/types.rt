@@ -1,11 +1,11 @@
 //! The rows of types as they are written.
 use crate::builder::{Binding, Builder, Item, Scope, Value};
 use crate::instances::Standing;
-use crate::parameters::{one_field, used_parameters};
+use crate::parameters::{is_used_in, one_field};
 use crate::resolving::Resolved;
 use schemaderive_known::{Made, made_named, null_row};
 use schemaderive_options::derives;
-use schemaderive_syntax::{Fault, Parameter, Place, TypeExpr};
+use schemaderive_syntax::{Body, Fault, Parameter, Place, TypeExpr};
 
 impl<'a> Builder<'a> {
     /// The row of a type.
@@ -197,9 +197,17 @@ impl<'a> Builder<'a> {
         if depth == 0 {
             return Err(self.context.refused(place, "this nests too deeply"));
         }
-        let inner = Scope::new(self.alloc(), alias.module.as_str())?;
+        let mut inner = Scope::new(self.alloc(), alias.module.as_str())?;
         let parameters = &alias.parameters;
-        let inner = self.bound(inner, parameters, &[], arguments, scope, place, depth - 1)?;
+        self.bind(
+            &mut inner,
+            parameters,
+            None,
+            arguments,
+            scope,
+            place,
+            depth - 1,
+        )?;
         self.row_of(&alias.ty, &inner, place, depth - 1)
     }
 
@@ -226,10 +234,18 @@ impl<'a> Builder<'a> {
             return self.row_of_elsewhere(path.as_str(), &rows, place);
         }
         self.require_derive(declaration, place)?;
-        let used = used_parameters(self.alloc(), declaration)?;
-        let inner = Scope::new(self.alloc(), declaration.module.as_str())?;
+        let mut inner = Scope::new(self.alloc(), declaration.module.as_str())?;
         let parameters = &declaration.parameters;
-        let inner = self.bound(inner, parameters, &used, arguments, scope, place, depth - 1)?;
+        let body = Some(&declaration.body);
+        self.bind(
+            &mut inner,
+            parameters,
+            body,
+            arguments,
+            scope,
+            place,
+            depth - 1,
+        )?;
         match self.standing(declaration)? {
             Standing::Type(ty) => self.row_of(&ty, &inner, place, depth - 1),
             Standing::Field => match one_field(&declaration.body) {
@@ -240,24 +256,26 @@ impl<'a> Builder<'a> {
         }
     }
 
-    // A scope with what parameters stand for. In a table those that are marked as unused are left out.
+    // Adds what parameters stand for to a scope. In a table those that the body has not are left out.
     #[cycle(rows)]
-    fn bound(
+    fn bind(
         &mut self,
-        inner: Scope,
+        inner: &mut Scope,
         parameters: &[Parameter<'_>],
-        used: &[bool],
+        body: Option<&Body<'_>>,
         arguments: &[TypeExpr],
         scope: &Scope,
         place: Place,
         depth: usize,
-    ) -> Result<Scope, Fault> {
-        let mut inner = inner;
+    ) -> Result<(), Fault> {
         if depth == 0 {
             return Err(self.context.refused(place, "this nests too deeply"));
         }
         for (number, parameter) in parameters.iter().enumerate() {
-            let is_used = used.get(number) != Some(&false);
+            let is_used = match body {
+                Some(body) => is_used_in(parameter, body),
+                None => true,
+            };
             if !is_used && self.home.is_none() {
                 continue;
             }
@@ -268,7 +286,7 @@ impl<'a> Builder<'a> {
             binding.is_used = is_used;
             inner.bindings.push(binding)?;
         }
-        Ok(inner)
+        Ok(())
     }
 
     // What a parameter stands for.

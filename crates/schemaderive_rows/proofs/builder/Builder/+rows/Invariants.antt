@@ -28,5 +28,5 @@ decreases-row_of_tuple l = l.depth
 abbrev pub decreases-row_of_array : goal.decreases-row_of_array
 decreases-row_of_array l = l.depth
 
-abbrev pub decreases-bound : goal.decreases-bound
-decreases-bound l = l.depth
+abbrev pub decreases-bind : goal.decreases-bind
+decreases-bind l = l.depth
