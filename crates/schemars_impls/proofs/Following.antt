@@ -1,6 +1,6 @@
 -- Tables that follow a dictionary, as rows join and are defined.
-use Rattle.std.proofs.Common.{◌≡◌, ◌⊎◌, inl, inr, ◌<◌, ◌+◌, ℕ, zero, suc, List, [], ◌∷◌, ◌++◌, Bool, true, false, Option, IsSome, Some, None, cond, length, is_some, option_map, option_and_then, refl, ap, sym, ◌∙◌, subst, arith, if◌then◌else◌, ◌==◌}
-use Rattle.schemars_impls.proofs.Words.{position_from, bytes_eq, bytes_eq-Decides, Text, Entry, array, tuple, in_place, Row, place_of, entry_at, id_at, name_at, reserved, defined, place_of-below, reserved-absent, place_of-defined, Making, Always, OfOne, OfTwo, OfAll, OfArray, Unsaid, IsMade, places_of, Told, Stage, Defined, Pending, Open, Dictionary, staged, IsNamed, IsEntryOf, IsAtStage, IsAsTold, Follows, IsFree, IsLeft, Keeps}
+use Rattle.std.proofs.Common.{◌≡◌, ◌⊎◌, inl, inr, ◌<◌, ◌+◌, ℕ, zero, suc, List, [], ◌∷◌, ◌++◌, Bool, true, false, Option, IsSome, Some, None, cond, length, is_some, option_map, option_and_then, refl, ap, sym, ◌∙◌, subst, arith}
+use Rattle.schemars_impls.proofs.Words.{position_from, bytes_eq, bytes_eq-Decides, Text, Entry, Row, place_of, entry_at, id_at, name_at, reserved, defined, place_of-below, reserved-absent, place_of-defined, Making, Always, OfOne, OfTwo, OfAll, Unsaid, IsMade, places_of, Told, Stage, Defined, Pending, Open, Dictionary, staged, IsNamed, IsEntryOf, IsAtStage, IsAsTold, Follows, IsFree, IsLeft, Keeps}
 use Rattle.schemars_impls.proofs.Keeping.{keeps-refl, place_of-kept, reserved_keeps, all-joined}
 use Rattle.schemars_impls.proofs.Placing.{places_of-kept}
 
@@ -16,13 +16,6 @@ then-kept : {A B : Type 0} (f g : A → Option B) (o p : Option A) (b : B) → (
 then-kept f g None p b h k is = cc
 then-kept f g (Some a) p b h k is = rw (h a refl) (k a is)
 
-array-kept : (b : Bool) (id : Text) (len : ℕ) (old new : List Row) (e : Entry) → Keeps old new
-    → (if b then Some (in_place (tuple [])) else option_map (λ n. in_place (array n len)) (place_of id old)) ≡ Some e
-    → (if b then Some (in_place (tuple [])) else option_map (λ n. in_place (array n len)) (place_of id new)) ≡ Some e
-array-kept true id len old new e h is = is
-array-kept false id len old new e h is =
-    map-kept (λ n. in_place (array n len)) (place_of id old) (place_of id new) e (λ n there. place_of-kept id n h there) is
-
 pub made-kept : (m : Making) (old new : List Row) (e : Entry) → Keeps old new → IsMade m old e → IsMade m new e
 made-kept (Always given) old new e h is = is
 made-kept (OfOne id make) old new e h is =
@@ -33,7 +26,6 @@ made-kept (OfTwo first second make) old new e h is =
     (λ n made. map-kept (λ m. make n m) (place_of second old) (place_of second new) e (λ k there. place_of-kept second k h there) made) is
 made-kept (OfAll ids make) old new e h is =
     map-kept make (places_of ids old) (places_of ids new) e (λ ns there. places_of-kept ids ns old new h there) is
-made-kept (OfArray id len) old new e h is = array-kept (len == 0) id len old new e h is
 made-kept Unsaid old new e h is = tt
 
 entry-kept : (o : Option Told) (old new : List Row) (e : Option Entry) → Keeps old new → IsEntryOf o old e → IsEntryOf o new e

@@ -1,6 +1,6 @@
 -- Rows that a type of one's own is made of besides those of other types, in tables that follow a dictionary.
 use Rattle.std.proofs.Common.{◌≡◌, ◌⊎◌, ◌≤◌, inl, inr, ℕ, List, [], ◌∷◌, ◌++◌, Bool, true, false, Option, Some, None, IsSome, length, find, nat_le, is_some, option_map, option_and_then, refl, ap, sym, ◌∙◌, subst, arith, ◌==◌, if◌then◌else◌}
-use Rattle.schemars_impls.proofs.Words.{nat_tests, Text, Entry, in_place, option, seq, set, tuple, array, array_of, map_from, option_name, seq_name, set_name, array_id, array_name, map_id, map_name, Refuses, Registers, Row, place_of, id_at, name_at, reserved, defined, unknown_in, with_entry, place_of-below, nat_le-above, place_of-reserved, reserved-absent, place_of-defined, IsMade, Told, Dictionary, IsNamed, Follows, TypeRow, IsTold, IsLeft, IsIn, IsInPart, KeepsTo, RefusesAs, RefusesPart, of_one, of_two, option_row, seq_row, set_row, array_row, map_row, RefusesNumbers, IsNumber, HasMap, IsMapOf, with_row, HasRow, HasRowOf, HasOptionOf, HasSeqOf, HasSetOf, IsReserved, IsCalled, called, IsMadeOf, IsOptionOf, IsSeqOf, IsSetOf, IsArrayOf, Keeps, KeepsRows}
+use Rattle.schemars_impls.proofs.Words.{nat_tests, Text, Entry, in_place, option, seq, set, tuple, array, array_of, map_from, option_name, seq_name, set_name, array_id, array_name, map_id, map_name, Refuses, Registers, Row, place_of, id_at, name_at, reserved, defined, unknown_in, with_entry, place_of-below, nat_le-above, place_of-reserved, reserved-absent, place_of-defined, Always, OfOne, IsMade, Told, Dictionary, IsNamed, Follows, TypeRow, IsTold, IsLeft, IsIn, IsInPart, KeepsTo, RefusesAs, RefusesPart, of_one, of_two, option_row, seq_row, set_row, array_row, map_row, RefusesNumbers, IsNumber, HasMap, IsMapOf, with_row, HasRow, HasRowOf, HasOptionOf, HasSeqOf, HasSetOf, IsReserved, IsCalled, called, IsMadeOf, IsOptionOf, IsSeqOf, IsSetOf, IsArrayOf, Keeps, KeepsRows}
 use Rattle.schemars_types.specs.declared.error.TypesError.{TypesError}
 use Rattle.schemars_types.specs.declared.error.TypesError.TheVariants.{OutOfMemory, UnknownType}
 use Rattle.schemars_types.specs.declared.error.TypesError.TheVariants as fault
@@ -191,11 +191,11 @@ set_follows id name {old = old} {new = new} {m = m} has =
     let made = λ (rows : List Row) (n : ℕ) (there : place_of id rows ≡ Some n). ap (option_map make) there in
     record { each = λ d h f. made-each t id name set_name make refl made (λ n. refl) old new m has d h f }
 
-array-made : (b : Bool) (len : ℕ) (o : Option ℕ) (n : ℕ) → o ≡ Some n
-    → (if b then Some (in_place (tuple [])) else option_map (λ k. in_place (array k len)) o)
-    ≡ Some (in_place (if b then tuple [] else array n len))
-array-made true len o n there = refl
-array-made false len o n there = ap (option_map (λ k. in_place (array k len))) there
+array-made : (b : Bool) (id : Text) (len : ℕ) (rows : List Row) (n : ℕ) → place_of id rows ≡ Some n
+    → IsMade (if b then Always (in_place (tuple [])) else OfOne id (λ k. in_place (array k len))) rows
+    (in_place (if b then tuple [] else array n len))
+array-made true id len rows n there = refl
+array-made false id len rows n there = ap (option_map (λ k. in_place (array k len))) there
 
 pub array_follows : (len : ℕ) (id name : Text) {old new : List Row} {m : ℕ}
     → HasRowOf id name (array_id id len) (λ x. array_name x len) (λ k. in_place (array_of k len)) old new m
@@ -204,7 +204,7 @@ unfolding IsArrayOf array_row
 array_follows len id name {old = old} {new = new} {m = m} has =
     let t = array_row (called id name) len in
     let make = λ (k : ℕ). in_place (array_of k len) in
-    let made = λ (rows : List Row) (n : ℕ) (there : place_of id rows ≡ Some n). array-made (len == 0) len (place_of id rows) n there in
+    let made = λ (rows : List Row) (n : ℕ) (there : place_of id rows ≡ Some n). array-made (len == 0) id len rows n there in
     record { each = λ d h f. made-each t id name (λ x. array_name x len) make refl made (λ n. refl) old new m has d h f }
 
 -- Maps, whose keys were registered first. The name of the keys' row is told of it where that of the maps' row is.

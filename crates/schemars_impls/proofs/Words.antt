@@ -1,6 +1,6 @@
 -- Words that many proofs of this crate name.
 unfoldable pub use Rattle.schemars_impls.specs.Containers.{array_row, map_row, option_row, seq_row, set_row}
-pub use Rattle.schemars_impls.specs.Describes.{Adds, Always, IsDescribed, IsMade, Making, OfAll, OfArray, OfOne, OfTwo, Unsaid, entry_under, places_of}
+pub use Rattle.schemars_impls.specs.Describes.{Adds, Always, IsDescribed, IsMade, Making, OfAll, OfOne, OfTwo, Unsaid, entry_under, places_of}
 pub use Rattle.schemars_impls.specs.Dictionary.{Completes, Defined, Describes, Dictionary, Follows, IsAsTold, IsAtStage, IsEntryOf, IsFree, IsInPart, IsLeft, IsNamed, IsTold, IsTypeIn, KeepsTo, Open, Pending, RefusesAs, RefusesPart, RefusesType, Stage, Told, TypeRow, staged}
 unfoldable pub use Rattle.schemars_impls.specs.Dictionary.{IsIn, of_one, of_two}
 pub use Rattle.schemars_impls.specs.Fields.{FieldsAreKnown, NumbersAreKnown, PartsAreKnown, VariantsAreKnown, bare_variant, fields_with, part, plain_field}

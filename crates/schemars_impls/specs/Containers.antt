@@ -1,9 +1,9 @@
 -- What types say that are made of others, each as one term.
-use Rattle.std.specs.Prelude.{ℕ, ◌==◌, Bool, true, false, List, [], ◌∷◌}
+use Rattle.std.specs.Prelude.{ℕ, ◌==◌, Bool, true, false, List, [], ◌∷◌, if◌then◌else◌}
 use Rattle.schemars_schema.specs.Json.{Text}
-use Rattle.schemars_shapes.specs.Shape.{in_place, option, seq, set, tuple, map_from}
+use Rattle.schemars_shapes.specs.Shape.{in_place, option, seq, set, array, tuple, map_from}
 use Rattle.schemars_types.specs.Names.{option_id, option_name, seq_id, seq_name, set_id, set_name, array_id, array_name, tuple_id, tuple_name, map_id, map_name}
-use Rattle.schemars_impls.specs.Describes.{OfAll, OfArray}
+use Rattle.schemars_impls.specs.Describes.{Making, Always, OfOne, OfAll}
 use Rattle.schemars_impls.specs.Dictionary.{Dictionary, TypeRow, IsIn, of_one, of_two}
 
 unfoldable pub option_row : TypeRow → TypeRow
@@ -24,12 +24,16 @@ abbrev pub HasItems : Bool → TypeRow → Dictionary → Type 0
 HasItems true t d = Unit {0}
 HasItems false t d = IsIn t d
 
+-- lists of `len` items with this id; those of no items are one type, whatever the items are
+abbrev pub array_making : Text → ℕ → Making
+array_making id len = if len == 0 then Always (in_place (tuple [])) else OfOne id (λ n. in_place (array n len))
+
 unfoldable pub array_row : TypeRow → ℕ → TypeRow
 array_row t len = record {
   id = array_id t.id len;
   name = array_name t.name len;
   inline = true;
-  making = OfArray t.id len;
+  making = array_making t.id len;
   parts = λ d. HasItems (len == 0) t d;
 }
 
