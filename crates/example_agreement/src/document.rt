@@ -10,8 +10,7 @@ ghost use Rattle.schemars_written.specs.Writes.{Belongs};
 ghost use Rattle.schemars_accepted.specs.Rooted.{AcceptsWritten};
 
 use crate::page::Page;
-use schemars_accepted::{RootError, to_accepted_document};
-use schemars_described::{DescribedError, to_described_value};
+use schemars_accepted::{DescribedError, RootError, to_accepted_document, to_described_value};
 use schemars_generate::SchemaSettings;
 use schemars_schema::Schema;
 use schemars_types::{TypeNo, Types};

@@ -5,17 +5,17 @@ ghost use Rattle.std.specs.Prelude.{codes, false, refl, ◌++◌, ◌∷◌};
 ghost use Rattle.std.proofs.Common.{inl, inr};
 ghost use Rattle.schemars_shapes.specs.Shape.{by_name};
 ghost use Rattle.schemars_impls.specs.Containers.{and_parts, no_parts};
-ghost use Rattle.schemars_described.specs.Told.{tell, TellsWith};
-ghost use Rattle.schemars_described.specs.Laws.{tells_in, option_in, option_at};
-ghost use Rattle.schemars_described.specs.Numbered.{variants_row, and_unit, and_newtype, and_tuple, and_struct, no_variant, and_field, no_field, required};
-ghost use Rattle.schemars_described.specs.contracts.impls.primitives.StringAgreesAsDescribed.TheImpl.Laws as string;
-ghost use Rattle.schemars_described.specs.contracts.impls.primitives.U8AgreesAsDescribed.TheImpl.Laws as u8_impl;
-ghost use Rattle.schemars_described.specs.contracts.impls.primitives.I8AgreesAsDescribed.TheImpl.Laws as i8_impl;
-ghost use Rattle.schemars_described.specs.OwnLaws.{variants_row_at};
+ghost use Rattle.schemars_accepted.specs.Told.{tell, TellsWith};
+ghost use Rattle.schemars_accepted.specs.Laws.{tells_in, option_in, option_at};
+ghost use Rattle.schemars_accepted.specs.Numbered.{variants_row, and_unit, and_newtype, and_tuple, and_struct, no_variant, and_field, no_field, required};
+ghost use Rattle.schemars_accepted.specs.contracts.impls.primitives.StringAgreesAsDescribed.TheImpl.Laws as string;
+ghost use Rattle.schemars_accepted.specs.contracts.impls.primitives.U8AgreesAsDescribed.TheImpl.Laws as u8_impl;
+ghost use Rattle.schemars_accepted.specs.contracts.impls.primitives.I8AgreesAsDescribed.TheImpl.Laws as i8_impl;
+ghost use Rattle.schemars_accepted.specs.OwnLaws.{variants_row_at};
 
 use crate::event::Event;
 use schemars_agreement::Agrees;
-use schemars_described::AgreesAsDescribed;
+use schemars_accepted::AgreesAsDescribed;
 use schemars_impls::{
     JsonSchema, REQUIRED, add_field, add_newtype, add_one, add_struct, add_tuple, add_unit,
     external_entry,

@@ -6,8 +6,7 @@ ghost use Rattle.serde_json.specs.View.{view};
 ghost use Rattle.schemars_written.specs.Writes.{Belongs};
 ghost use Rattle.schemars_accepted.specs.Accepted.{IsAccepted};
 
-use schemars_accepted::to_accepted_value;
-use schemars_described::{DescribedError, to_described_value};
+use schemars_accepted::{DescribedError, to_accepted_value, to_described_value};
 use schemars_types::{TypeNo, Types};
 use serde_json::Value;
 use std::alloc::Global;

@@ -3,15 +3,15 @@
 #![tactic(auto, using(schemars_impls::proofs::OwnTypes::own_types))]
 
 ghost use Rattle.std.specs.Prelude.{codes, false, refl, ◌++◌, ◌∷◌};
-ghost use Rattle.schemars_described.specs.Told.{tell, TellsWith};
-ghost use Rattle.schemars_described.specs.Laws.{tells_in, option_in, option_at};
-ghost use Rattle.schemars_described.specs.Numbered.{fields_row, and_field, no_field, required, optional};
-ghost use Rattle.schemars_described.specs.OwnLaws.{fields_row_at};
-ghost use Rattle.schemars_described.specs.contracts.impls.primitives.StringAgreesAsDescribed.TheImpl.Laws as string;
+ghost use Rattle.schemars_accepted.specs.Told.{tell, TellsWith};
+ghost use Rattle.schemars_accepted.specs.Laws.{tells_in, option_in, option_at};
+ghost use Rattle.schemars_accepted.specs.Numbered.{fields_row, and_field, no_field, required, optional};
+ghost use Rattle.schemars_accepted.specs.OwnLaws.{fields_row_at};
+ghost use Rattle.schemars_accepted.specs.contracts.impls.primitives.StringAgreesAsDescribed.TheImpl.Laws as string;
 
 use crate::page::Page;
 use schemars_agreement::Agrees;
-use schemars_described::AgreesAsDescribed;
+use schemars_accepted::AgreesAsDescribed;
 use schemars_impls::{JsonSchema, OPTIONAL, REQUIRED, add_field, struct_entry};
 use schemars_types::{TypeEntry, Types, TypesError};
 use std::alloc::{AllocError, Global};

@@ -2,19 +2,19 @@
 #![tactic(auto, using(schemars_impls::proofs::OwnTypes::own_types))]
 
 ghost use Rattle.std.specs.Prelude.{codes, true, refl, ◌++◌, ◌∷◌};
-ghost use Rattle.schemars_described.specs.Told.{tell, TellsWith};
-ghost use Rattle.schemars_described.specs.Laws.{tells_in, option_in, option_at, seq_in, seq_at, tuple_in, pair_at};
-ghost use Rattle.schemars_described.specs.Numbered.{fields_row, and_field, no_field, required};
-ghost use Rattle.schemars_described.specs.OwnLaws.{fields_row_at};
-ghost use Rattle.schemars_described.specs.contracts.impls.primitives.StringAgreesAsDescribed.TheImpl.Laws as string;
-ghost use Rattle.schemars_described.specs.contracts.impls.primitives.BoolAgreesAsDescribed.TheImpl.Laws as bool_impl;
-ghost use Rattle.schemars_described.specs.contracts.impls.primitives.U8AgreesAsDescribed.TheImpl.Laws as u8_impl;
-ghost use Rattle.schemars_described.specs.contracts.impls.primitives.U32AgreesAsDescribed.TheImpl.Laws as u32_impl;
-ghost use Rattle.schemars_described.specs.contracts.impls.primitives.I16AgreesAsDescribed.TheImpl.Laws as i16_impl;
+ghost use Rattle.schemars_accepted.specs.Told.{tell, TellsWith};
+ghost use Rattle.schemars_accepted.specs.Laws.{tells_in, option_in, option_at, seq_in, seq_at, tuple_in, pair_at};
+ghost use Rattle.schemars_accepted.specs.Numbered.{fields_row, and_field, no_field, required};
+ghost use Rattle.schemars_accepted.specs.OwnLaws.{fields_row_at};
+ghost use Rattle.schemars_accepted.specs.contracts.impls.primitives.StringAgreesAsDescribed.TheImpl.Laws as string;
+ghost use Rattle.schemars_accepted.specs.contracts.impls.primitives.BoolAgreesAsDescribed.TheImpl.Laws as bool_impl;
+ghost use Rattle.schemars_accepted.specs.contracts.impls.primitives.U8AgreesAsDescribed.TheImpl.Laws as u8_impl;
+ghost use Rattle.schemars_accepted.specs.contracts.impls.primitives.U32AgreesAsDescribed.TheImpl.Laws as u32_impl;
+ghost use Rattle.schemars_accepted.specs.contracts.impls.primitives.I16AgreesAsDescribed.TheImpl.Laws as i16_impl;
 
 use crate::sensor::Sensor;
 use schemars_agreement::Agrees;
-use schemars_described::AgreesAsDescribed;
+use schemars_accepted::AgreesAsDescribed;
 use schemars_impls::{JsonSchema, REQUIRED, add_field, struct_entry};
 use schemars_types::{TypeEntry, Types, TypesError};
 use std::alloc::{AllocError, Global};

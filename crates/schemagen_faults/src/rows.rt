@@ -24,7 +24,7 @@ const LARGER_SHAPES: [&str; 21] = [
 
 /// Stops at the first place at which a value is not a table.
 pub fn check_table(alloc: Global, value: &BorrowedValue<'_>) -> Result<(), Stop> {
-    check_names(alloc, value, &["types", "root"])?;
+    check_names(alloc, value, &["types", "root", "$schema"])?;
     check_count(alloc, value, "root")?;
     match value.get("types") {
         None => missing(alloc, "types"),

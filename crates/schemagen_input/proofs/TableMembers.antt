@@ -1,13 +1,10 @@
 -- What the members of an object say, one after another, is the table that it says.
 use Rattle.std.proofs.Common.{◌≡◌, ℕ, List, [], ◌∷◌, Bool, true, false, ◌&&◌, Option, Some, None, option_and_then, cond, codes, refl, ap, ◌∙◌, sym, subst}
-use Rattle.schemagen_input.proofs.Words.{bytes_eq, Data, Items, Members, no_items, item, object, put, as_array, get, items_of, get_member-put, get_member-put_other, Text, is_listed, Row, has_only, are_listed, are_listed-put, number_in, needed_member, rows_in, is_complete, table_in, AreBegun, AreMembersOf, IsNoTable, IsListIn}
+use Rattle.schemagen_input.proofs.Words.{bytes_eq, Data, Items, Members, no_items, item, object, put, as_array, get, items_of, get_member-put, get_member-put_other, Text, is_listed, Row, has_only, are_listed, are_listed-put, number_in, needed_member, rows_in, is_complete, table_names, table_in, AreBegun, AreMembersOf, IsNoTable, IsListIn}
 use Rattle.schemagen_input.specs.declared.listing.Listing.{Listing}
 use Rattle.schemagen_input.specs.declared.table_members.TableMembers.{TableMembers}
 use Rattle.schemagen_input.proofs.OneMember.{other_name}
 use Rattle.schemagen_input.proofs.RowByRow.{ends_so}
-
-abbrev table_names : List Text
-table_names = codes "types" ∷ codes "root" ∷ []
 
 same_some : {A : Type 0} (x y : A) → Some x ≡ Some y → x ≡ y
 same_some x y e = cc
@@ -116,10 +113,20 @@ adds_root d old root said ms found = record {
   root = said ∙ sym (ap (option_and_then number_in) (get_member-put (codes "root") d ms));
 }
 
+-- a member that is known and says nothing
+pub adds_schema : (d : Data) (old : TableMembers) → AddsMember (codes "$schema") d old old
+adds_schema d old ms found = record {
+  only = found.only ∙ sym (are_listed-put table_names (codes "$schema") d ms);
+  listing = subst (IsListIn old.listing)
+      (sym (get_member-put_other (codes "types") (codes "$schema") d ms (other_name (codes "$schema") (codes "types") refl))) found.listing;
+  root = found.root ∙ ap (option_and_then number_in)
+      (sym (get_member-put_other (codes "root") (codes "$schema") d ms (other_name (codes "$schema") (codes "root") refl)));
+}
+
 pub adds_other : (k : Text) (d : Data) (old : TableMembers) → bytes_eq k (codes "types") ≡ false → bytes_eq k (codes "root") ≡ false
-    → AddsMember k d old (record old { only = false })
-adds_other k d old types root ms found =
-    let none : is_listed k table_names ≡ false = rw (types, root) refl in
+    → bytes_eq k (codes "$schema") ≡ false → AddsMember k d old (record old { only = false })
+adds_other k d old types root schema ms found =
+    let none : is_listed k table_names ≡ false = rw (types, root, schema) refl in
     record {
       only = sym (are_listed-put table_names k d ms ∙ ap (λ b. b && are_listed table_names ms) none);
       listing = subst (IsListIn old.listing) (sym (get_member-put_other (codes "types") k d ms (other_name k (codes "types") types))) found.listing;

@@ -6,7 +6,7 @@ pub use Rattle.json.specs.Lex.{tokens}
 pub use Rattle.json.specs.Reads.{token_of}
 pub use Rattle.json.specs.Token.{Token}
 pub use Rattle.schemagen_input.specs.Gathered.{AreOfEnum, AreOfField, AreOfRow, AreOfStruct, AreOfTagged, AreOfVariant, AreSeveral, can_be_lone}
-pub use Rattle.schemagen_input.specs.Input.{all_fit, heading_in, ids_differ, ids_of, input_of, is_complete, is_table, refers_within, row_in, row_names, rows_in, table_in, unentered}
+pub use Rattle.schemagen_input.specs.Input.{all_fit, heading_in, ids_differ, ids_of, input_of, is_complete, is_table, refers_within, row_in, row_names, rows_in, table_in, table_names, unentered}
 pub use Rattle.schemagen_input.specs.Listing.{AreBegun, AreListed, AreMembersOf, BeginsNoTable, IsListIn, IsNoTable, IsRowIn, IsTableOf, headings_in}
 pub use Rattle.schemagen_input.specs.SampleInput.{AreAsRead, AreMembersAsRead, IsAsRead, items_input, members_input, sample_input}
 pub use Rattle.schemagen_input.specs.Tokens.{listed, with_last}

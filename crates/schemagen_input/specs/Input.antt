@@ -56,10 +56,14 @@ all_fit count rows = list_all (λ r. option_map_or (refers_within count) r.entry
 abbrev pub is_complete : List Row → Bool
 is_complete rows = ids_differ (ids_of rows) && all_fit (length rows) rows
 
+-- the names of a table's members; `$schema`, by which an editor finds what a table has to be, says nothing of it
+abbrev pub table_names : List Text
+table_names = codes "types" ∷ codes "root" ∷ codes "$schema" ∷ []
+
 -- the rows that a value says, and the number that it says for the root
 abbrev pub table_in : Data → Option (List Row × ℕ)
 table_in d =
-    if has_only (codes "types" ∷ codes "root" ∷ []) d
+    if has_only table_names d
     then option_and_then (λ rows. option_and_then (λ root. if is_complete rows then Some (rows, root) else None)
     (needed_member number_in (codes "root") d)) (needed_member (λ e. option_and_then rows_in (as_array e)) (codes "types") d)
     else None

@@ -7,7 +7,7 @@ use Rattle.schemagen_json.specs.Members.{has_only}
 use Rattle.schemars_shapes.specs.Shape.{Entry, entry_of}
 use Rattle.schemars_types.specs.Rows.{Row}
 use Rattle.schemagen_shapes.specs.Forms.{needed_member, read_each, number_in}
-use Rattle.schemagen_input.specs.Input.{heading_in, row_in, rows_in, unentered, ids_differ, ids_of, is_complete}
+use Rattle.schemagen_input.specs.Input.{heading_in, row_in, rows_in, unentered, ids_differ, ids_of, is_complete, table_names}
 use Rattle.schemagen_shapes.specs.Shapes.{entry_in}
 use Rattle.schemagen_input.specs.declared.listing.Listing.{Listing}
 use Rattle.schemagen_input.specs.declared.listing.NewRow.{NewRow}
@@ -57,6 +57,6 @@ IsListIn None o = (ds : List Data) → option_and_then as_array o ≡ Some (item
 
 -- These are the members of a value: whether there are others, the rows, and the root.
 pub record AreMembersOf (f : TableMembers) (d : Data) : Type 0 where
-  pub only : f.only ≡ has_only (codes "types" ∷ codes "root" ∷ []) d
+  pub only : f.only ≡ has_only table_names d
   pub listing : IsListIn f.listing (get (codes "types") d)
   pub root : f.root ≡ needed_member number_in (codes "root") d

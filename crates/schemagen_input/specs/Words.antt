@@ -1,7 +1,7 @@
 -- Words that many contracts of this crate name.
 pub use Rattle.json.specs.Json.{items, members, value}
 pub use Rattle.schemagen_input.specs.Gathered.{AreOfEnum, AreOfField, AreOfRow, AreOfStruct, AreOfTagged, AreOfVariant, can_be_lone}
-pub use Rattle.schemagen_input.specs.Input.{heading_in, input_of, is_complete, is_table, table_in, unentered}
+pub use Rattle.schemagen_input.specs.Input.{heading_in, input_of, is_complete, is_table, table_in, table_names, unentered}
 pub use Rattle.schemagen_input.specs.Listing.{AreBegun, AreListed, AreMembersOf, BeginsNoTable, IsListIn, IsListing, IsNoTable, IsRowIn, IsTableOf}
 pub use Rattle.schemagen_input.specs.SampleInput.{IsAsRead, items_input, members_input, number_input, sample_input}
 pub use Rattle.schemagen_input.specs.Texts.{IsBadTable, IsNoJson, IsTableText}

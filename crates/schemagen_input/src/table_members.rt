@@ -42,6 +42,7 @@ impl<'a> ObjectMembers<'a> for TableMembers {
         match name {
             "types" => self.listing = read_rows(alloc, reader, depth)?,
             "root" => self.root = read_number(alloc, reader, depth)?,
+            "$schema" => drop(read_value(alloc, reader, depth)?),
             _ => {
                 drop(read_value(alloc, reader, depth)?);
                 self.only = false;
@@ -61,7 +62,7 @@ impl TableMembers {
             None => None,
         };
         Ok(TableMembers {
-            only: value.has_only(&["types", "root"]),
+            only: value.has_only(&["types", "root", "$schema"]),
             listing,
             root: number_of(value, "root"),
         })

@@ -15,8 +15,8 @@ pub use Rattle.schemars_accepted.specs.Taken.{AreForOpenApi, AreTaken, Definitio
 pub use Rattle.schemars_build.specs.Naming.{IsOneToOne, name_of}
 pub use Rattle.schemars_build.specs.Placed.{is_in_place}
 pub use Rattle.schemars_build.specs.Registry.{IsKey, reference_to}
-pub use Rattle.schemars_described.specs.Laws.{follows_told, told_in_empty}
-pub use Rattle.schemars_described.specs.Told.{AreAsTold, IsToldIn}
+pub use Rattle.schemars_accepted.specs.Laws.{follows_told, told_in_empty}
+pub use Rattle.schemars_accepted.specs.Told.{AreAsTold, IsToldIn}
 pub use Rattle.schemars_documents.specs.PlainTable.{IsPlainTable}
 pub use Rattle.schemars_generate.specs.Answers.{KeepsDefinitions}
 pub use Rattle.schemars_generate.specs.ByType.{IsJoined, IsRootOfType, IsRootOfTypeRefusal, IsSubschemaOfType, with_rows}

@@ -3,8 +3,8 @@ ghost use Rattle.std.specs.Prelude.{◌≡◌, [], false, IfOk, IfErr};
 ghost use Rattle.schemars_accepted.specs.Words.{view, members_view, Text, Generator, generator_over, held_transforms, settings_of, state, IsAmong, IsWritten, IsToldIn, telling, RefusesRoot, AreForOpenApi, AreTaken, IsForOpenApi, IsLeft, IsTakenRefusal, ReferenceAccepts, TakenAccepts};
 
 use crate::error::RootError;
+use crate::law::AgreesAsDescribed;
 use schemars_agreement::WriteError;
-use schemars_described::AgreesAsDescribed;
 use schemars_generate::{SchemaGenerator, SchemaSettings};
 use schemars_plain::is_plain;
 use schemars_schema::Schema;

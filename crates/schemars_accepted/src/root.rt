@@ -3,8 +3,8 @@ ghost use Rattle.std.specs.Prelude.{◌≡◌, [], IfOk, IfErr};
 ghost use Rattle.schemars_accepted.specs.Words.{view, Draft, path_of, stripped, IsJoined, IsRootOfTypeRefusal, Generator, generator_over, held_transforms, settings_of, state, IsAmong, IsWritten, IsToldIn, telling, AcceptsWritten, AreForWriting, HasRoot, IsForWriting, IsLeftWithRoot, RefusesRoot};
 
 use crate::error::RootError;
+use crate::law::AgreesAsDescribed;
 use schemars_agreement::WriteError;
-use schemars_described::AgreesAsDescribed;
 use schemars_generate::{SchemaGenerator, SchemaSettings};
 use schemars_plain::is_plain;
 use schemars_schema::Schema;

@@ -5,11 +5,10 @@ ghost use Rattle.schemars_headline.specs.Drafts.{Draft};
 ghost use Rattle.schemars_headline.specs.State.{path_of};
 ghost use Rattle.schemars_generate.specs.Generator.{state};
 ghost use Rattle.schemars_written.specs.Readings.{IsAmong};
-ghost use Rattle.schemars_described.specs.Told.{IsToldIn};
+ghost use Rattle.schemars_accepted.specs.Told.{IsToldIn};
 ghost use Rattle.schemars_accepted.specs.Rooted.{AcceptsWritten, IsForWriting};
 
-use schemars_accepted::{RootError, to_accepted_root};
-use schemars_described::AgreesAsDescribed;
+use schemars_accepted::{AgreesAsDescribed, RootError, to_accepted_root};
 use schemars_generate::SchemaGenerator;
 use schemars_schema::Schema;
 use schemars_walk::Transform;

@@ -1,5 +1,5 @@
 use Rattle.schemars_impls.proofs.Placing.{adds_then}
-use Rattle.schemars_described.proofs.Made.{enum_made, unit_then, newtype_then, tuple_then, members_then, variants_none, field_then, fields_none}
+use Rattle.schemars_accepted.proofs.Made.{enum_made, unit_then, newtype_then, tuple_then, members_then, variants_none, field_then, fields_none}
 use Rattle.example_agreement.proofs.event_schema.EventJsonSchema.json_schema.Goals as goal
 
 pub returns-clause-made : goal.returns-clause-made

@@ -1,4 +1,4 @@
-use Rattle.schemars_described.proofs.Made.{struct_made, field_then, fields_none}
+use Rattle.schemars_accepted.proofs.Made.{struct_made, field_then, fields_none}
 use Rattle.example_agreement.proofs.sensor_schema.SensorJsonSchema.json_schema.Goals as goal
 
 pub returns-clause-made : goal.returns-clause-made

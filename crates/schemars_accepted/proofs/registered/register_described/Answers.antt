@@ -1,5 +1,5 @@
-use Rattle.schemars_described.specs.Laws.{follows_told}
-use Rattle.schemars_described.proofs.registered.register_described.Goals as goal
+use Rattle.schemars_accepted.specs.Laws.{follows_told}
+use Rattle.schemars_accepted.proofs.registered.register_described.Goals as goal
 
 pub returns-clause-row : goal.returns-clause-row
 returns-clause-row g c =

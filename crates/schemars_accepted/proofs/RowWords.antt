@@ -1,7 +1,7 @@
--- Words that many proofs of this crate name.
-pub use Rattle.schemars_described.specs.Numbered.{AreNumbers, FieldTold, Members, Nothing, OneValue, PayloadTold, Values, VariantTold, field_ids, fields_by, number_in, of_ids, payload_by, payload_ids, variant_ids, variants_by}
-unfoldable pub use Rattle.schemars_described.specs.Numbered.{fields_made, variants_made}
-pub use Rattle.schemars_described.specs.OwnLaws.{are_numbers}
+-- Words of the proofs about rows that types describe.
+pub use Rattle.schemars_accepted.specs.Numbered.{AreNumbers, FieldTold, Members, Nothing, OneValue, PayloadTold, Values, VariantTold, field_ids, fields_by, number_in, of_ids, payload_by, payload_ids, variant_ids, variants_by}
+unfoldable pub use Rattle.schemars_accepted.specs.Numbered.{fields_made, variants_made}
+pub use Rattle.schemars_accepted.specs.OwnLaws.{are_numbers}
 pub use Rattle.schemars_impls.proofs.Keeping.{keeps-refl, keeps-trans, place_of-kept}
 pub use Rattle.schemars_impls.specs.Describes.{Adds, IsMade, places_of}
 pub use Rattle.schemars_impls.specs.Fields.{bare_variant, plain_field}

@@ -1,6 +1,6 @@
 //! What is written for a value, and the row of its type, to which it belongs.
 ghost use Rattle.std.specs.Prelude.{◌≡◌, ◌<◌, length, Some, IfErr, IfOk};
-ghost use Rattle.schemars_described.specs.Words.{view, IsChecked, place_of, IsAmong, BelongsUnder, IsWritten, telling, RefusesValue};
+ghost use Rattle.schemars_accepted.specs.Words.{view, IsChecked, place_of, IsAmong, BelongsUnder, IsWritten, telling, RefusesValue};
 
 use crate::error::DescribedError;
 use crate::law::AgreesAsDescribed;

@@ -1,7 +1,7 @@
 //! Types without parts.
 ghost use Rattle.std.specs.Prelude.{[], ◌∷◌};
-ghost use Rattle.schemars_described.specs.Told.{Tells, tell};
-ghost use Rattle.schemars_described.specs.Laws.{alone_in, alone_row};
+ghost use Rattle.schemars_accepted.specs.Told.{Tells, tell};
+ghost use Rattle.schemars_accepted.specs.Laws.{alone_in, alone_row};
 
 use crate::law::AgreesAsDescribed;
 use schemars_impls::JsonSchema;

@@ -1,11 +1,11 @@
 -- How the entries of structs and enums are made, as their parts are added one after another: a term of one word for each call, in the
 -- order of the calls, whose arguments are the calls' clauses.
 use Rattle.std.proofs.Common.{◌≡◌, ℕ, List, [], ◌∷◌, ◌++◌, Bool, false, Option, Some, None, map, option_map, option_and_then, refl, sym, ap, ◌∙◌, append_assoc, append-nil}
-use Rattle.schemars_described.proofs.Words.{Text, Field, Payload, no_payload, newtype_payload, tuple_payload, struct_payload, Variant, Tagging, struct, enum, Entry, without_notes, bare_fields, field_of, variant_of, internal_variant_of, Row, place_of, places_of, IsMade, Adds, plain_field, bare_variant, Keeps, keeps-refl, keeps-trans, place_of-kept, AreNumbers, FieldTold, field_ids, fields_by, fields_made, PayloadTold, Nothing, OneValue, Values, Members, VariantTold, payload_ids, payload_by, variant_ids, variants_by, variants_made}
+use Rattle.schemars_accepted.proofs.RowWords.{Text, Field, Payload, no_payload, newtype_payload, tuple_payload, struct_payload, Variant, Tagging, struct, enum, Entry, without_notes, bare_fields, field_of, variant_of, internal_variant_of, Row, place_of, places_of, IsMade, Adds, plain_field, bare_variant, Keeps, keeps-refl, keeps-trans, place_of-kept, AreNumbers, FieldTold, field_ids, fields_by, fields_made, PayloadTold, Nothing, OneValue, Values, Members, VariantTold, payload_ids, payload_by, variant_ids, variants_by, variants_made}
 use Rattle.schemars_shapes.specs.declared.shape.Field as src-field
 use Rattle.schemars_shapes.specs.declared.variant.Variant as src-variant
 use Rattle.schemars_shapes.specs.declared.variant.InternalVariant as src-internal
-use Rattle.schemars_described.proofs.Places.{is_made_of_ids, ArePlaced, ids_kept, both_placed, first_numbers, other_numbers, number_is, back}
+use Rattle.schemars_accepted.proofs.Places.{is_made_of_ids, ArePlaced, ids_kept, both_placed, first_numbers, other_numbers, number_is, back}
 
 -- ---- fields
 

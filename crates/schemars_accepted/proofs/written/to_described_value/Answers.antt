@@ -1,5 +1,5 @@
-use Rattle.schemars_described.specs.Laws.{told_in_empty}
-use Rattle.schemars_described.proofs.written.to_described_value.Goals as goal
+use Rattle.schemars_accepted.specs.Laws.{told_in_empty}
+use Rattle.schemars_accepted.proofs.written.to_described_value.Goals as goal
 
 pub register_described-requires : goal.register_described-requires
 register_described-requires g c =

@@ -1,6 +1,6 @@
 //! What holds values of one type.
 ghost use Rattle.std.specs.Prelude.{◌==◌, if◌then◌else◌, [], ◌∷◌};
-ghost use Rattle.schemars_described.specs.Words.{option_row, seq_row, set_row, array_row, tell, TellsWith, OfItems, option_in, option_at, seq_in, seq_at, set_in, set_at, array_in, array_at};
+ghost use Rattle.schemars_accepted.specs.Words.{option_row, seq_row, set_row, array_row, tell, TellsWith, OfItems, option_in, option_at, seq_in, seq_at, set_in, set_at, array_in, array_at};
 
 use crate::law::AgreesAsDescribed;
 use schemars_agreement::TellsApart;

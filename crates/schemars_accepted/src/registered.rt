@@ -1,6 +1,6 @@
 //! Types that are registered and have the rows that they describe.
 ghost use Rattle.std.specs.Prelude.{◌≡◌, ◌<◌, length, Some, IfErr, IfOk, OnOk};
-ghost use Rattle.schemars_described.specs.Words.{IsChecked, place_of, Keeps, IsIn, KeepsTo, IsToldIn, Refuses};
+ghost use Rattle.schemars_accepted.specs.Words.{IsChecked, place_of, Keeps, IsIn, KeepsTo, IsToldIn, Refuses};
 
 use crate::law::AgreesAsDescribed;
 use schemars_impls::register;

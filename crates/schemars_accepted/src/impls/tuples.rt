@@ -1,7 +1,7 @@
 //! Tuples of one part to four.
 ghost use Rattle.std.specs.Prelude.{◌++◌, ◌∷◌};
-ghost use Rattle.schemars_described.specs.Told.{tell, TellsWith, single_row, pair_row, triple_row, quadruple_row};
-ghost use Rattle.schemars_described.specs.Laws.{tuple_in, single_at, pair_at, triple_at, quadruple_at};
+ghost use Rattle.schemars_accepted.specs.Told.{tell, TellsWith, single_row, pair_row, triple_row, quadruple_row};
+ghost use Rattle.schemars_accepted.specs.Laws.{tuple_in, single_at, pair_at, triple_at, quadruple_at};
 
 use crate::law::AgreesAsDescribed;
 

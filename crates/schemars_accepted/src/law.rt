@@ -1,6 +1,6 @@
 //! What an implementation of `AgreesAsDescribed` promises.
 ghost use Rattle.std.specs.Prelude.{◌≡◌, ℕ, List, Some};
-ghost use Rattle.schemars_described.specs.Words.{Text, Row, place_of, IsChecked, Dictionary, Told, IsIn, AreAsTold};
+ghost use Rattle.schemars_accepted.specs.Words.{Text, Row, place_of, IsChecked, Dictionary, Told, IsIn, AreAsTold};
 
 use schemars_agreement::Agrees;
 use schemars_impls::JsonSchema;

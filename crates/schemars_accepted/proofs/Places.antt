@@ -1,6 +1,6 @@
 -- The ids of a type's parts, which have rows, and their numbers, in a table that keeps its rows.
 use Rattle.std.proofs.Common.{◌≡◌, ℕ, List, [], ◌∷◌, ◌++◌, Some, refl, sym, ap, ◌∙◌}
-use Rattle.schemars_described.proofs.Words.{Text, Entry, Row, place_of, places_of, IsMade, Keeps, place_of-kept, AreNumbers, number_in, of_ids, are_numbers}
+use Rattle.schemars_accepted.proofs.RowWords.{Text, Entry, Row, place_of, places_of, IsMade, Keeps, place_of-kept, AreNumbers, number_in, of_ids, are_numbers}
 
 -- ids that have rows
 abbrev pub ArePlaced : List Row → List Text → Type 0

@@ -12,9 +12,9 @@ use Rattle.schemars_impls.specs.Dictionary.{Dictionary, TypeRow, IsLeft, IsNamed
 use Rattle.schemars_impls.specs.Containers.{seq_row, option_row}
 use Rattle.schemars_impls.specs.OwnRows.{called, IsMadeOf, IsSeqOf, IsOptionOf}
 use Rattle.schemars_types.specs.Names.{seq_id, option_id}
-use Rattle.schemars_described.specs.Told.{Tells, AreAsTold}
-use Rattle.schemars_described.specs.Laws.{is_told, one_row, row_of, next_place, made_of_all}
-use Rattle.schemars_described.specs.Numbered.{number_in, of_ids, AreNumbers, field_ids, fields_by, fields_made, FieldTold, own_as, variant_ids, variants_by, variants_made, VariantTold}
+use Rattle.schemars_accepted.specs.Told.{Tells, AreAsTold}
+use Rattle.schemars_accepted.specs.Laws.{is_told, one_row, row_of, next_place, made_of_all}
+use Rattle.schemars_accepted.specs.Numbered.{number_in, of_ids, AreNumbers, field_ids, fields_by, fields_made, FieldTold, own_as, variant_ids, variants_by, variants_made, VariantTold}
 
 -- ---- the numbers of ids
 

@@ -1,7 +1,7 @@
 //! Maps with texts as keys.
 ghost use Rattle.std.specs.Prelude.{◌∷◌};
 ghost use Rattle.schemars_shapes.specs.Shape.{Shape as shape};
-ghost use Rattle.schemars_described.specs.Words.{HasShape, map_row, tell, TellsWith, Tells, map_in, map_at, alone_in, alone_row};
+ghost use Rattle.schemars_accepted.specs.Words.{HasShape, map_row, tell, TellsWith, Tells, map_in, map_at, alone_in, alone_row};
 
 use crate::law::AgreesAsDescribed;
 use schemars_impls::JsonSchema;

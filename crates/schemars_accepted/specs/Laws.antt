@@ -10,7 +10,7 @@ use Rattle.schemars_written.specs.Fits.{HasShape, IsArrayRow}
 use Rattle.schemars_impls.specs.Describes.{places_of}
 use Rattle.schemars_impls.specs.Dictionary.{Dictionary, Told, TypeRow, told_of, IsIn, IsTold, IsEntryOf, IsRowOf, Follows, Pending, staged, alone, of_one, of_two}
 use Rattle.schemars_impls.specs.Containers.{option_row, seq_row, set_row, map_row, array_row, PartRows, tuple_row, HasItems}
-use Rattle.schemars_described.specs.Told.{Tells, OfItems, AreAsTold, IsToldIn, telling, single_row, pair_row, triple_row, quadruple_row}
+use Rattle.schemars_accepted.specs.Told.{Tells, OfItems, AreAsTold, IsToldIn, telling, single_row, pair_row, triple_row, quadruple_row}
 
 -- ---- a table that follows a dictionary
 
