@@ -122,7 +122,7 @@ check:
 	tools/check
 
 # The merge gate: what `check` does, every proof from nothing, the programs, and the edits. The generated implementations have to
-# be what the program writes now, its cases are worked, and the commands of the README are run. Then the C library is built and called, the memory and the instructions that a row costs are
+# be what the program writes now, its cases are worked, the commands of the README are run, and the tables of all cases are judged by the JSON Schema of tables. Then the C library is built and called, the memory and the instructions that a row costs are
 # measured, and each growth of the memory of the programs that were built is refused in turn.
 test: check
 	rt ci
@@ -131,6 +131,7 @@ test: check
 	tools/derived --check $(deriver)
 	tools/derive-cases $(deriver)
 	tools/readme
+	tools/table-schema --check
 	@$(MAKE) --no-print-directory library
 	tools/library $(library)
 	tools/memory $(built)

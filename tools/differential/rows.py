@@ -109,7 +109,7 @@ class Table:
     """The rows of an input, and the number of the root."""
 
     def __init__(self, value):
-        table = _object_of({"root": _size}, types=(_instance_of(list), []))(value)
+        table = _object_of({"root": _size}, types=(_instance_of(list), []), **{"$schema": (_checked(lambda _: True), None)})(value)
         self.rows = _list_of(_row_reader(len(table.types)))(table.types)
         self.root = table.root
         _need(self.root < len(self.rows))
