@@ -121,9 +121,10 @@ check:
 	tools/places --check
 	tools/check
 
-# The merge gate: what `check` does, every proof from nothing, the programs, and the edits. The generated implementations have to
-# be what the program writes now, its cases are worked, the commands of the README are run, and the tables of all cases are judged by the JSON Schema of tables. Then the C library is built and called, the memory and the instructions that a row costs are
-# measured, and each growth of the memory of the programs that were built is refused in turn.
+# The merge gate: what `check` does, every proof from nothing, the programs, and the edits. The generated implementations have to be
+# what the program writes now, and its cases are worked. The commands of the README are run, and the tables of all cases are judged by
+# the JSON Schema of tables. Then the C library is built and called, the memory and the instructions that a row costs are measured, and
+# each growth of the memory of the programs that were built is refused in turn.
 test: check
 	rt ci
 	tools/edits --self-test
