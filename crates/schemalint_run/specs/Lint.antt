@@ -52,11 +52,15 @@ Judges verdict bytes = ((verdict ≢ Refused) ↔ IsAcceptedText bytes) × ((ver
 abbrev pub AreLines : Text → Type 0
 AreLines text = (text ≡ []) ⊎ ((before : Text) × (text ≡ before ++ 10 ∷ []))
 
+-- a verdict in words
+abbrev pub verdict_words : Verdict → Text
+verdict_words Refused = codes "refused"
+verdict_words NotPlain = codes "not plain"
+verdict_words PlainUnderReading = codes "plain under reading"
+verdict_words PlainUnderWriting = codes "plain under writing"
+verdict_words PlainUnderBoth = codes "plain under reading and writing"
+verdict_words Plain = codes "plain"
+
 -- the last line of a report
 abbrev pub verdict_line : Verdict → Text
-verdict_line Refused = codes "refused" ++ 10 ∷ []
-verdict_line NotPlain = codes "not plain" ++ 10 ∷ []
-verdict_line PlainUnderReading = codes "plain under reading" ++ 10 ∷ []
-verdict_line PlainUnderWriting = codes "plain under writing" ++ 10 ∷ []
-verdict_line PlainUnderBoth = codes "plain under reading and writing" ++ 10 ∷ []
-verdict_line Plain = codes "plain" ++ 10 ∷ []
+verdict_line verdict = verdict_words verdict ++ 10 ∷ []

@@ -1,6 +1,6 @@
 //! The judgement of a text.
 ghost use Rattle.std.specs.Prelude.{◌≡◌, ◌≢◌, ◌↔◌, ◌++◌, IfOk, IsTrue, string_bytes};
-ghost use Rattle.schemalint_run.specs.Words.{Text, IsAccepted, IsAcceptedText, AreLines, IsPlainText, IsTextPlainUnder, Judges, IsVerdictOf, is_under, verdict_for, verdict_line};
+ghost use Rattle.schemalint_run.specs.Words.{Text, IsAccepted, IsAcceptedText, AreLines, IsPlainText, IsTextPlainUnder, Judges, IsVerdictOf, is_under, verdict_for, verdict_line, verdict_words};
 ghost use Rattle.schemars_types.specs.declared.contract.Contract.{Contract as Which};
 
 use crate::as_text::add_lines;
@@ -37,7 +37,9 @@ pub enum Verdict {
 
 impl Verdict {
     /// The last line of a report, without its newline.
-    pub fn words(self) -> &'static str {
+    pub fn words(self) -> &'static str
+        ensures { result.now ≡ verdict_words self }
+    {
         match self {
             Verdict::Refused => "refused",
             Verdict::NotPlain => "not plain",
@@ -113,14 +115,8 @@ fn with_verdict(lines: String, verdict: Verdict) -> Result<String, AllocError>
     ensures { IfOk result (λ s. string_bytes s ≡ string_bytes lines ++ verdict_line verdict) }
 {
     let mut text = lines;
-    match verdict {
-        Verdict::Refused => text.push_str("refused\n")?,
-        Verdict::NotPlain => text.push_str("not plain\n")?,
-        Verdict::PlainUnderReading => text.push_str("plain under reading\n")?,
-        Verdict::PlainUnderWriting => text.push_str("plain under writing\n")?,
-        Verdict::PlainUnderBoth => text.push_str("plain under reading and writing\n")?,
-        Verdict::Plain => text.push_str("plain\n")?,
-    }
+    text.push_str(verdict.words())?;
+    text.push('\n')?;
     Ok(text)
 }
 
