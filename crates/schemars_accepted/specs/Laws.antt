@@ -7,7 +7,7 @@ use Rattle.schemars_types.specs.Rows.{Row, place_of, entry_at}
 use Rattle.schemars_types.specs.Faults.{IsChecked}
 use Rattle.schemars_types.proofs.Registered.{place_of-below}
 use Rattle.schemars_written.specs.Fits.{HasShape, IsArrayRow}
-use Rattle.schemars_impls.specs.Describes.{places_of}
+use Rattle.schemars_impls.specs.Describes.{Always, IsMade, OfOne, places_of}
 use Rattle.schemars_impls.specs.Dictionary.{Dictionary, Told, TypeRow, told_of, IsIn, IsTold, IsEntryOf, IsRowOf, Follows, Pending, staged, alone, of_one, of_two}
 use Rattle.schemars_impls.specs.Containers.{option_row, seq_row, set_row, map_row, array_row, PartRows, tuple_row, HasItems}
 use Rattle.schemars_accepted.specs.Told.{Tells, OfItems, AreAsTold, IsToldIn, telling, single_row, pair_row, triple_row, quadruple_row}
@@ -192,11 +192,10 @@ array_at t len R told d rows n tells of are checked there part =
     go (len == 0) refl of r r.described.made
   where
     go : (b : Bool) → (len == 0) ≡ b → OfItems b told (staged (array_row t len).id Pending d) → (r : IsRowOf (array_row t len) rows n)
-        → (if b then Some (in_place (tuple [])) else option_map (λ k. in_place (array k len)) (place_of t.id rows)) ≡ Some r.described.given
+        → IsMade (if b then Always (in_place (tuple [])) else OfOne t.id (λ k. in_place (array k len))) rows r.described.given
         → IsArrayRow R len rows n
     go true is items r made =
-        let given_is : r.described.given ≡ in_place (tuple []) = cc in
-        inr (grind (arith, nat_tests, is), has_shape (array_row t len) rows n (tuple []) r given_is)
+        inr (grind (arith, nat_tests, is), has_shape (array_row t len) rows n (tuple []) r made)
     go false is items r made =
         let p = made_of_one (λ k. in_place (array k len)) (place_of t.id rows) r.described.given made in
         inl (p.0, has_shape (array_row t len) rows n (array p.0 len) r p.2, part p.0 items p.1)

@@ -1,7 +1,7 @@
 -- What an empty table holds once a type of each kind was registered in it, whose parts have no parts.
-use Rattle.std.proofs.Common.{◌≡◌, ℕ, List, [], ◌∷◌, Bool, true, false, Option, None, Some, refl, ap, sym, ◌∙◌, subst, option_map, option_and_then, ◌==◌}
-use Rattle.test_callers.proofs.Words.{bytes_eq, Text, Shape, Entry, without_notes, in_place, array, tuple, array_id, array_name, tuple_id, tuple_name, Row, place_of, TypeRow, alone, of_one, of_two, array_row, tuple_row, and_parts, no_parts, HasItems, IsRegistered, HoldsOne, HoldsTwo, HoldsThree, HoldsChain, row}
-use Rattle.test_callers.proofs.Holding.{holds_one, holds_two, holds_three, holds_chain, passed}
+use Rattle.std.proofs.Common.{◌≡◌, ℕ, List, [], ◌∷◌, Bool, true, false, Option, None, Some, refl, ap, sym, ◌∙◌, subst, option_map, option_and_then, if◌then◌else◌, ◌==◌}
+use Rattle.test_callers.proofs.Words.{bytes_eq, Text, Shape, Entry, without_notes, in_place, array, tuple, array_id, array_name, tuple_id, tuple_name, Row, place_of, TypeRow, alone, of_one, of_two, array_row, tuple_row, and_parts, no_parts, HasItems, Always, IsMade, OfOne, IsRegistered, HoldsOne, HoldsTwo, HoldsThree, HoldsChain, row}
+use Rattle.test_callers.proofs.Holding.{holds_one, holds_two, holds_three, holds_chain}
 
 -- ---- how entries are made
 
@@ -79,7 +79,7 @@ module _ {part part_name : Text} {within : Bool} (s : Shape) {rows : List Row} {
       holds_two (array_row t len) t (λ m. in_place (array m len)) (without_notes within s) rows n r apart
       (λ d is. subst (λ b. HasItems b t d) (sym some) is) (λ d. tt)
       (λ g is. made_of_one (λ m. in_place (array m len)) (place_of part rows) g
-      (sym (passed (len == 0) (Some (in_place (tuple []))) (option_map (λ m. in_place (array m len)) (place_of part rows)) some) ∙ is))
+      (subst (λ b. IsMade (if b then Always (in_place (tuple [])) else OfOne part (λ m. in_place (array m len))) rows g) some is))
       (λ g is. is)
 
   pub single_holds : IsRegistered (tuple_row (and_parts (leaf part part_name within s) no_parts)) rows n

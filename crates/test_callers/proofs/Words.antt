@@ -2,7 +2,7 @@
 pub use Rattle.schemars_impls.proofs.Following.{id-there}
 pub use Rattle.schemars_impls.specs.Containers.{HasItems, and_parts, no_parts}
 unfoldable pub use Rattle.schemars_impls.specs.Containers.{array_row, map_row, option_row, seq_row, set_row, tuple_row}
-pub use Rattle.schemars_impls.specs.Describes.{IsMade, Unsaid}
+pub use Rattle.schemars_impls.specs.Describes.{Always, IsMade, OfOne, Unsaid}
 pub use Rattle.schemars_impls.specs.Dictionary.{Defined, Dictionary, Follows, IsEntryOf, IsFree, Pending, Told, TypeRow, staged, told_of}
 unfoldable pub use Rattle.schemars_impls.specs.Dictionary.{IsIn, alone, of_one, of_two}
 pub use Rattle.test_callers.specs.Holds.{HoldsChain, HoldsOne, HoldsThree, HoldsTwo, IsRegistered, row}

@@ -33,6 +33,20 @@ fn no_bytes(alloc: Global) -> Result<(Types, TypeNo), TypesError>
     Ok(r)
 }
 
+/// Registers pairs of lists of no items, of two types, in an empty table: the lists have one row.
+///
+/// # Errors
+///
+/// Those of `register`.
+fn two_empty_lists(alloc: Global) -> Result<(Types, TypeNo), TypesError>
+    ensures { IfOk result (λ r. HoldsTwo
+        (λ m. row (codes "([],[])") (codes "Tuple_of_EmptyArray_and_EmptyArray") true (tuple (m ∷ m ∷ [])))
+        (row (codes "[]") (codes "EmptyArray") true (tuple [])) r.0 r.1) }
+{
+    let r = registered::<([u8; 0], [u16; 0])>(alloc)?;
+    Ok(r)
+}
+
 /// Registers lists of eight bytes at most in an empty table.
 ///
 /// # Errors
