@@ -14,7 +14,9 @@ Version: {VERSION}
 Summary: JSON Schema documents from tables of types and from Python classes, by a proved generator
 License: MIT
 Requires-Python: >=3.10
-"""
+Description-Content-Type: text/markdown
+
+{(HERE / "README.md").read_text(encoding="utf-8")}"""
 WHEEL = f"Wheel-Version: 1.0\nGenerator: wheel.py\nRoot-Is-Purelib: false\nTag: {TAG}\n"
 
 
@@ -24,7 +26,7 @@ def digest(data):
 
 def main(library, folder):
     info = f"{NAME}-{VERSION}.dist-info"
-    files = {f"{NAME}/{it.name}": it.read_bytes() for it in sorted((HERE / NAME).glob("*.py"))}
+    files = {f"{NAME}/{it.name}": it.read_bytes() for it in sorted([*(HERE / NAME).glob("*.py"), HERE / NAME / "py.typed"])}
     files[f"{NAME}/libschemars.so"] = pathlib.Path(library).read_bytes()
     files[f"{info}/LICENSE"] = (HERE.parent.parent / "LICENSE").read_bytes()
     files[f"{info}/METADATA"] = METADATA.encode()

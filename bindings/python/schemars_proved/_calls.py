@@ -3,6 +3,7 @@
 import ctypes
 import json
 import os
+import typing
 
 DIALECTS = {"2020-12": 0, "2019-09": 1, "draft-07": 2, "openapi3": 3}
 VERDICTS = ("refused", "not plain", "plain", "plain under reading", "plain under writing", "plain under reading and writing")
@@ -11,15 +12,17 @@ _DONE, _NO_ROOM = 0, 101
 
 
 class SchemarsError(Exception):
-    """Why there is no document: `status` is the number that `schemagen` prints."""
+    """Why there is no document: `status` is the number that `schemagen` prints. Where the fault is in a table, `faults`
+    says at which places, as the linter does."""
 
     status = None
     reason = "the call was refused"
 
-    def __init__(self, status=None):
+    def __init__(self, status=None, faults=()):
         if status is not None:
             self.status = status
-        super().__init__(f"{self.status} {type(self).__name__}: {self.reason}")
+        self.faults = tuple(faults)
+        super().__init__("\n".join([f"{self.status} {type(self).__name__}: {self.reason}", *self.faults]))
 
 
 class OutOfMemory(SchemarsError, MemoryError):
@@ -65,7 +68,7 @@ class NotJson(SchemarsError, ValueError):
 
 
 class BadTable(SchemarsError, ValueError):
-    """The input is JSON, but no table with a root; `lint` tells where it is wrong."""
+    """The input is JSON, but no table with a root; `faults` says where it is wrong."""
 
     status, reason = 21, "the input is no table with a root"
 
@@ -149,18 +152,27 @@ def _written(function, data, *words):
         room = needed.value
 
 
-def types(table, dialect="2020-12", inline=False, serialize=False):
+def types(table: typing.Any, dialect: str = "2020-12", inline: bool = False, serialize: bool = False) -> str:
     """The text of the document of a table's root, or for `openapi3` of its definitions.
 
     `inline` writes rows in place, and `serialize` describes the values that are written. The text ends in a
-    newline, as the program writes it.
+    newline, as the program writes it. An error has the places of the faults in the table.
     """
     number, data = _dialect(dialect), _input(table)
     flags = (_INLINE if inline else 0) | (_SERIALIZE if serialize else 0)
-    return _written(_lib.schemars_types, data, number, flags, data, len(data))
+    try:
+        return _written(_lib.schemars_types, data, number, flags, data, len(data))
+    except (NotJson, BadTable, UndefinedType, RepeatedName, DirectCycle, EmptyCycle) as error:
+        raise type(error)(faults=_faults(data)) from None
 
 
-def sample(value, dialect="2020-12"):
+def _faults(data):
+    """The faults of a table, each with its place."""
+    lines = lint(data)[1].splitlines()
+    return [line.removeprefix("fault: ") for line in lines if line.startswith("fault: ")]
+
+
+def sample(value: typing.Any, dialect: str = "2020-12") -> str:
     """The text of the document of a schema that is made from an example, and accepts it.
 
     Text and bytes are the example's JSON; any other value is turned into JSON.
@@ -169,7 +181,7 @@ def sample(value, dialect="2020-12"):
     return _written(_lib.schemars_sample, data, number, data, len(data))
 
 
-def lint(table):
+def lint(table: typing.Any) -> typing.Tuple[str, str]:
     """The verdict on a table, one of `VERDICTS`, and what the linter prints."""
     data, verdict = _input(table), _u32()
     text = _written(_lib.schemars_lint, data, data, len(data), ctypes.byref(verdict))

@@ -7,34 +7,68 @@ import datetime
 import decimal
 import enum
 import inspect
+import ipaddress
 import json
 import math
 import numbers
+import pathlib
+import re
 import sys
 import types as python_types
 import typing
 import uuid
 
 from . import _calls
+from ._members import Member, attrs_members, is_attrs, is_model, model_members
 
 _UNIONS = (typing.Union, python_types.UnionType)
 _FORMATS = {
     datetime.datetime: ("date-time", "DateTime"),
     datetime.date: ("date", "Date"),
     datetime.time: ("time", "Time"),
+    datetime.timedelta: ("duration", "Duration"),
     uuid.UUID: ("uuid", "Uuid"),
+    ipaddress.IPv4Address: ("ipv4", "Ipv4Address"),
+    ipaddress.IPv6Address: ("ipv6", "Ipv6Address"),
+    ipaddress.IPv4Network: ("ipv4network", "Ipv4Network"),
+    ipaddress.IPv6Network: ("ipv6network", "Ipv6Network"),
+    re.Pattern: ("regex", "Regex"),
 }
+# Types of pydantic that are texts of a format.
+_PYDANTIC_FORMATS = {
+    "EmailStr": "email",
+    "NameEmail": "name-email",
+    "AnyUrl": "uri",
+    "AnyHttpUrl": "uri",
+    "HttpUrl": "uri",
+    "FileUrl": "uri",
+    "WebsocketUrl": "uri",
+    "SecretStr": "password",
+}
+_DECIMAL = {"type": "string", "pattern": r"^-?\d+(\.\d+)?([eE][+-]?\d+)?$"}
 # What stands for a value of any type.
 _ANY = (typing.Any, object)
-_LISTS = (list, collections.abc.Sequence, collections.abc.MutableSequence, collections.deque)
+_LISTS = (
+    list,
+    collections.abc.Sequence,
+    collections.abc.MutableSequence,
+    collections.abc.Iterable,
+    collections.abc.Collection,
+    collections.deque,
+)
 _SETS = (set, frozenset, collections.abc.Set, collections.abc.MutableSet)
 _MAPS = (dict, collections.abc.Mapping, collections.abc.MutableMapping, collections.OrderedDict, collections.defaultdict)
-_REQUIRED = tuple(
-    getattr(module, name)
-    for module in (typing, sys.modules.get("typing_extensions"))
-    for name in ("Required", "NotRequired", "ReadOnly")
-    if hasattr(module, name)
-)
+_MANY = (*_LISTS, *_SETS, *_MAPS, collections.Counter)
+
+
+def _of_typing(*names):
+    """What `typing`, and `typing_extensions` where it is loaded, have under these names."""
+    modules = (typing, sys.modules.get("typing_extensions"))
+    return tuple(getattr(module, name) for module in modules for name in names if hasattr(module, name))
+
+
+_REQUIRED = _of_typing("Required", "NotRequired", "ReadOnly", "Final")
+_SELF = _of_typing("Self")
 _LARGEST = 2**64 - 1
 
 
@@ -50,7 +84,8 @@ class NoTable(TypeError):
 class Bounds:
     """Bounds of a number, of the length of a text, or of the length of a list, for `Annotated`.
 
-    The objects of the package `annotated_types`, and any that have the same attributes, serve too.
+    Of a list, a set or a dictionary it is how many items or members there are. The objects of the package
+    `annotated_types`, and any that have the same attributes, serve too.
     """
 
     ge: typing.Optional[numbers.Real] = None
@@ -66,21 +101,30 @@ class Bounds:
 _BOUNDS = tuple(it.name for it in dataclasses.fields(Bounds))
 
 
-def schema_for(cls, dialect="2020-12", inline=False, serialize=False, closed=False):
+def schema_for(
+    cls: typing.Any, dialect: str = "2020-12", inline: bool = False, serialize: bool = False, closed: bool = False
+) -> typing.Any:
     """The document of a class, or for `openapi3` its definitions, as a dictionary.
 
     Raises `NoTable` where no table describes the class.
     """
-    return json.loads(_calls.types(table_for(cls, closed), dialect, inline, serialize))
+    table = _table_of(cls, closed, sys._getframe(1).f_locals)
+    return json.loads(_calls.types(table, dialect, inline, serialize))
 
 
-def table_for(cls, closed=False):
-    """The table of a class: of a dataclass, `TypedDict`, `NamedTuple`, `Enum`, or any other type that a field may
-    have. With `closed`, objects have no other keys than those of their classes.
+def table_for(cls: typing.Any, closed: bool = False) -> typing.Dict[str, typing.Any]:
+    """The table of a class: of a dataclass, a model of pydantic, a class of attrs, `TypedDict`, `NamedTuple`, `Enum`,
+    or any other type that a field may have. With `closed`, objects have no other keys than those of their classes.
+    Classes that are local to the caller may name each other.
 
     Raises `NoTable` where no table describes the class.
     """
-    rows = _Rows(closed)
+    return _table_of(cls, closed, sys._getframe(1).f_locals)
+
+
+def _table_of(cls, closed, names):
+    """The same, where these names are known too."""
+    rows = _Rows(closed, names)
     root = rows.row_of(cls, "")
     return {"types": rows.rows, "root": root}
 
@@ -88,20 +132,22 @@ def table_for(cls, closed=False):
 class _Rows:
     """The rows of a table in the making."""
 
-    def __init__(self, closed):
+    def __init__(self, closed, names):
         self.rows = []
         self.closed = closed
+        self.known = names
         self.numbers = {}  # of rows, by their ids
         self.classes = {}  # the ids of classes, by class and arguments
         self.names = {}  # how many classes have the same id
 
     # ---- rows
 
-    def add(self, id, name, shape, inline=True):
+    def add(self, id, name, shape, inline=True, notes=None):
         """The number of the row of this id, which is added where there is none."""
         if id not in self.numbers:
             self.numbers[id] = len(self.rows)
-            self.rows.append({"id": id, "name": name, **({"inline": True} if inline else {}), "shape": shape})
+            row = {"id": id, "name": name, **({"inline": True} if inline else {}), "shape": shape}
+            self.rows.append({**row, **({"notes": notes} if notes else {})})
         return self.numbers[id]
 
     def reserve(self, cls, arguments, name):
@@ -138,8 +184,12 @@ class _Rows:
             raise NoTable(f"the type variable {it} has no argument", place)
         if isinstance(it, (str, typing.ForwardRef)):
             raise NoTable(f"{it!r} names a type that is not known here", place)
+        if it in _SELF and it in variables:
+            return variables[it]
         if isinstance(it, typing.NewType):
             return self.new_type(it, place)
+        if type(it).__name__ == "TypeAliasType":
+            return self.row_of(it.__value__, place, variables)
         if it is None or it is type(None):
             return self.add("null", "null", "null")
         if it in _ANY:
@@ -174,24 +224,30 @@ class _Rows:
         if it in _FORMATS:
             format, name = _FORMATS[it]
             return self.add(format, name, {"format": format})
+        if issubclass(it, pathlib.PurePath):
+            return self.add("path", "Path", {"format": "path"})
+        if it is decimal.Decimal:
+            return self.literal(_DECIMAL, "Decimal")
+        if it.__module__.startswith("pydantic.") and it.__name__ in _PYDANTIC_FORMATS:
+            format = _PYDANTIC_FORMATS[it.__name__]
+            return self.add(format, it.__name__, {"format": format})
+        if is_model(it):
+            return self.model(it, place)
+        if is_attrs(it):
+            return self.attrs(it, place)
         if dataclasses.is_dataclass(it):
             return self.dataclass(it, (), place)
         if typing.is_typeddict(it):
             return self.typed_dict(it, (), place)
         if issubclass(it, tuple) and hasattr(it, "_fields"):
             return self.named_tuple(it, place)
-        if it in _LISTS:
-            return self.applied(list, (typing.Any,), place, {})
-        if it in _SETS:
-            return self.applied(set, (typing.Any,), place, {})
+        if it in _MANY:
+            return self.add(*self.many(it, (), place, {}))
         if it is tuple:
             return self.applied(tuple, (typing.Any, ...), place, {})
-        if it in _MAPS:
-            return self.applied(dict, (str, typing.Any), place, {})
         why = {
             bytes: "JSON has no bytes: use a text, or list[int]",
             complex: "JSON has no complex numbers: use a tuple of two floats",
-            decimal.Decimal: "JSON does not say how a Decimal is written: use str or float",
         }
         raise NoTable(why.get(it, f"no table describes {it.__module__}.{it.__qualname__}"), place)
 
@@ -199,14 +255,8 @@ class _Rows:
         """The row of a type with arguments."""
         if origin is tuple:
             return self.tuple(arguments, place, variables)
-        if origin in _LISTS or origin in _SETS:
-            part = self.row_of(arguments[0], f"{place}[]", variables)
-            id, name = self.id_of(part), self.name_of(part)
-            if origin in _SETS:
-                return self.add(f"Set<{id}>", f"Set_of_{name}", {"set": part})
-            return self.add(f"[{id}]", f"Array_of_{name}", {"seq": part})
-        if origin in _MAPS:
-            return self.map(arguments, place, variables)
+        if origin in _MANY:
+            return self.add(*self.many(origin, arguments, place, variables))
         rows = tuple(self.row_of(it, f"{place}[]", variables) for it in arguments)
         if dataclasses.is_dataclass(origin):
             return self.dataclass(origin, rows, place)
@@ -223,14 +273,26 @@ class _Rows:
         ids, names = (list(map(of, parts)) for of in (self.id_of, self.name_of))
         return self.add(f"({','.join(ids)})", f"Tuple_of_{'_and_'.join(names)}" if parts else "Empty_tuple", {"tuple": parts})
 
-    def map(self, arguments, place, variables):
-        key = self.key(arguments[0], f"{place} (a key)", variables)
-        value = self.row_of(arguments[1], f"{place}[]", variables)
+    def many(self, origin, arguments, place, variables):
+        """The id, the name and the shape of a list, a set or a dictionary, whose arguments may be left out."""
+        if origin in _MAPS:
+            return self.map(*(arguments or (str, typing.Any)), place, variables)
+        if origin is collections.Counter:
+            return self.map((arguments or (str,))[0], int, place, variables)
+        part = self.row_of((arguments or (typing.Any,))[0], f"{place}[]", variables)
+        id, name = self.id_of(part), self.name_of(part)
+        if origin in _SETS:
+            return f"Set<{id}>", f"Set_of_{name}", {"set": part}
+        return f"[{id}]", f"Array_of_{name}", {"seq": part}
+
+    def map(self, key, value, place, variables):
+        key = self.key(key, f"{place} (a key)", variables)
+        value = self.row_of(value, f"{place}[]", variables)
         shape = {"map": {"key": key, "value": value}}
         of, name = self.id_of(value), self.name_of(value)
         if self.id_of(key) == "string":
-            return self.add(f"Map<{of}>", f"Map_of_{name}", shape)
-        return self.add(f"Map<{self.id_of(key)}, {of}>", f"Map_from_{self.name_of(key)}_to_{name}", shape)
+            return f"Map<{of}>", f"Map_of_{name}", shape
+        return f"Map<{self.id_of(key)}, {of}>", f"Map_from_{self.name_of(key)}_to_{name}", shape
 
     def key(self, it, place, variables):
         """The row of the keys of a dictionary, which are texts in JSON."""
@@ -258,8 +320,9 @@ class _Rows:
             number = self.add(f"Union<{' | '.join(ids)}>", "_or_".join(names), {"untagged": {"variants": variants}})
         else:
             number = self.row_of(others[0], place, variables)
-        if len(others) == len(arguments):
-            return number
+        return number if len(others) == len(arguments) else self.option(number)
+
+    def option(self, number):
         return self.add(f"Option<{self.id_of(number)}>", f"Nullable_{self.name_of(number)}", {"option": number})
 
     # ---- values that are listed
@@ -293,8 +356,12 @@ class _Rows:
 
     def annotated(self, it, place, variables):
         base, *notes = typing.get_args(it)
+        return self.noted(base, notes, place, variables)
+
+    def noted(self, base, notes, place, variables):
+        """The row of a type with the bounds that are among these notes."""
         bounds = {}
-        for note in notes:
+        for note in [*notes, *(one for it in notes for one in _metadata(it))]:
             for name in _BOUNDS:
                 value = getattr(note, name, None)
                 if value is not None and not callable(value):
@@ -304,14 +371,24 @@ class _Rows:
         return self.bounded(base, bounds, place, variables)
 
     def bounded(self, base, bounds, place, variables):
+        if isinstance(base, typing.NewType):
+            return self.bounded(base.__supertype__, bounds, place, variables)
+        origin = typing.get_origin(base)
+        if origin is typing.Annotated:
+            inner, *notes = typing.get_args(base)
+            return self.noted(inner, [*notes, Bounds(**bounds)], place, variables)
+        if origin in _UNIONS:
+            others = [it for it in typing.get_args(base) if it is not type(None)]
+            if len(others) == 1:
+                return self.option(self.bounded(others[0], bounds, place, variables))
         if base is int:
             return self.bounded_number({"type": "integer"}, "integer", bounds, place)
         if base is float:
             return self.bounded_number({"type": "number"}, "number", bounds, place)
         if base is str:
             return self.bounded_text(bounds, place)
-        if typing.get_origin(base) in _LISTS or base in _LISTS:
-            return self.bounded_list(base, bounds, place, variables)
+        if (origin or base) in _MANY:
+            return self.bounded_many(origin or base, typing.get_args(base), bounds, place, variables)
         raise NoTable(f"no bounds are known for {base!r}", place)
 
     def bounded_number(self, schema, name, bounds, place):
@@ -352,12 +429,23 @@ class _Rows:
             raise NoTable("a pattern is a text", place)
         return self.literal(schema, _name_of("string", schema))
 
-    def bounded_list(self, base, bounds, place, variables):
+    def bounded_many(self, origin, arguments, bounds, place, variables):
+        """A list, a set or a dictionary of so many items or members."""
         self.expect_lengths(bounds, place)
+        if set(bounds) - {"min_length", "max_length"}:
+            raise NoTable("what has items or members has min_length and max_length", place)
+        id, name, shape = self.many(origin, arguments, place, variables)
         least, most = bounds.get("min_length", 0), bounds.get("max_length")
-        if set(bounds) - {"min_length", "max_length"} or most is None or (least and least != most):
-            raise NoTable("a list has max_length, or both lengths, which are then the same", place)
-        part = self.row_of((typing.get_args(base) or (typing.Any,))[0], f"{place}[]", variables)
+        if "seq" in shape and most is not None and least in (0, most):
+            return self.array(shape["seq"], least, most)
+        of = "Properties" if "map" in shape else "Items"
+        notes = {f"min{of}": least} if least else {}
+        notes |= {} if most is None else {f"max{of}": most}
+        text = "".join(f"_{keyword}_{value}" for keyword, value in notes.items())
+        return self.add(id + text, name + text, shape, notes=notes)
+
+    def array(self, part, least, most):
+        """Lists of exactly, or of at most, so many items."""
         id, name = self.id_of(part), self.name_of(part)
         if least:
             return self.add(f"[{most}; {id}]", f"Array_size_{most}_of_{name}", {"array": {"of": part, "len": most}})
@@ -380,17 +468,41 @@ class _Rows:
     def dataclass(self, cls, arguments, place):
         number, is_new = self.reserve(cls, arguments, self.applied_name(cls, arguments))
         if is_new:
-            hints, variables = self.hints(cls, arguments, place)
-            fields = [self.field(cls, it, hints[it.name], variables) for it in dataclasses.fields(cls)]
+            hint_of = self.hints(cls, arguments, number, place)
+            fields = [self.dataclass_field(cls, it, *hint_of(it.name)) for it in dataclasses.fields(cls)]
             self.set_struct(number, cls, fields)
+        return number
+
+    def attrs(self, cls, place):
+        number, is_new = self.reserve(cls, (), cls.__name__)
+        if is_new:
+            hint_of = self.hints(cls, (), number, place)
+            self.set_struct(number, cls, [self.field(cls, it, *hint_of(it.attribute)) for it in attrs_members(cls)])
+        return number
+
+    def model(self, cls, place):
+        """A model of pydantic, whose fields know their types."""
+        number, is_new = self.reserve(cls, (), cls.__name__)
+        if not is_new:
+            return number
+        members, root = model_members(cls), getattr(cls, "__pydantic_root_model__", False)
+        itself = {it: number for it in _SELF}
+        if root:
+            shape = {"newtype": self.noted(members[0].hint, members[0].notes, place or cls.__qualname__, itself)}
+            self.rows[number]["shape"] = shape
+            self.describe(number, cls)
+        else:
+            fields = [self.field(cls, it, it.hint, itself) for it in members]
+            self.set_struct(number, cls, fields, cls.model_config.get("extra") == "forbid")
         return number
 
     def typed_dict(self, cls, arguments, place):
         number, is_new = self.reserve(cls, arguments, self.applied_name(cls, arguments))
         if is_new:
-            hints, variables = self.hints(cls, arguments, place)
+            hint_of = self.hints(cls, arguments, number, place)
             fields = []
-            for name, hint in hints.items():
+            for name in cls.__annotations__:
+                hint, variables = hint_of(name)
                 field = {"name": name, "type": self.row_of(hint, f"{cls.__qualname__}.{name}", variables)}
                 if name in cls.__optional_keys__:
                     field["required"] = False
@@ -402,8 +514,11 @@ class _Rows:
     def named_tuple(self, cls, place):
         number, is_new = self.reserve(cls, (), cls.__name__)
         if is_new:
-            hints, variables = self.hints(cls, (), place)
-            parts = [self.row_of(hints.get(it, typing.Any), f"{cls.__qualname__}.{it}", variables) for it in cls._fields]
+            hint_of = self.hints(cls, (), number, place)
+            parts = []
+            for name in cls._fields:
+                hint, variables = hint_of(name)
+                parts.append(self.row_of(hint, f"{cls.__qualname__}.{name}", variables))
             self.rows[number]["shape"] = {"tuple": parts}
             self.describe(number, cls)
         return number
@@ -411,43 +526,77 @@ class _Rows:
     def applied_name(self, cls, arguments):
         return cls.__name__ + "".join(f"_{self.name_of(it)}" for it in arguments)
 
-    def hints(self, cls, arguments, place):
-        """The types of a class's members, and the rows that stand for its type variables."""
+    def hints(self, cls, arguments, number, place):
+        """A function that gives the type of a member, and the rows that stand for the type variables in it."""
         parameters = getattr(cls, "__parameters__", ())
         if len(parameters) != len(arguments):
             raise NoTable(f"{cls.__qualname__} has {len(parameters)} type variables, and {len(arguments)} arguments", place)
-        try:
-            hints = typing.get_type_hints(cls, localns={cls.__name__: cls}, include_extras=True)
-        except NameError as error:
-            raise NoTable(f"{error.name!r} names no type", cls.__qualname__) from None
-        return hints, dict(zip(parameters, arguments))
+        hints = self.hints_with({}, cls)
+        itself = {it: number for it in _SELF}
+        variables = {}
+        self.add_variables(cls, {**itself, **dict(zip(parameters, arguments))}, itself, place, variables)
+        every = {it: row for of_class in variables.values() for it, row in of_class.items()}
 
-    def set_struct(self, number, cls, fields):
+        def hint_of(name):
+            owner = next((it for it in cls.__mro__ if name in it.__dict__.get("__annotations__", {})), cls)
+            return hints.get(name, typing.Any), {**every, **variables.get(owner, itself)}
+
+        return hint_of
+
+    def hints_with(self, names, cls):
+        """The types of a class's members. A name that its module does not have is one that the caller has."""
+        try:
+            return typing.get_type_hints(cls, localns={**names, cls.__name__: cls}, include_extras=True)
+        except NameError as error:
+            name = error.name
+        if name in names or name not in self.known:
+            raise NoTable(f"{name!r} names no type", cls.__qualname__)
+        return self.hints_with({**names, name: self.known[name]}, cls)
+
+    def add_variables(self, cls, own, itself, place, variables):
+        """Adds what stands for the type variables of a class, and of each class that it is derived from."""
+        variables[cls] = own
+        for base in cls.__dict__.get("__orig_bases__", ()):
+            origin = typing.get_origin(base)
+            if isinstance(origin, type) and origin is not typing.Generic:
+                rows = [self.row_of(it, place, own) for it in typing.get_args(base)]
+                of_base = {**itself, **dict(zip(getattr(origin, "__parameters__", ()), rows))}
+                self.add_variables(origin, of_base, itself, place, variables)
+        for base in cls.__bases__:
+            if base not in variables:
+                self.add_variables(base, itself, itself, place, variables)
+
+    def set_struct(self, number, cls, fields, closed=False):
         names = [it["name"] for it in fields]
         twice = next((it for it in names if names.count(it) > 1), None)
         if twice is not None:
             raise NoTable(f"two fields have the name {twice!r}", cls.__qualname__)
-        self.rows[number]["shape"] = {"struct": {"fields": fields, **({"closed": True} if self.closed else {})}}
+        self.rows[number]["shape"] = {"struct": {"fields": fields, **({"closed": True} if closed or self.closed else {})}}
         self.describe(number, cls)
 
-    def field(self, cls, it, hint, variables):
+    def dataclass_field(self, cls, it, hint, variables):
         """A field of a dataclass. Its metadata may have a `name` and a `description`."""
-        place = f"{cls.__qualname__}.{it.name}"
-        name = it.metadata.get("name", it.name)
-        if not isinstance(name, str):
-            raise NoTable("the name of a field is a text", place)
-        field = {"name": name, "type": self.row_of(hint, place, variables)}
-        default = it.default
+        default = it.default_factory if it.default is dataclasses.MISSING else it.default
         if it.default_factory in (list, dict, set, frozenset, tuple):
             default = it.default_factory()
-        if default is not dataclasses.MISSING or it.default_factory is not dataclasses.MISSING:
+        is_read = it.init and default is dataclasses.MISSING
+        member = Member(it.name, it.metadata.get("name", it.name), hint, is_read, default, it.metadata.get("description"))
+        return self.field(cls, member, hint, variables)
+
+    def field(self, cls, it, hint, variables):
+        """A field of a struct for a member of a class."""
+        place = f"{cls.__qualname__}.{it.attribute}"
+        if not isinstance(it.name, str):
+            raise NoTable("the name of a field is a text", place)
+        field = {"name": it.name, "type": self.noted(hint, it.notes, place, variables)}
+        if not it.required:
             field["required"] = {"deserialize": False, "serialize": True}
-        self.note(field, it.metadata.get("description", _description_in(hint)), default)
+        self.note(field, _description_in(hint) if it.description is None else it.description, it.default)
         return field
 
     def note(self, field, description, default=dataclasses.MISSING):
         notes = {} if description is None else {"description": description}
-        value = _NONE if default is dataclasses.MISSING else _json_of(default)
+        value = _json_of(default)
         if value is not _NONE:
             notes["default"] = value
         if notes:
@@ -505,16 +654,22 @@ def _json_of(value):
 
 
 def _description_in(hint):
-    """A text among the annotations, or the `documentation` of one."""
+    """A text among the annotations, or the `documentation` or `description` of one."""
     if typing.get_origin(hint) in _REQUIRED:
         return _description_in(typing.get_args(hint)[0])
     if typing.get_origin(hint) is not typing.Annotated:
         return None
     for note in typing.get_args(hint)[1:]:
-        text = note if isinstance(note, str) else getattr(note, "documentation", None)
-        if isinstance(text, str):
-            return text
+        for text in (note, getattr(note, "documentation", None), getattr(note, "description", None)):
+            if isinstance(text, str):
+                return text
     return None
+
+
+def _metadata(note):
+    """The bounds that a `Field` of pydantic has among annotations."""
+    metadata = getattr(note, "metadata", None)
+    return metadata if isinstance(metadata, list) else ()
 
 
 def _is_made_up(cls, text):

@@ -2,13 +2,16 @@
 
 import collections
 import datetime
+import decimal
 import enum
+import ipaddress
+import pathlib
 import typing
 import uuid
 from dataclasses import dataclass, field
-from typing import Annotated, Any, ClassVar, Generic, Literal, NamedTuple, NewType, Optional, TypedDict, TypeVar, Union
+from typing import Annotated, Any, ClassVar, Final, Generic, Literal, NamedTuple, NewType, Optional, TypedDict, TypeVar, Union
 
-from typing import NotRequired, Required  # Python 3.11
+from typing import NotRequired, Required, Self  # Python 3.11
 
 from schemars_proved import Bounds
 
@@ -424,3 +427,51 @@ class Ge:
 class Duck:
     a: Annotated[int, Ge(5), "at least five"]
     b: Annotated[Optional[int], "a description alone"] = None
+
+
+@tested
+@dataclass
+class Several:
+    some: Annotated[list[int], Bounds(min_length=1)]
+    two_or_three: Annotated[list[str], Bounds(min_length=2, max_length=3)]
+    names: Annotated[set[str], Bounds(min_length=1)]
+    counts: Annotated[dict[str, int], Bounds(max_length=2)]
+    age: Annotated[Optional[int], Bounds(ge=0)]
+    user: Annotated[UserId, Bounds(le=9)]
+
+
+# ---- more of typing
+
+
+@tested
+@dataclass
+class Chain:
+    value: Final[int]
+    next: Optional[Self] = None
+    all: typing.Iterable[bool] = ()
+
+
+@tested
+@dataclass
+class Ints(Box[int]):
+    """A box that is derived from a generic one."""
+
+    more: Box[str]
+
+
+@tested
+@dataclass
+class Counted:
+    words: collections.Counter[str]
+    made: int = field(init=False)
+
+
+@tested
+@dataclass
+class Places:
+    address: ipaddress.IPv4Address | ipaddress.IPv6Address
+    path: pathlib.Path
+    wait: datetime.timedelta
+
+
+tested(decimal.Decimal, "Decimal")

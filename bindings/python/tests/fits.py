@@ -1,9 +1,13 @@
 """What a type means of JSON values, read from the type alone, and values drawn for it."""
 
+import collections
 import dataclasses
 import datetime
+import decimal
 import enum
+import ipaddress
 import json
+import pathlib
 import re
 import typing
 import uuid
@@ -12,37 +16,64 @@ from types import UnionType
 from schemars_proved import Bounds
 
 _NAMES = [it.name for it in dataclasses.fields(Bounds)]
+_WRITTEN = (
+    str,
+    uuid.UUID,
+    datetime.datetime,
+    datetime.date,
+    datetime.time,
+    datetime.timedelta,
+    ipaddress.IPv4Address,
+    ipaddress.IPv6Address,
+    pathlib.Path,
+)
 _TEXTS = ["", "a", "red", "on", "x y", "é", "12", "-3", "abc", "ABCDE", "\u4e2d\u6587"]
 _NUMBERS = [0, 1, -1, 2, 3, 5, 9, 10, 100, 101, 7.5, 0.5, -2.25, 1.0, 1e6, 2**40]
+
+
+def _variables(cls, arguments):
+    """What stands for the type variables of a class, and of the generic classes that it is derived from."""
+    variables = dict(zip(getattr(cls, "__parameters__", ()), arguments))
+    for base in getattr(cls, "__orig_bases__", ()):
+        origin = typing.get_origin(base)
+        if origin is not typing.Generic:
+            bound = [_put(it, variables, cls) for it in typing.get_args(base)]
+            variables = {**_variables(origin, bound), **variables}
+    return variables
 
 
 def _members(cls, arguments):
     """The members of a class as (name, type, whether each value has it)."""
     hints = typing.get_type_hints(cls, localns={cls.__name__: cls}, include_extras=True)
-    variables = dict(zip(getattr(cls, "__parameters__", ()), arguments))
+    variables = _variables(cls, arguments)
     if typing.is_typeddict(cls):
-        return [(name, _put(hint, variables), name in cls.__required_keys__) for name, hint in hints.items()]
+        return [(name, _put(hint, variables, cls), name in cls.__required_keys__) for name, hint in hints.items()]
     return [
         (
             it.metadata.get("name", it.name),
-            _put(hints[it.name], variables),
-            it.default is dataclasses.MISSING and it.default_factory is dataclasses.MISSING,
+            _put(hints[it.name], variables, cls),
+            it.init and it.default is dataclasses.MISSING and it.default_factory is dataclasses.MISSING,
         )
         for it in dataclasses.fields(cls)
     ]
 
 
-def _put(hint, variables):
-    """The type with its variables replaced."""
+def _put(hint, variables, cls):
+    """The type with its variables, and `Self`, replaced."""
     if isinstance(hint, typing.TypeVar):
         return variables[hint]
+    if hint is typing.Self:
+        return cls
+    arguments = typing.get_args(hint)
+    if typing.Self in arguments:
+        return typing.Union[tuple(_put(it, variables, cls) for it in arguments)]
     parameters = getattr(hint, "__parameters__", ())
     return hint[tuple(variables[it] for it in parameters)] if parameters and not isinstance(hint, type) else hint
 
 
 def _kind(hint):
     origin, arguments = typing.get_origin(hint), typing.get_args(hint)
-    while origin in (typing.Required, typing.NotRequired):
+    while origin in (typing.Required, typing.NotRequired, typing.Final):
         hint = arguments[0]
         origin, arguments = typing.get_origin(hint), typing.get_args(hint)
     if origin is UnionType:
@@ -94,7 +125,7 @@ def fits(hint, value):
     if isinstance(hint, typing.NewType):
         return fits(hint.__supertype__, value)
     if origin is typing.Annotated:
-        return fits(arguments[0], value) and _bounded(arguments, value)
+        return fits(arguments[0], value) and (value is None or _bounded(arguments, value))
     if origin is typing.Literal:
         return any(same(value, it.value if isinstance(it, enum.Enum) else it) for it in arguments)
     if origin is typing.Union:
@@ -112,8 +143,10 @@ def fits(hint, value):
         return not isinstance(value, bool) and (isinstance(value, int) or isinstance(value, float) and value.is_integer())
     if hint is float:
         return isinstance(value, (int, float)) and not isinstance(value, bool)
-    if hint in (str, uuid.UUID, datetime.datetime, datetime.date, datetime.time):
+    if hint in _WRITTEN:
         return isinstance(value, str)
+    if hint is decimal.Decimal:
+        return isinstance(value, str) and re.fullmatch(r"-?\d+(\.\d+)?([eE][+-]?\d+)?", value) is not None
     if isinstance(hint, type) and issubclass(hint, tuple) and hasattr(hint, "_fields"):
         hints = typing.get_type_hints(hint)
         parts = [hints.get(it, typing.Any) for it in hint._fields]
@@ -121,14 +154,19 @@ def fits(hint, value):
     origin = origin or hint
     if origin is tuple and hint is not tuple and not (len(arguments) == 2 and arguments[1] is ...):
         return isinstance(value, list) and len(value) == len(arguments) and all(map(fits, arguments, value))
-    if origin is dict:
-        key, part = arguments or (str, typing.Any)
+    if origin in (dict, collections.Counter):
+        key, part = _entries(origin, arguments)
         return isinstance(value, dict) and all(_is_key(key, it) and fits(part, value[it]) for it in value)
     part = arguments[0] if arguments else typing.Any
     if not isinstance(value, list) or not all(fits(part, it) for it in value):
         return False
     is_set = origin in (set, frozenset)
     return not is_set or not any(same(a, b) for n, a in enumerate(value) for b in value[:n])
+
+
+def _entries(origin, arguments):
+    """The types of keys and values."""
+    return (*arguments, int) if origin is collections.Counter else arguments or (str, typing.Any)
 
 
 def _is_key(key, text):
@@ -183,7 +221,7 @@ def drawn(hint, random, depth=3):
         return random.choice([it for it in _NUMBERS if fits(int, it)])
     if hint is float:
         return random.choice(_NUMBERS)
-    if hint in (str, uuid.UUID, datetime.datetime, datetime.date, datetime.time):
+    if hint in _WRITTEN or hint is decimal.Decimal:
         return random.choice(_TEXTS)
     if isinstance(hint, type) and issubclass(hint, tuple) and hasattr(hint, "_fields"):
         hints = typing.get_type_hints(hint)
@@ -191,8 +229,8 @@ def drawn(hint, random, depth=3):
     origin = origin or hint
     if origin is tuple and hint is not tuple and not (len(arguments) == 2 and arguments[1] is ...):
         return [drawn(it, random, depth - 1) for it in arguments]
-    if origin is dict:
-        key, part = arguments or (str, typing.Any)
+    if origin in (dict, collections.Counter):
+        key, part = _entries(origin, arguments)
         count = random.randrange(3) if depth else 0
         keys = [str(drawn(key, random, 0)) for _ in range(count)]
         return {it: drawn(part, random, depth - 1) for it in keys}

@@ -1,7 +1,6 @@
 """Calls, refusals by name, and types that no table describes."""
 
 import collections
-import decimal
 import enum
 import json
 from dataclasses import dataclass, field
@@ -79,6 +78,25 @@ def test_refusals_have_names(error, table):
         types(table)
     assert isinstance(told.value, schemars_proved.SchemarsError)
     assert str(told.value).startswith(f"{error.status} {error.__name__}")
+    assert bool(told.value.faults) == (error is not schemars_proved.DefinitionsPath)
+
+
+def test_faults_have_places():
+    with pytest.raises(schemars_proved.BadTable) as told:
+        types({"types": [{**ROW, "shape": {"seq": 7}}], "root": 0})
+    assert told.value.faults == ("/types/0/shape/seq: 7 is no row of a table of 1",)
+
+
+def test_local_classes_name_each_other():
+    @dataclass
+    class First:
+        other: "Second"
+
+    @dataclass
+    class Second:
+        other: Optional["First"]
+
+    assert set(schema_for(First)["$defs"]) == {"Second"}
 
 
 def test_numbers_of_examples():
@@ -138,7 +156,6 @@ class Plain:
     [
         (bytes, "JSON has no bytes"),
         (complex, "no complex"),
-        (decimal.Decimal, "Decimal"),
         (Plain, "no table describes"),
         (Flags, "set of flags"),
         (Nothing, "no member"),
@@ -160,7 +177,8 @@ class Plain:
         (Annotated[int, Bounds(ge=2**70)], "64 bits"),
         (Annotated[str, Bounds(ge=1)], "no bound of a text"),
         (Annotated[str, Bounds(max_length=-1)], "whole number from 0"),
-        (Annotated[list[int], Bounds(min_length=1)], "max_length"),
+        (Annotated[list[int], Bounds(pattern="a")], "min_length and max_length"),
+        (Annotated[dict[str, int], Bounds(ge=1)], "min_length and max_length"),
         (Annotated[bool, Bounds(ge=0)], "no bounds are known"),
         ("Node", "not known here"),
         (3, "is no type"),

@@ -26,10 +26,10 @@ def test_document(name):
     assert schemars_proved.schema_for(CLASSES[name]) == json.loads(EXPECTED[name])
 
 
-# What `lint` calls not plain has the keywords exclusiveMinimum and multipleOf. It warns of fields that are required
-# and may be null.
+# What `lint` calls not plain has the keywords exclusiveMinimum and multipleOf, or bounds of how many items or members
+# there are. It warns of fields that are required and may be null.
 @pytest.mark.parametrize("name", CLASSES)
 def test_table_is_plain(name):
     verdict, text = schemars_proved.lint(schemars_proved.table_for(CLASSES[name]))
-    assert verdict == ("not plain" if name == "Strict" else "plain"), text
-    assert "warning" not in text or name in ("Even", "Odd")
+    assert verdict == ("not plain" if name in ("Strict", "Several") else "plain"), text
+    assert "warning" not in text or name in ("Even", "Odd", "Several", "Ints")
