@@ -100,9 +100,9 @@ out/node/schemars.wasm: $(library)/libschemars.so.1
 	@bindings/node/build $(library)/module.bc out/node
 
 node: out/node/schemars.wasm
-	@cp bindings/node/index.mjs bindings/node/index.d.ts bindings/node/schemars.mjs bindings/node/package.json LICENSE out/node
+	@cp bindings/node/index.mjs bindings/node/index.d.ts bindings/node/schemars.mjs bindings/node/package.json bindings/node/README.md LICENSE out/node
 	@tar -C out/node --transform 's#^#package/#' -czf out/schemars-proved-1.0.0.tgz \
-	    index.mjs index.d.ts schemars.mjs schemars.wasm package.json LICENSE
+	    index.mjs index.d.ts schemars.mjs schemars.wasm package.json README.md LICENSE
 	@echo out/schemars-proved-1.0.0.tgz
 
 page: out/node/schemars.wasm
