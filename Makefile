@@ -1,5 +1,5 @@
 # On a machine with the Rattle kit. `make help` lists the targets.
-.PHONY: help run derive-table lint validate derive program library install wheel node page openapi-example check test test-bindings
+.PHONY: help run derive-table lint validate derive program library install wheel node page dist test-dist openapi-example check test test-bindings
 
 TABLE = examples/vec-option-u8.json
 DIALECT = 2020-12
@@ -23,6 +23,7 @@ help:
 	@echo 'make library [PREFIX=/usr/local]                builds the C library of what is proved, in out/library'
 	@echo 'make install [PREFIX=/usr/local]                copies the programs, the C library and their manual pages'
 	@echo 'make wheel, make node, make page                build the packages for Python and node, and the page, in out'
+	@echo 'make dist, make test-dist                       write the files of a release into out/dist, and try each in an empty folder'
 	@echo 'make openapi-example                            writes examples/openapi/openapi.json anew'
 	@echo 'make check                                      all cases, outputs and tests by checked runs, without proofs'
 	@echo 'make test                                       the merge gate'
@@ -108,6 +109,13 @@ node: out/node/schemars.wasm
 page: out/node/schemars.wasm
 	@python3 bindings/page/make.py out/node/schemars.wasm out/schemars.html
 	@echo out/schemars.html
+
+# The files of a release, of what is proved: an archive, a Debian package, the packages for Python and node, the page, and their sums.
+dist: wheel node page
+	@tools/dist make out
+
+test-dist:
+	@tools/dist test out
 
 # Writes examples/openapi/openapi.json anew: its paths, and the definitions that the program prints for
 # its table.
