@@ -41,10 +41,9 @@ impl<'a> Builder<'a> {
             let Some(way) = ways.get(number) else {
                 return Ok(came);
             };
-            let module = String::from_str(self.alloc(), way.module.as_str())?;
             let path = String::from_str(self.alloc(), way.path.as_str())?;
-            let found = self.follow(module, path.as_str(), &mut ways)?;
-            match found {
+            let (base, rest, is_fixed) = self.descend(way.module.as_str(), path.as_str())?;
+            match self.look_up(base.as_str(), rest, is_fixed, &mut ways)? {
                 Some(Resolved::Own(item)) => return Ok(Resolved::Own(item)),
                 Some(other) if is_lost(&came) => came = other,
                 _ => {}
@@ -74,14 +73,14 @@ impl<'a> Builder<'a> {
         Ok(())
     }
 
-    // Looks a path up, through the modules that it begins with.
-    fn follow(
+    // Goes through the modules that a path begins with, and returns the last, the rest of the path, and
+    // whether there are any.
+    fn descend<'s>(
         &self,
-        module: String,
-        path: &str,
-        ways: &mut Vec<Way>,
-    ) -> Result<Option<Resolved>, Fault> {
-        let mut base = module;
+        module: &str,
+        path: &'s str,
+    ) -> Result<(String, &'s str, bool), AllocError> {
+        let mut base = String::from_str(self.alloc(), module)?;
         let mut rest = path;
         let mut is_fixed = false;
         if let Some(inside) = self.behind_root(path) {
@@ -96,7 +95,7 @@ impl<'a> Builder<'a> {
             rest = inside;
             is_fixed = true;
         }
-        self.look_up(base.as_str(), rest, is_fixed, ways)
+        Ok((base, rest, is_fixed))
     }
 
     // What is left of a path behind that of the source's root, if it begins so.
@@ -105,7 +104,11 @@ impl<'a> Builder<'a> {
             Some(home) => home.as_str(),
             None => "crate",
         };
-        path.strip_prefix(root)?.strip_prefix("::")
+        let rest = path.strip_prefix(root)?;
+        if rest.is_empty() {
+            return Some(rest);
+        }
+        rest.strip_prefix("::")
     }
 
     // Goes into the module that a path begins with, and returns the rest; none if it begins with no
@@ -186,8 +189,8 @@ impl<'a> Builder<'a> {
         Ok(is_there)
     }
 
-    // Adds the paths for which a path may stand by the globs of a module. A glob of another crate brings
-    // in no module whose types are known.
+    // Adds the paths for which a path may stand by the globs of a module. One of another crate brings in
+    // no module whose types are known.
     fn push_globs(
         &self,
         ways: &mut Vec<Way>,
@@ -196,10 +199,15 @@ impl<'a> Builder<'a> {
         is_name: bool,
     ) -> Result<(), Fault> {
         for glob in &self.source.uses.globs {
-            if glob.module.as_str() == module && (is_name || is_local(&glob.path)) {
+            if glob.module.as_str() == module {
                 self.require_known(glob.condition)?;
                 let head = self.path_text(&glob.path)?;
-                self.push_way(ways, module, head.as_str(), path)?;
+                let (base, rest, _) = self.descend(module, head.as_str())?;
+                if rest.is_empty() {
+                    self.push_way(ways, base.as_str(), "self", path)?;
+                } else if is_name {
+                    self.push_way(ways, module, head.as_str(), path)?;
+                }
             }
         }
         Ok(())
@@ -312,13 +320,6 @@ fn is_named(name: &str, segments: &[String]) -> bool {
         Some(first) => first.as_str() == name,
         None => false,
     }
-}
-
-// Whether a path is one of the source.
-fn is_local(segments: &[String]) -> bool {
-    ["crate", "self", "super"]
-        .iter()
-        .any(|word| is_named(word, segments))
 }
 
 fn behind_first(segments: &[String]) -> &[String] {
