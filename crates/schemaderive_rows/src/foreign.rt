@@ -428,6 +428,11 @@ enum Special {
     TimeDelta,
 }
 
+/// Whether this is a type with a row of its own kind of the crate with this name.
+pub fn is_special(name: &str, origin: &str) -> bool {
+    !origin.is_empty() && special_named(name, origin).is_some()
+}
+
 fn special_named(name: &str, origin: &str) -> Option<Special> {
     match name {
         "Decimal" if ["", "rust_decimal"].contains(&origin) => Some(Special::Decimal),

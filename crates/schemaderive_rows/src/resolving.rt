@@ -1,5 +1,6 @@
 //! What paths stand for.
 use crate::builder::{Builder, Item, joined, push_segment};
+use crate::foreign::is_special;
 use schemaderive_known::is_crate;
 use schemaderive_options::UNDECIDED;
 use schemaderive_syntax::{Fault, Place};
@@ -45,7 +46,7 @@ impl<'a> Builder<'a> {
             let (base, rest, is_fixed) = self.descend(way.module.as_str(), path.as_str())?;
             match self.look_up(base.as_str(), rest, is_fixed, &mut ways)? {
                 Some(Resolved::Own(item)) => return Ok(Resolved::Own(item)),
-                Some(other) if is_lost(&came) => came = other,
+                Some(other) if is_lost(&came) || is_certain(&other) => came = other,
                 _ => {}
             }
         }
@@ -305,6 +306,14 @@ fn parent(module: &str) -> &str {
 fn is_lost(resolved: &Resolved) -> bool {
     match resolved {
         Resolved::Lost(name) => name.is_empty(),
+        _ => false,
+    }
+}
+
+// Whether a name of a crate is one that another crate has too.
+fn is_certain(resolved: &Resolved) -> bool {
+    match resolved {
+        Resolved::Foreign(name, origin) => is_special(name.as_str(), origin.as_str()),
         _ => false,
     }
 }

@@ -345,6 +345,7 @@ impl<'a, 'g> Reader<'a, 'g> {
         Ok(())
     }
 
+    // Reads a constant. What begins so may be a parameter of an item that is passed over.
     fn read_constant(
         &mut self,
         cursor: &mut Cursor<'a>,
@@ -354,9 +355,14 @@ impl<'a, 'g> Reader<'a, 'g> {
         let Some(name) = cursor.take_name() else {
             return Ok(());
         };
-        let _ = cursor.up_to(&['=', ';'], true);
-        let _ = cursor.take_symbol('=');
-        let value = cursor.up_to(&[';'], false);
+        let _ = cursor.up_to(&['=', ';', ',', '>', '{'], true);
+        if !cursor.take_symbol('=') {
+            return Ok(());
+        }
+        let value = cursor.up_to(&[';', ',', '>'], false);
+        if !cursor.is_symbol(0, ';') {
+            return Ok(());
+        }
         let module = self.module()?;
         self.source.constants.push(Constant {
             module,
@@ -380,11 +386,13 @@ fn condition_in<'a>(attributes: &[Meta<'a>]) -> Option<Meta<'a>> {
 
 // Goes past an item, whose attributes are behind.
 fn skip_item(cursor: &mut Cursor<'_>) {
-    let ends_in_group = !["use", "const", "static", "type"]
+    let has_value = ["use", "static", "type"]
         .iter()
         .any(|word| cursor.is_word(word));
+    let is_constant = cursor.is_word("const") && cursor.is_symbol(2, ':');
     for _ in 0..cursor.len() {
-        let is_end = cursor.is_symbol(0, ';') || (ends_in_group && cursor.is_symbol(0, '{'));
+        let is_group = cursor.is_symbol(0, '{') && !has_value && !is_constant;
+        let is_end = cursor.is_symbol(0, ';') || is_group;
         cursor.skip_tree();
         if is_end || cursor.is_empty() {
             break;
