@@ -13,7 +13,8 @@ use std::{env, fs, io};
 // Why nothing is written.
 enum Stop {
     Usage,
-    Refused(Refusal),
+    // in this file, or in standard input
+    Refused(Option<String>, Refusal),
     Failed(io::Error),
 }
 
@@ -30,8 +31,8 @@ fn main(rt: HostRuntime) -> ExitCode {
             let _ = eprintln!(rt; "{}", USAGE);
             ExitCode::from(2)
         }
-        Err(Stop::Refused(refusal)) => {
-            if let Ok(line) = place_line(rt.alloc(), "", &refusal) {
+        Err(Stop::Refused(file, refusal)) => {
+            if let Ok(line) = place_line(rt.alloc(), &file, "", &refusal) {
                 let _ = eprintln!(rt; "{}", line.as_str());
             }
             ExitCode::from(1)
@@ -55,7 +56,7 @@ fn run_program<R: Env + Alloc<A = Global> + Files + Input + Print + Eprint>(
     match command {
         Command::Derive(asked) => {
             let text = source_text(rt, &asked.file)?;
-            write_output(rt, derived(rt.alloc(), text.as_str(), &asked))
+            write_output(rt, derived(rt.alloc(), text.as_str(), &asked), asked.file)
         }
         Command::Help => Ok(print!(rt; "{}", HELP)?),
         Command::Version => Ok(println!(rt; "{}", VERSION)?),
@@ -67,14 +68,15 @@ fn run_program<R: Env + Alloc<A = Global> + Files + Input + Print + Eprint>(
 fn write_output<R: Alloc<A = Global> + Print + Eprint>(
     rt: &R,
     came: Result<Output, Fault>,
+    file: Option<String>,
 ) -> Result<(), Stop> {
     let output = match came {
         Ok(output) => output,
-        Err(Fault::Refused(refusal)) => return Err(Stop::Refused(refusal)),
+        Err(Fault::Refused(refusal)) => return Err(Stop::Refused(file, refusal)),
         Err(Fault::OutOfMemory) => return Err(Stop::Failed(AllocError.into())),
     };
     for warning in &output.warnings {
-        match place_line(rt.alloc(), "warning: ", warning) {
+        match place_line(rt.alloc(), &file, "warning: ", warning) {
             Ok(line) => eprintln!(rt; "{}", line.as_str())?,
             Err(error) => return Err(Stop::Failed(error.into())),
         }

@@ -1,13 +1,15 @@
 //! The variants of enums.
 use crate::content::{Choice, Choices, Form, Payload};
 use crate::defining::{bare_part, only_part, tuple_parts};
-use crate::fields::struct_members;
+use crate::fields::{refuse_bare, struct_members};
 use schemaderive_options::{
-    ContainerOptions, Notes, VariantOptions, is_present, name_of, variant_options,
+    ContainerOptions, Context, DefaultValue, Notes, VariantOptions, is_present, name_of,
+    variant_options,
 };
 use schemaderive_rows::{Builder, Scope};
-use schemaderive_syntax::{Declaration, Fault, Field, Fields, Variant};
+use schemaderive_syntax::{Declaration, Fault, Field, Fields, Place, Variant};
 use std::alloc::{AllocError, Global};
+use std::collections::BTreeSet;
 use std::mem;
 
 /// The variants of an enum.
@@ -25,6 +27,9 @@ pub fn choices_of(
     let alloc = builder.alloc();
     let form = form_of(builder, declaration, options)?;
     let list = choice_list(builder, form, variants, options, scope)?;
+    if form != Form::Untagged {
+        refuse_repeated(&builder.context, &list)?;
+    }
     Ok(Choices {
         form,
         tag: copied(alloc, &options.tag)?,
@@ -32,6 +37,19 @@ pub fn choices_of(
         is_closed: options.is_closed,
         list,
     })
+}
+
+// Refuses two variants of one name.
+fn refuse_repeated(context: &Context, list: &[Choice]) -> Result<(), Fault> {
+    let mut names = BTreeSet::new(context.alloc);
+    for choice in list {
+        let name = choice.name.as_str();
+        if !names.insert(name)? {
+            let reason = "another variant has this name";
+            return Err(context.refused_name(choice.place, name, reason));
+        }
+    }
+    Ok(())
 }
 
 fn copied(alloc: Global, text: &Option<String>) -> Result<Option<String>, AllocError> {
@@ -81,12 +99,31 @@ fn form_of(
 ) -> Result<Form, Fault> {
     let has_tag = options.tag.is_some();
     let has_content = options.content.is_some();
+    let refused = match &options.default {
+        _ if options.transparent.is_some() => Some((options.transparent, "transparent")),
+        Some(DefaultValue::OfType(place) | DefaultValue::OfFunction(place)) => {
+            Some((Some(*place), "default"))
+        }
+        None => None,
+    };
+    if let Some((Some(place), name)) = refused {
+        return Err(
+            builder
+                .context
+                .refused_name(place, name, "an enum has none"),
+        );
+    }
     if let Some(place) = options.untagged {
         if has_tag || has_content {
             let reason = "there is a `tag` or a `content` too";
             return Err(builder.context.refused_name(place, "untagged", reason));
         }
         return Ok(Form::Untagged);
+    }
+    if same_text(&options.tag, &options.content) {
+        let reason = "the `tag` has the same name";
+        let place = declaration.place;
+        return Err(builder.context.refused_name(place, "content", reason));
     }
     if has_content && !has_tag {
         let reason = "there is no `tag`";
@@ -120,12 +157,46 @@ fn choice_of(
         true,
     )?;
     let payload = payload_of(builder, form, variant, said, options, scope)?;
+    if form == Form::Internal {
+        refuse_payload(builder, &payload, variant.place, &options.tag)?;
+    }
     Ok(Choice {
         name,
         place: variant.place,
         payload,
         notes: mem::replace(&mut said.notes, Notes::new(alloc)),
     })
+}
+
+// Refuses what can't be beside a tag: values without members, and a member with the tag's name.
+fn refuse_payload(
+    builder: &Builder<'_>,
+    payload: &Payload,
+    place: Place,
+    tag: &Option<String>,
+) -> Result<(), Fault> {
+    match payload {
+        Payload::Newtype(part) => refuse_bare(builder, part.row, place, "tag"),
+        Payload::Struct(members) => {
+            for member in &members.list {
+                if member.name.is_some() && same_text(&member.name, tag) {
+                    let place = member.part.place;
+                    let reason = "a field has the name of the tag";
+                    return Err(builder.context.refused_name(place, "tag", reason));
+                }
+            }
+            Ok(())
+        }
+        _ => Ok(()),
+    }
+}
+
+// Whether two texts are there and the same.
+fn same_text(first: &Option<String>, second: &Option<String>) -> bool {
+    match (first, second) {
+        (Some(first), Some(second)) => first.as_str() == second.as_str(),
+        _ => false,
+    }
 }
 
 fn payload_of(

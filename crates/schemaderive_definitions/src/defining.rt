@@ -4,7 +4,8 @@ use crate::content::{Content, Definition, Part};
 use crate::fields::struct_members;
 use crate::rules::{noted_part, whole_part};
 use schemaderive_options::{
-    ContainerOptions, FieldOptions, Notes, container_options, field_options, is_present,
+    ContainerOptions, DefaultValue, FieldOptions, Notes, container_options, field_options,
+    is_present,
 };
 use schemaderive_rows::{Builder, Scope, one_field};
 use schemaderive_syntax::{Body, Declaration, Fault, Field, Fields, Place, TypeExpr};
@@ -110,10 +111,9 @@ fn struct_content(
     options: &ContainerOptions,
     scope: &Scope,
 ) -> Result<Content, Fault> {
-    if options.is_transparent {
+    if let Some(place) = options.transparent {
         let Some(field) = one_field(&declaration.body) else {
             let reason = "a struct with one field is wanted";
-            let place = declaration.place;
             return Err(builder.context.refused_name(place, "transparent", reason));
         };
         return Ok(Content::Newtype(newtype_part(builder, field, scope)?));
@@ -148,7 +148,7 @@ pub fn tuple_parts(
 ) -> Result<Vec<Part>, Fault> {
     let mut parts = Vec::new(builder.alloc());
     for field in fields {
-        let options = field_options(&mut builder.context, &field.attributes)?;
+        let options = unnamed_options(builder, field)?;
         add_tuple_part(builder, &mut parts, field, &options, scope)?;
     }
     Ok(parts)
@@ -194,9 +194,29 @@ pub fn only_part(
     noted_part(builder, field, &options, scope)
 }
 
+// What attributes say of a field without a name, which has its place in each value.
+fn unnamed_options(builder: &mut Builder<'_>, field: &Field<'_>) -> Result<FieldOptions, Fault> {
+    let options = field_options(&mut builder.context, &field.attributes)?;
+    let refused = match (options.flat, options.skip_place, options.default) {
+        (Some(place), _, _) => Some((place, "flatten")),
+        (None, Some(place), _) => Some((place, "skip_serializing_if")),
+        (None, None, Some(DefaultValue::OfType(place) | DefaultValue::OfFunction(place))) => {
+            Some((place, "default"))
+        }
+        (None, None, None) => None,
+    };
+    match refused {
+        Some((place, name)) if options.skipped.is_none() => {
+            let reason = "a field without a name has its place in each value";
+            Err(builder.context.refused_name(place, name, reason))
+        }
+        _ => Ok(options),
+    }
+}
+
 // What attributes say of an only field, which can't be left out.
 fn only_options(builder: &mut Builder<'_>, field: &Field<'_>) -> Result<FieldOptions, Fault> {
-    let options = field_options(&mut builder.context, &field.attributes)?;
+    let options = unnamed_options(builder, field)?;
     match options.skipped {
         Some(place) => {
             let reason = "the only field of a tuple can't be left out";

@@ -2,11 +2,14 @@
 use crate::content::{Member, Members, Required};
 use crate::defaults::add_default;
 use crate::rules::part_of;
+use schemaderive_known::Kind;
 use schemaderive_options::{
-    Cases, ContainerOptions, DefaultValue, FieldOptions, field_options, is_present, name_of,
+    Cases, ContainerOptions, Context, DefaultValue, FieldOptions, field_options, is_present,
+    name_of,
 };
 use schemaderive_rows::{Builder, Scope};
-use schemaderive_syntax::{Fault, Field};
+use schemaderive_syntax::{Fault, Field, Place};
+use std::collections::BTreeSet;
 
 /// The members of a struct with these fields.
 ///
@@ -26,7 +29,22 @@ pub fn struct_members(
         let options = field_options(&mut builder.context, &field.attributes)?;
         add_member(builder, &mut list, field, &options, cases, container, scope)?;
     }
+    refuse_repeated(&builder.context, &list)?;
     Ok(Members { list, is_closed })
+}
+
+// Refuses two members of one name.
+fn refuse_repeated(context: &Context, list: &[Member]) -> Result<(), Fault> {
+    let mut names = BTreeSet::new(context.alloc);
+    for member in list {
+        if let Some(name) = &member.name {
+            if !names.insert(name.as_str())? {
+                let reason = "another field has this name";
+                return Err(context.refused_name(member.part.place, name.as_str(), reason));
+            }
+        }
+    }
+    Ok(())
 }
 
 // Adds the member of a field, if it is in the values of the table.
@@ -55,8 +73,8 @@ fn member_of(
     container: Option<&ContainerOptions>,
     scope: &Scope,
 ) -> Result<Member, Fault> {
-    if options.is_flat {
-        return flattened(builder, field, options, scope);
+    if let Some(place) = options.flat {
+        return flattened(builder, field, options, place, scope);
     }
     let name = name_of(
         &builder.context,
@@ -74,9 +92,11 @@ fn flattened(
     builder: &mut Builder<'_>,
     field: &Field<'_>,
     options: &FieldOptions,
+    place: Place,
     scope: &Scope,
 ) -> Result<Member, Fault> {
     let part = part_of(builder, field, options, scope)?;
+    refuse_bare(builder, part.row, place, "flatten")?;
     let is_there = !is_option(builder, part.row);
     Ok(Member {
         name: None,
@@ -86,6 +106,26 @@ fn flattened(
             serialize: is_there,
         },
     })
+}
+
+/// Refuses values that are numbers, truth values, texts or lists, where members are wanted.
+///
+/// # Errors
+///
+/// The row has such values.
+pub fn refuse_bare(
+    builder: &Builder<'_>,
+    row: usize,
+    place: Place,
+    name: &str,
+) -> Result<(), Fault> {
+    match builder.rows.get(row) {
+        Some(entry) if entry.kind != Kind::Other || entry.id.as_str() == "boolean" => {
+            let reason = "numbers, truth values, texts and lists have no members";
+            Err(builder.context.refused_name(place, name, reason))
+        }
+        _ => Ok(()),
+    }
 }
 
 fn is_option(builder: &Builder<'_>, row: usize) -> bool {

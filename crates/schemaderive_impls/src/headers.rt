@@ -45,7 +45,7 @@ impl Header {
             is_first = false;
         }
         for parameter in &declaration.parameters {
-            if let Parameter::Type(name, _) = parameter {
+            if let Parameter::Type(name, _, _) = parameter {
                 push_item(&mut self.ty, is_first, name)?;
                 is_first = false;
             }
@@ -62,7 +62,7 @@ impl Header {
         let used = used_parameters(builder.alloc(), declaration)?;
         let mut is_first = true;
         for (number, parameter) in declaration.parameters.iter().enumerate() {
-            if let Parameter::Type(name, bounds) = parameter {
+            if let Parameter::Type(name, bounds, _) = parameter {
                 self.add_name(is_first, name)?;
                 let is_used = used.get(number) != Some(&false);
                 self.add_bounds(builder, declaration, bounds, is_used)?;

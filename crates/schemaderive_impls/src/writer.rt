@@ -68,7 +68,7 @@ fn subjects_of(builder: &mut Builder<'_>) -> Result<Vec<Subject>, Fault> {
     let source = builder.source;
     let mut subjects = Vec::new(alloc);
     for (number, declaration) in source.declarations.iter().enumerate() {
-        if derives(alloc, &declaration.attributes)? {
+        if derives(&builder.context, &declaration.attributes)? {
             let subject = subject_of(builder, number, declaration)?;
             subjects.push(subject)?;
         }
@@ -168,7 +168,7 @@ fn keep_parameters(
         return Ok(());
     };
     for parameter in &declaration.parameters {
-        if let Parameter::Type(name, _) = parameter {
+        if let Parameter::Type(name, _, _) = parameter {
             if !writer.imports.keep(name)? {
                 let reason = "the file has this name for something else than a parameter";
                 return Err(builder.context.refused_name(subject.place, name, reason));

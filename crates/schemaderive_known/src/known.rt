@@ -40,6 +40,15 @@ impl Made {
             _ => 1,
         }
     }
+
+    /// How many arguments it may have: maps and sets may say how they hash, and a list how long it may be.
+    pub fn most(self) -> usize {
+        match self {
+            Made::Map => 3,
+            Made::Set | Made::UpTo | Made::Outcome | Made::Either => 2,
+            _ => 1,
+        }
+    }
 }
 
 // The first name of a path.
@@ -102,6 +111,33 @@ pub fn made_named(name: &str, origin: &str) -> Option<Made> {
         }
     }
     None
+}
+
+// The crates that have the types which are known here.
+const CRATES: [&str; 18] = [
+    "std",
+    "core",
+    "alloc",
+    "serde_json",
+    "indexmap",
+    "arrayvec",
+    "smallvec",
+    "either",
+    "uuid",
+    "url",
+    "jiff",
+    "chrono",
+    "smol_str",
+    "semver",
+    "bytes",
+    "schemars",
+    "rust_decimal",
+    "bigdecimal",
+];
+
+/// Whether this is the name of a crate that has types which are known here.
+pub fn is_crate(name: &str) -> bool {
+    CRATES.contains(&name)
 }
 
 // Whether what comes from there comes from this crate. What is only named comes from anywhere.
@@ -272,7 +308,7 @@ fn listed(name: &str) -> Option<&'static Listed> {
 // A name, its crate, and what its row has.
 type Listed = (&'static str, &'static str, Texts<'static>);
 
-static LISTED: [Listed; 22] = [
+static LISTED: [Listed; 24] = [
     ("str", "std", TEXT),
     ("String", "std", TEXT),
     ("Path", "std", TEXT),
@@ -280,6 +316,8 @@ static LISTED: [Listed; 22] = [
     ("SocketAddr", "std", TEXT),
     ("SocketAddrV4", "std", TEXT),
     ("SocketAddrV6", "std", TEXT),
+    ("OsStr", "std", OS_STRING),
+    ("OsString", "std", OS_STRING),
     ("ArrayString", "arrayvec", TEXT),
     ("SmolStr", "smol_str", TEXT),
     ("bool", "std", TRUTH_VALUE),
@@ -461,6 +499,19 @@ const TIME_DELTA: Texts<'static> = Texts {
     default: "",
     kind: Kind::List,
     is_inline: true,
+    type_name: "",
+    format: "",
+    length: "",
+};
+
+const OS_STRING: Texts<'static> = Texts {
+    id: "std::ffi::OsString",
+    name: "OsString",
+    shape: "{\"literal\":{\"oneOf\":[{\"type\":\"object\",\"properties\":{\"Unix\":{\"type\":\"array\",\"items\":{\"type\":\"integer\",\"format\":\"uint8\",\"minimum\":0,\"maximum\":255}}},\"required\":[\"Unix\"]},{\"type\":\"object\",\"properties\":{\"Windows\":{\"type\":\"array\",\"items\":{\"type\":\"integer\",\"format\":\"uint16\",\"minimum\":0,\"maximum\":65535}}},\"required\":[\"Windows\"]}]}}",
+    ty: "",
+    default: "",
+    kind: Kind::Other,
+    is_inline: false,
     type_name: "",
     format: "",
     length: "",

@@ -30,8 +30,8 @@ pub struct ContainerOptions {
     pub default: Option<DefaultValue>,
     /// whether its default is made of those of its fields
     pub derives_default: bool,
-    /// whether it is its only field
-    pub is_transparent: bool,
+    /// where it is said that it is its only field
+    pub transparent: Option<Place>,
     /// whether it is written in place
     pub is_inline: bool,
     /// the type that it stands for
@@ -55,7 +55,7 @@ impl ContainerOptions {
             is_closed: false,
             default: None,
             derives_default: false,
-            is_transparent: false,
+            transparent: None,
             is_inline: false,
             stands_for: None,
             is_converted: false,
@@ -87,7 +87,7 @@ impl ContainerOptions {
             "untagged" => self.untagged = Some(item.place),
             "deny_unknown_fields" => self.is_closed = true,
             "default" => self.default = Some(default_in(item)),
-            "transparent" => self.is_transparent = true,
+            "transparent" => self.transparent = Some(item.place),
             "inline" => self.is_inline = true,
             "with" => self.stands_for = Some(type_of(context, item)?),
             "from" | "try_from" | "into" => {}

@@ -17,8 +17,8 @@ pub const OTHER_NAME: &str = "the document has the other name alone, as that of 
 pub struct FieldOptions {
     /// the names that it gets
     pub names: Names,
-    /// whether its members are in the struct's own object
-    pub is_flat: bool,
+    /// where it is said that its members are in the struct's own object
+    pub flat: Option<Place>,
     /// what it is if it is missing
     pub default: Option<DefaultValue>,
     /// in which values it is
@@ -41,7 +41,7 @@ impl FieldOptions {
     fn new(context: &Context) -> FieldOptions {
         FieldOptions {
             names: Names::none(),
-            is_flat: false,
+            flat: None,
             default: None,
             presence: Presence::everywhere(),
             skipped: None,
@@ -54,7 +54,6 @@ impl FieldOptions {
     }
 
     fn read(&mut self, context: &mut Context, attributes: &[Meta<'_>]) -> Result<(), Fault> {
-        refuse_conditions(context, attributes)?;
         let items = read_options(context, attributes)?;
         let mut common = Common::new(context.alloc);
         for item in &items {
@@ -70,7 +69,7 @@ impl FieldOptions {
     fn read_item(&mut self, context: &mut Context, item: &Meta<'_>) -> Result<(), Fault> {
         match item.name {
             "rename" => self.names = names_in(context, item)?,
-            "flatten" => self.is_flat = true,
+            "flatten" => self.flat = Some(item.place),
             "default" => self.default = Some(default_in(item)),
             "skip" | "skip_serializing" | "skip_deserializing" => {
                 self.skipped = Some(item.place);
@@ -83,6 +82,10 @@ impl FieldOptions {
             "with" => self.stands_for = Some(type_of(context, item)?),
             "alias" => context.warn(item.place, item.name, OTHER_NAME)?,
             "serialize_with" | "deserialize_with" => {}
+            "inner" => {
+                let reason = "rules of what a list contains are not read";
+                return Err(context.refused_meta(item, reason));
+            }
             _ => return Err(context.refused_meta(item, "this is not known at a field")),
         }
         Ok(())
@@ -130,19 +133,4 @@ pub fn field_options(
     let mut options = FieldOptions::new(context);
     options.read(context, attributes)?;
     Ok(options)
-}
-
-/// Refuses a condition of compilation.
-///
-/// # Errors
-///
-/// There is one.
-pub fn refuse_conditions(context: &Context, attributes: &[Meta<'_>]) -> Result<(), Fault> {
-    for attribute in attributes {
-        if attribute.name == "cfg" {
-            let reason = "whether the condition holds is not known here";
-            return Err(context.refused_meta(attribute, reason));
-        }
-    }
-    Ok(())
 }

@@ -18,7 +18,7 @@ pub use case::Case;
 pub use container::{ContainerOptions, container_options};
 pub use context::{Context, Contract};
 pub use field::{FieldOptions, field_options};
-pub use lists::derives;
+pub use lists::{UNDECIDED, derives};
 pub use names::{Cases, Names, name_of};
 pub use notes::{Note, Notes};
 pub use shared::{DefaultValue, Presence, is_present};

@@ -7,10 +7,23 @@ use std::alloc::Global;
 ///
 /// # Errors
 ///
-/// A list of derives is none of Rust.
-pub fn derives(alloc: Global, attributes: &[Meta<'_>]) -> Result<bool, Fault> {
-    derives_name(alloc, attributes, "JsonSchema")
+/// A list of derives is none of Rust, or there is a condition of which it is not known whether it holds.
+pub fn derives(context: &Context, attributes: &[Meta<'_>]) -> Result<bool, Fault> {
+    let found = derives_name(context.alloc, attributes, "JsonSchema")?;
+    for attribute in attributes {
+        let decides = match attribute.value {
+            MetaValue::List(list) if attribute.name == "cfg_attr" => list.has_word("JsonSchema"),
+            _ => found && attribute.name == "cfg",
+        };
+        if decides {
+            return Err(context.refused_meta(attribute, UNDECIDED));
+        }
+    }
+    Ok(found)
 }
+
+/// What is said of a condition of which it is not known whether it holds.
+pub const UNDECIDED: &str = "whether the condition holds is not known here: say --cfg";
 
 /// Whether attributes derive what has this name.
 ///
@@ -38,7 +51,8 @@ fn has_name(alloc: Global, list: Cursor<'_>, name: &str) -> Result<bool, Fault> 
 ///
 /// # Errors
 ///
-/// A list is none of attributes, or an item stands twice that may stand once.
+/// A list is none of attributes, an item stands twice that may stand once, or there is a condition of
+/// which it is not known whether it holds.
 pub fn read_options<'a>(
     context: &Context,
     attributes: &[Meta<'a>],
@@ -49,8 +63,10 @@ pub fn read_options<'a>(
         add_items(context, attributes, source, &own, &mut items)?;
     }
     for attribute in attributes {
-        if attribute.name == "deprecated" && !has_item(&own, "deprecated") {
-            items.push(without_value(attribute))?;
+        match attribute.name {
+            "deprecated" if !has_item(&own, "deprecated") => items.push(without_value(attribute))?,
+            "cfg" | "cfg_attr" => return Err(context.refused_meta(attribute, UNDECIDED)),
+            _ => {}
         }
     }
     Ok(items)

@@ -79,6 +79,7 @@ impl Validation {
         let items = items_in(context, meta)?;
         for item in &items {
             match meta.name {
+                _ if REPORTED.contains(&item.name) => {}
                 "range" => self.read_bound(context, meta, item)?,
                 _ => self.read_length(context, meta, item)?,
             }
@@ -99,6 +100,12 @@ impl Validation {
             _ => return Err(context.refused_meta(item, "`min` or `max` is wanted here")),
         };
         let json = json_of(context, item)?;
+        if !json
+            .as_str()
+            .starts_with(|c: char| c == '-' || c.is_ascii_digit())
+        {
+            return Err(context.refused_meta(item, "a number is wanted here"));
+        }
         self.add(context, meta, kind, json.as_str())
     }
 
@@ -111,6 +118,9 @@ impl Validation {
     ) -> Result<(), Fault> {
         let json = json_of(context, item)?;
         let json = json.as_str();
+        if json.parse::<u64>().is_err() {
+            return Err(context.refused_meta(item, "a whole number of 64 bits is wanted here"));
+        }
         match item.name {
             "min" => self.add(context, meta, RuleKind::Shortest, json),
             "max" => self.add(context, meta, RuleKind::Longest, json),
@@ -179,15 +189,19 @@ fn pattern_of(context: &Context, meta: &Meta<'_>) -> Result<String, Fault> {
 fn named_pattern(context: &Context, meta: &Meta<'_>) -> Result<Option<String>, Fault> {
     let items = items_in(context, meta)?;
     for item in &items {
-        if item.name != "pattern" {
-            return Err(context.refused_meta(item, "a literal text is wanted here"));
-        }
-        if let MetaValue::Equals(cursor) = item.value {
-            return literal_text(context, cursor);
+        match item.value {
+            MetaValue::Equals(cursor) if item.name == "pattern" => {
+                return literal_text(context, cursor);
+            }
+            _ if REPORTED.contains(&item.name) => {}
+            _ => return Err(context.refused_meta(item, "a literal text is wanted here")),
         }
     }
     Ok(None)
 }
+
+// What rules have beside them, for those that report a value.
+const REPORTED: [&str; 2] = ["message", "code"];
 
 // The characters that mean something else in a pattern.
 const SPECIAL: &str = "\\.+*?()|[]{}^$#&-~";

@@ -79,7 +79,7 @@ pub fn literal_text(context: &Context, tokens: Cursor<'_>) -> Result<Option<Stri
     if cursor.is_word("concat") && cursor.is_symbol(1, '!') {
         let _ = cursor.advance();
         let _ = cursor.advance();
-        let inside = cursor.group(context.alloc)?;
+        let inside = cursor.group();
         return Ok(joined_text(context, inside)?);
     }
     let _ = cursor.take_symbol('&');
@@ -151,11 +151,10 @@ fn push_value(
             push_quoted(context.alloc, out, token.text.as_str())?;
             Ok(true)
         }
-        TokenKind::Number => Ok(push_number(cursor, out)?),
+        TokenKind::Number => push_number(context, cursor, out, ""),
         TokenKind::Symbol('-') => {
             let _ = cursor.advance();
-            out.push('-')?;
-            Ok(push_number(cursor, out)?)
+            push_number(context, cursor, out, "-")
         }
         TokenKind::Symbol('&') => {
             let _ = cursor.advance();
@@ -189,7 +188,7 @@ fn push_macro(
     }
     let _ = cursor.advance();
     let _ = cursor.advance();
-    let mut inside = cursor.group(context.alloc)?;
+    let mut inside = cursor.group();
     let is_read = push_value(context, &mut inside, out, depth - 1)?;
     Ok(is_read && inside.is_empty())
 }
@@ -203,7 +202,7 @@ fn push_group(
     is_object: bool,
     depth: usize,
 ) -> Result<bool, Fault> {
-    let mut inside = cursor.group(context.alloc)?;
+    let mut inside = cursor.group();
     out.push(if is_object { '{' } else { '[' })?;
     for number in 0..inside.len() {
         if inside.is_empty() {
@@ -238,13 +237,38 @@ fn push_key(context: &Context, cursor: &mut Cursor<'_>, out: &mut String) -> Res
     }
 }
 
-// Writes the number that comes next in decimal digits; false if there is none, or one that is
-// written otherwise.
-fn push_number(cursor: &mut Cursor<'_>, out: &mut String) -> Result<bool, AllocError> {
-    match cursor.advance() {
-        Some(token) if token.kind == TokenKind::Number => push_digits(out, token.text.as_str()),
-        _ => Ok(false),
+// Writes the number that comes next in decimal digits behind its sign; false if there is none, or one
+// that is written otherwise.
+fn push_number(
+    context: &Context,
+    cursor: &mut Cursor<'_>,
+    out: &mut String,
+    sign: &str,
+) -> Result<bool, Fault> {
+    let place = cursor.place();
+    let mut digits = String::from_str(context.alloc, sign)?;
+    let is_read = match cursor.advance() {
+        Some(token) if token.kind == TokenKind::Number => {
+            push_digits(&mut digits, token.text.as_str())?
+        }
+        _ => false,
+    };
+    if is_read && !is_in_json(digits.as_str()) {
+        return Err(context.refused(place, "a document has no such number"));
     }
+    out.push_str(digits.as_str())?;
+    Ok(is_read)
+}
+
+// Whether a document has this number: a whole one of 64 bits, or one that is finite.
+fn is_in_json(digits: &str) -> bool {
+    if digits.contains(|c: char| c == '.' || c == 'e' || c == 'E') {
+        return match digits.parse::<f64>() {
+            Ok(number) => number.is_finite(),
+            Err(_) => false,
+        };
+    }
+    digits.parse::<u64>().is_ok() || digits.parse::<i64>().is_ok()
 }
 
 fn push_digits(out: &mut String, text: &str) -> Result<bool, AllocError> {

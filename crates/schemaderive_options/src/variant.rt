@@ -1,6 +1,6 @@
 //! The attributes of a variant.
 use crate::context::Context;
-use crate::field::{OTHER_NAME, refuse_conditions};
+use crate::field::OTHER_NAME;
 use crate::lists::read_options;
 use crate::names::{Cases, Names, cases_in, names_in};
 use crate::notes::Notes;
@@ -37,7 +37,6 @@ impl VariantOptions {
     }
 
     fn read(&mut self, context: &mut Context, attributes: &[Meta<'_>]) -> Result<(), Fault> {
-        refuse_conditions(context, attributes)?;
         let items = read_options(context, attributes)?;
         let mut common = Common::new(context.alloc);
         for item in &items {

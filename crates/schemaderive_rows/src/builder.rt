@@ -1,7 +1,7 @@
 //! Rows that are being made.
 use schemaderive_known::Row;
 use schemaderive_options::Context;
-use schemaderive_syntax::Source;
+use schemaderive_syntax::{Fault, Place, Source};
 use std::alloc::{AllocError, Global};
 use std::collections::BTreeMap;
 
@@ -12,6 +12,10 @@ pub enum Item {
     Declaration(usize),
     /// the alias with this number
     Alias(usize),
+    /// the constant with this number
+    Constant(usize),
+    /// a module
+    Module,
 }
 
 /// What a parameter stands for.
@@ -126,12 +130,17 @@ pub struct Builder<'a> {
 
 impl<'a> Builder<'a> {
     /// A builder without rows.
-    pub fn new(context: Context, source: &'a Source<'a>) -> Result<Builder<'a>, AllocError> {
+    ///
+    /// # Errors
+    ///
+    /// Two types have the same path.
+    pub fn new(context: Context, source: &'a Source<'a>) -> Result<Builder<'a>, Fault> {
         let alloc = context.alloc;
+        let items = items_of(&context, source)?;
         Ok(Builder {
             context,
             source,
-            items: items_of(alloc, source)?,
+            items,
             rows: Vec::new(alloc),
             ids: BTreeMap::new(alloc),
             instances: Vec::new(alloc),
@@ -223,18 +232,69 @@ impl<'a> Builder<'a> {
     }
 }
 
-// What the paths of a source stand for.
-fn items_of(alloc: Global, source: &Source<'_>) -> Result<BTreeMap<String, Item>, AllocError> {
+// What the paths of a source stand for. Of what has the same path under several conditions one is kept
+// that has one.
+fn items_of(context: &Context, source: &Source<'_>) -> Result<BTreeMap<String, Item>, Fault> {
+    let alloc = context.alloc;
     let mut items = BTreeMap::new(alloc);
+    for module in &source.modules {
+        items.insert(String::from_str(alloc, module.as_str())?, Item::Module)?;
+    }
+    for (number, constant) in source.constants.iter().enumerate() {
+        let path = joined(alloc, constant.module.as_str(), constant.name)?;
+        items.insert(path, Item::Constant(number))?;
+    }
     for (number, declaration) in source.declarations.iter().enumerate() {
         let path = joined(alloc, declaration.module.as_str(), declaration.name)?;
-        items.insert(path, Item::Declaration(number))?;
+        let item = Item::Declaration(number);
+        if is_first(
+            context,
+            source,
+            items.get(path.as_str()),
+            item,
+            declaration.place,
+        )? {
+            items.insert(path, item)?;
+        }
     }
     for (number, alias) in source.aliases.iter().enumerate() {
         let path = joined(alloc, alias.module.as_str(), alias.name)?;
-        items.insert(path, Item::Alias(number))?;
+        let item = Item::Alias(number);
+        if is_first(context, source, items.get(path.as_str()), item, alias.place)? {
+            items.insert(path, item)?;
+        }
     }
     Ok(items)
+}
+
+// Whether a type is kept, of whose path there may be another.
+fn is_first(
+    context: &Context,
+    source: &Source<'_>,
+    other: Option<&Item>,
+    item: Item,
+    place: Place,
+) -> Result<bool, Fault> {
+    match other {
+        None | Some(Item::Module | Item::Constant(_)) => Ok(true),
+        Some(other) if is_conditional(source, *other) => Ok(false),
+        Some(_) if is_conditional(source, item) => Ok(true),
+        Some(_) => Err(context.refused(place, "another type has the same path")),
+    }
+}
+
+fn is_conditional(source: &Source<'_>, item: Item) -> bool {
+    match item {
+        Item::Declaration(number) => match source.declarations.get(number) {
+            Some(declaration) => declaration.attributes.iter().any(|it| it.name == "cfg"),
+            None => false,
+        },
+        Item::Alias(number) => match source.aliases.get(number) {
+            Some(alias) => alias.condition.is_some(),
+            None => false,
+        },
+        Item::Constant(_) | Item::Module => false,
+    }
 }
 
 /// A path of two.

@@ -209,7 +209,7 @@ impl<'a> Builder<'a> {
         made: Made,
         path: &str,
         arguments: &[usize],
-        length: Option<&str>,
+        length: &str,
     ) -> Result<Option<usize>, AllocError> {
         if arguments.len() < made.arity() {
             return Ok(None);
@@ -229,9 +229,9 @@ impl<'a> Builder<'a> {
             Made::Map if self.id(first) == "string" => &MAP_OF_TEXTS,
             Made::Map => &MAP,
         };
-        let beside = match (made, length) {
-            (Made::UpTo, Some(length)) => length,
-            (Made::UpTo, None) => return Ok(None),
+        let beside = match made {
+            Made::UpTo if length.is_empty() => return Ok(None),
+            Made::UpTo => length,
             _ => path,
         };
         Ok(Some(self.formed_row(form, arguments, beside)?))

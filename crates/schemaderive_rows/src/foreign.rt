@@ -1,9 +1,10 @@
 //! The rows of the types of other crates, and of constants.
-use crate::builder::{Builder, Scope, Value};
+use crate::builder::{Builder, Item, Scope, Value};
 use crate::containers::{ARGUMENTS, DURATION, Form, SYSTEM_TIME, Text};
+use crate::resolving::Resolved;
 use schemaderive_known::{Kind, Made, Makeup, Row, Texts, known_row, nonzero_name, path_of};
 use schemaderive_options::Contract;
-use schemaderive_syntax::{Fault, Place, TypeExpr};
+use schemaderive_syntax::{Fault, Place, TypeExpr, read_length};
 use std::alloc::AllocError;
 
 impl<'a> Builder<'a> {
@@ -45,7 +46,7 @@ impl<'a> Builder<'a> {
         scope: &Scope,
         place: Place,
     ) -> Result<bool, Fault> {
-        Ok(self.length_of(length, scope, place)? == "0")
+        Ok(self.length_of(length, scope, place)?.as_str() == "0")
     }
 
     /// The row of an array with items of this row.
@@ -61,7 +62,7 @@ impl<'a> Builder<'a> {
         place: Place,
     ) -> Result<usize, Fault> {
         let length = self.length_of(length, scope, place)?;
-        Ok(self.array_row(item, length)?)
+        Ok(self.array_row(item, length.as_str())?)
     }
 
     /// The row of what a type is made of arguments with these rows.
@@ -81,8 +82,11 @@ impl<'a> Builder<'a> {
         if made == Made::Small {
             return self.row_of_small(rows, place);
         }
-        let length = length_in(arguments, scope);
-        match self.made_row(made, path_of(name), rows, length)? {
+        let length = match arguments.get(1) {
+            Some(argument) if made == Made::UpTo => self.constant_in(argument, scope, place)?,
+            _ => String::new(self.alloc()),
+        };
+        match self.made_row(made, path_of(name), rows, length.as_str())? {
             Some(row) => Ok(row),
             None => Err(self.context.refused(place, "an argument is missing here")),
         }
@@ -100,8 +104,13 @@ impl<'a> Builder<'a> {
         arguments: &[TypeExpr],
         place: Place,
     ) -> Result<usize, Fault> {
+        let most = if WITH_ONE.contains(&name) { 1 } else { 0 };
+        if arguments.len() > most && self.is_known(name, origin, true)? {
+            return Err(self.context.refused_name(place, name, TOO_MANY));
+        }
         match special_named(name, origin) {
-            Some(Special::Decimal) => self.decimal_row(name, place),
+            Some(Special::Decimal) => self.wide_row(&DECIMAL, place),
+            Some(Special::CString) => self.wide_row(&C_STRING, place),
             Some(Special::Duration) => Ok(self.time_row(&DURATION)?),
             Some(Special::SystemTime) => Ok(self.time_row(&SYSTEM_TIME)?),
             Some(Special::TimeDelta) => self.plain_known("TimeDelta", origin, arguments, place),
@@ -135,6 +144,35 @@ impl<'a> Builder<'a> {
         Ok(known_row(self.alloc(), name, origin, has_arguments)?.is_some())
     }
 
+    /// The row of the type with this path in a module that is declared elsewhere, with these arguments.
+    ///
+    /// # Errors
+    ///
+    /// It has no path, by which it could be named elsewhere.
+    pub fn row_elsewhere(
+        &mut self,
+        segments: &[String],
+        parts: &[usize],
+        scope: &Scope,
+        place: Place,
+    ) -> Result<usize, Fault> {
+        let path = self.path_elsewhere(scope.module.as_str(), segments)?;
+        self.row_of_elsewhere(path.as_str(), parts, place)
+    }
+
+    /// The fault of a path that leads to no type, since the source has no module of this name.
+    ///
+    /// # Errors
+    ///
+    /// Memory runs out.
+    pub fn lost(&self, path: &str, module: &str, place: Place) -> Result<Fault, AllocError> {
+        if module.is_empty() {
+            return Ok(self.context.refused_name(place, path, UNKNOWN));
+        }
+        let reason = format!(in self.alloc(); "there is no module `{module}` in this file")?;
+        Ok(self.context.refused_name(place, path, reason.as_str()))
+    }
+
     /// The row of a type that is declared elsewhere, with these arguments. What it is made of is not
     /// known.
     ///
@@ -147,7 +185,7 @@ impl<'a> Builder<'a> {
         rows: &[usize],
         place: Place,
     ) -> Result<usize, Fault> {
-        if !path.contains("::") {
+        if self.home.is_none() || !path.contains("::") {
             return Err(self.context.refused_name(place, path, UNKNOWN));
         }
         let mut row = Row::empty(self.alloc());
@@ -182,29 +220,25 @@ impl<'a> Builder<'a> {
         }
     }
 
-    // The row of decimals, which are read from numbers too.
-    fn decimal_row(&mut self, name: &str, place: Place) -> Result<usize, Fault> {
+    // The row of a type that is read from more than what is written.
+    fn wide_row(&mut self, wide: &Wide, place: Place) -> Result<usize, Fault> {
         let shape = match self.context.contract {
-            Contract::Deserialize => {
-                "{\"literal\":{\"type\":[\"string\",\"number\"],\"pattern\":\"^-?\\\\d+(\\\\.\\\\d+)?([eE]\\\\d+)?$\"}}"
-            }
-            Contract::Serialize => {
-                "{\"literal\":{\"type\":\"string\",\"pattern\":\"^-?\\\\d+(\\\\.\\\\d+)?$\"}}"
-            }
+            Contract::Deserialize => wide.read,
+            Contract::Serialize => wide.written,
             Contract::Both => {
                 let reason =
                     "what is read and what is written differ: say --deserialize or --serialize";
-                return Err(self.context.refused_name(place, name, reason));
+                return Err(self.context.refused_name(place, wide.name, reason));
             }
         };
         let texts = Texts {
-            id: "Decimal",
-            name: "Decimal",
+            id: wide.id,
+            name: wide.name,
             shape,
             ty: "",
             default: "",
-            kind: Kind::Other,
-            is_inline: true,
+            kind: wide.kind,
+            is_inline: wide.is_inline,
             type_name: "",
             format: "",
             length: "",
@@ -214,19 +248,72 @@ impl<'a> Builder<'a> {
     }
 
     // The number that a length is.
-    fn length_of<'t>(
-        &self,
-        length: &'t str,
-        scope: &'t Scope,
-        place: Place,
-    ) -> Result<&'t str, Fault> {
-        if length.starts_with(|c: char| c.is_ascii_digit()) {
-            return Ok(length);
-        }
-        match scope.constant(length) {
-            Some(text) => Ok(text),
+    fn length_of(&self, length: &str, scope: &Scope, place: Place) -> Result<String, Fault> {
+        match self.sum_of(length, scope, place)? {
+            Some(number) => Ok(format!(in self.alloc(); "{number}")?),
             None => Err(self.unknown_length(length, place)?),
         }
+    }
+
+    // The sum of numbers and constants; none if one of them is not known.
+    fn sum_of(&self, length: &str, scope: &Scope, place: Place) -> Result<Option<u64>, Fault> {
+        let mut terms = Vec::new(self.alloc());
+        for part in length.split('+') {
+            let text = scope.constant(part).unwrap_or(part);
+            self.push_term(&mut terms, scope.module.as_str(), text)?;
+        }
+        let mut sum = 0u64;
+        for _ in 0..MAX_TERMS {
+            let Some((module, text)) = terms.pop() else {
+                return Ok(Some(sum));
+            };
+            let number = match text.parse::<u64>() {
+                Ok(number) => Some(number),
+                Err(_) if self.push_constant(&mut terms, module.as_str(), text.as_str(), place)? =>
+                    { Some(0) }
+                Err(_) => None,
+            };
+            match number.and_then(|number| sum.checked_add(number)) {
+                Some(more) => sum = more,
+                None => return Ok(None),
+            }
+        }
+        Ok(None)
+    }
+
+    // Adds what a constant is the sum of; false if this is the path of none.
+    fn push_constant(
+        &self,
+        terms: &mut Vec<(String, String)>,
+        module: &str,
+        path: &str,
+        place: Place,
+    ) -> Result<bool, Fault> {
+        let Resolved::Own(Item::Constant(number)) = self.resolve(module, path, place)? else {
+            return Ok(false);
+        };
+        let source = self.source;
+        let Some(constant) = source.constants.get(number) else {
+            return Ok(false);
+        };
+        self.require_known(constant.condition)?;
+        let text = read_length(self.alloc(), constant.value)?;
+        for part in text.as_str().split('+') {
+            self.push_term(terms, constant.module.as_str(), part)?;
+        }
+        Ok(true)
+    }
+
+    fn push_term(
+        &self,
+        terms: &mut Vec<(String, String)>,
+        module: &str,
+        text: &str,
+    ) -> Result<(), AllocError> {
+        let module = String::from_str(self.alloc(), module)?;
+        let text = String::from_str(self.alloc(), text)?;
+        terms.push((module, text))?;
+        Ok(())
     }
 
     fn unknown_length(&self, length: &str, place: Place) -> Result<Fault, AllocError> {
@@ -280,42 +367,79 @@ impl<'a> Builder<'a> {
         place: Place,
     ) -> Result<String, Fault> {
         let text = match argument {
-            TypeExpr::Constant(text) => text.as_str(),
-            TypeExpr::Path { segments, .. } => match segments.first() {
-                Some(name) => self.length_of(name.as_str(), scope, place)?,
-                None => return Err(self.context.refused(place, "a constant is wanted here")),
-            },
+            TypeExpr::Constant(number) => String::from_str(self.alloc(), number.as_str())?,
+            TypeExpr::Path { segments, .. } => self.path_text(segments)?,
             _ => return Err(self.context.refused(place, "a constant is wanted here")),
         };
-        Ok(String::from_str(self.alloc(), text)?)
+        match argument {
+            TypeExpr::Constant(_) if !text.starts_with(|c: char| c.is_ascii_digit()) => Ok(text),
+            _ if ["true", "false"].contains(&text.as_str()) => Ok(text),
+            _ => self.length_of(text.as_str(), scope, place),
+        }
     }
 }
+
+// How many numbers and constants a length may be the sum of.
+const MAX_TERMS: usize = 64;
+
+// The types that are not made of others and have an argument.
+const WITH_ONE: [&str; 3] = ["DateTime", "PhantomData", "ArrayString"];
+
+/// What is said of a type with more arguments than it has parameters.
+pub const TOO_MANY: &str = "there are too many arguments";
 
 const UNKNOWN: &str = "no type of this name is declared here, and none is known";
 
-// The constant that is the second argument.
-fn length_in<'t>(arguments: &'t [TypeExpr], scope: &'t Scope) -> Option<&'t str> {
-    match arguments.get(1)? {
-        TypeExpr::Constant(text) => Some(text.as_str()),
-        TypeExpr::Path { segments, .. } if segments.len() == 1 => {
-            scope.constant(segments.first()?.as_str())
-        }
-        _ => None,
-    }
+// A type that is read from more than what is written.
+struct Wide {
+    id: &'static str,
+    name: &'static str,
+    read: &'static str,
+    written: &'static str,
+    kind: Kind,
+    is_inline: bool,
 }
+
+const DECIMAL: Wide = Wide {
+    id: "Decimal",
+    name: "Decimal",
+    read: "{\"literal\":{\"type\":[\"string\",\"number\"],\"pattern\":\"^-?\\\\d+(\\\\.\\\\d+)?([eE]\\\\d+)?$\"}}",
+    written: "{\"literal\":{\"type\":\"string\",\"pattern\":\"^-?\\\\d+(\\\\.\\\\d+)?$\"}}",
+    kind: Kind::Other,
+    is_inline: true,
+};
+
+const C_STRING: Wide = Wide {
+    id: "std::ffi::CString",
+    name: "CString",
+    read: "{\"literal\":{\"type\":[\"array\",\"string\"],\"items\":{\"type\":\"integer\",\"minimum\":1,\"maximum\":255}}}",
+    written: "{\"literal\":{\"type\":\"array\",\"items\":{\"type\":\"integer\",\"minimum\":1,\"maximum\":255}}}",
+    kind: Kind::List,
+    is_inline: false,
+};
 
 // A type with a row of its own kind, beside those that are listed.
 #[derive(Clone, Copy)]
 enum Special {
     Decimal,
+    CString,
     Duration,
     SystemTime,
     TimeDelta,
 }
 
+/// Whether this is a type with a row of its own kind of the crate with this name.
+pub fn is_special(name: &str, origin: &str) -> bool {
+    !origin.is_empty() && special_named(name, origin).is_some()
+}
+
 fn special_named(name: &str, origin: &str) -> Option<Special> {
     match name {
-        "Decimal" | "BigDecimal" => Some(Special::Decimal),
+        "Decimal" if ["", "rust_decimal"].contains(&origin) => Some(Special::Decimal),
+        "BigDecimal" if ["", "bigdecimal"].contains(&origin) => Some(Special::Decimal),
+        "CString" | "CStr" if ["", "std", "core", "alloc"].contains(&origin) => Some(
+            Special::CString,
+        ),
         "Duration" if origin == "chrono" => Some(Special::TimeDelta),
         "Duration" if ["", "std", "core"].contains(&origin) => Some(Special::Duration),
         "SystemTime" if ["", "std"].contains(&origin) => Some(Special::SystemTime),

@@ -56,7 +56,7 @@ impl<'a> Builder<'a> {
     ///
     /// It does not.
     pub fn require_derive(&self, declaration: &Declaration<'_>, place: Place) -> Result<(), Fault> {
-        if derives(self.alloc(), &declaration.attributes)? {
+        if derives(&self.context, &declaration.attributes)? {
             return Ok(());
         }
         let reason = "this type does not derive JsonSchema";
@@ -98,6 +98,14 @@ impl<'a> Builder<'a> {
         scope: &Scope,
     ) -> Result<Option<usize>, Fault> {
         self.fill_declared(row, declaration, scope)?;
+        if row.id.len() > MAX_LENGTH {
+            let reason =
+                "the arguments of this type are too long: does it contain itself with larger ones?";
+            return Err(
+                self.context
+                    .refused_name(declaration.place, declaration.name, reason),
+            );
+        }
         let known = self.row_by_id(row.id.as_str(), row.ty.as_str());
         if known.is_none() {
             self.fill_named(row, declaration, scope)?;
@@ -301,6 +309,9 @@ impl<'a> Builder<'a> {
     }
 }
 
+// How long the id of a type with arguments may be.
+const MAX_LENGTH: usize = 2_000;
+
 // What stands around the parameters in a name.
 const NAMED_FOR: Marks = Marks {
     before: "_for_",
@@ -313,7 +324,7 @@ fn standing_of(options: &mut ContainerOptions) -> Option<Standing> {
     if !options.notes.is_empty() || is_renamed(options) || options.is_converted {
         return Some(Standing::Itself);
     }
-    if options.is_transparent {
+    if options.transparent.is_some() {
         return None;
     }
     Some(match options.stands_for.take() {

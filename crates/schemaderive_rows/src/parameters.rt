@@ -2,7 +2,7 @@
 use crate::builder::{Binding, Builder, Scope, Value};
 use schemaderive_known::{Kind, Row, Texts};
 use schemaderive_syntax::{
-    Body, Cursor, Declaration, Fault, Field, Fields, MetaValue, Parameter, TypeExpr,
+    Body, Declaration, Fault, Field, Fields, MetaValue, Parameter, TypeExpr,
 };
 use std::alloc::{AllocError, Global};
 
@@ -22,7 +22,7 @@ impl<'a> Builder<'a> {
     pub fn parameter_scope(&mut self, declaration: &Declaration<'_>) -> Result<Scope, Fault> {
         let mut scope = Scope::new(self.alloc(), declaration.module.as_str())?;
         for parameter in &declaration.parameters {
-            let Parameter::Type(name, _) = parameter else {
+            let Parameter::Type(name, _, _) = parameter else {
                 let place = declaration.place;
                 let reason = "an implementation for a type with a constant is not written";
                 return Err(self.context.refused_name(place, declaration.name, reason));
@@ -63,13 +63,27 @@ impl<'a> Builder<'a> {
     }
 }
 
-/// The only field of a struct.
+/// The only field of a struct that is in its values.
 pub fn one_field<'a, 'b>(body: &'b Body<'a>) -> Option<&'b Field<'a>> {
-    match body {
-        Body::Struct(Fields::Tuple(fields) | Fields::Named(fields)) if fields.len() == 1 => {
-            fields.first()
+    let Body::Struct(Fields::Tuple(fields) | Fields::Named(fields)) = body else {
+        return None;
+    };
+    let mut found = None;
+    for field in fields {
+        if !is_skipped(field) && !is_marker(&field.ty) {
+            if found.is_some() {
+                return None;
+            }
+            found = Some(field);
         }
-        _ => None,
+    }
+    found
+}
+
+fn is_marker(ty: &TypeExpr) -> bool {
+    match ty {
+        TypeExpr::Path { segments, .. } => is_phantom(segments),
+        _ => false,
     }
 }
 
@@ -90,8 +104,8 @@ pub fn used_parameters(
 /// constant always does.
 pub fn is_used_in(parameter: &Parameter<'_>, body: &Body<'_>) -> bool {
     match parameter {
-        Parameter::Constant(_) => true,
-        Parameter::Type(name, _) => occurs(body, name),
+        Parameter::Constant(_, _) => true,
+        Parameter::Type(name, _, _) => occurs(body, name),
     }
 }
 
@@ -127,21 +141,10 @@ fn occurs_in_fields(fields: &Fields<'_>, name: &str) -> bool {
 fn is_skipped(field: &Field<'_>) -> bool {
     for attribute in &field.attributes {
         if let MetaValue::List(list) = attribute.value {
-            if ["serde", "schemars"].contains(&attribute.name) && has_word(list, "skip") {
+            if ["serde", "schemars"].contains(&attribute.name) && list.has_word("skip") {
                 return true;
             }
         }
-    }
-    false
-}
-
-fn has_word(list: Cursor<'_>, word: &str) -> bool {
-    let mut cursor = list;
-    for _ in 0..list.len() {
-        if cursor.is_word(word) {
-            return true;
-        }
-        let _ = cursor.advance();
     }
     false
 }

@@ -1,5 +1,6 @@
 //! The rows of types as they are written.
 use crate::builder::{Binding, Builder, Item, Scope, Value};
+use crate::foreign::TOO_MANY;
 use crate::instances::Standing;
 use crate::parameters::{is_used_in, one_field};
 use crate::resolving::Resolved;
@@ -124,12 +125,20 @@ impl<'a> Builder<'a> {
         if depth == 0 {
             return Err(self.context.refused(place, "this nests too deeply"));
         }
-        match self.resolve(scope.module.as_str(), segments)? {
+        let path = self.path_text(segments)?;
+        match self.resolve(scope.module.as_str(), path.as_str(), place)? {
             Resolved::Own(Item::Declaration(number)) => {
                 self.row_of_declaration(number, arguments, scope, place, depth - 1)
             }
             Resolved::Own(Item::Alias(number)) => {
                 self.row_of_alias(number, arguments, scope, place, depth - 1)
+            }
+            Resolved::Lost(name) if self.home.is_none() => {
+                Err(self.lost(path.as_str(), name.as_str(), place)?)
+            }
+            Resolved::Own(Item::Constant(_) | Item::Module) | Resolved::Lost(_) => {
+                let parts = self.rows_of(arguments, arguments.len(), scope, place, depth - 1)?;
+                self.row_elsewhere(segments, &parts, scope, place)
             }
             Resolved::Foreign(name, origin) => {
                 let name = name.as_str();
@@ -138,21 +147,14 @@ impl<'a> Builder<'a> {
                     Some(made) => {
                         self.row_of_made(made, name, arguments, scope, place, depth - 1)
                     }
-                    None
-                        if self.home.is_none()
-                            || self.is_known(name, origin, !arguments.is_empty())? => {
+                    None if self.is_known(name, origin, !arguments.is_empty())? => {
                         self.row_of_known(name, origin, arguments, place)
                     }
+                    None if self.home.is_none() => Err(self.lost(path.as_str(), "", place)?),
                     None => {
-                        let rows = self.rows_of(
-                            arguments,
-                            arguments.len(),
-                            scope,
-                            place,
-                            depth - 1,
-                        )?;
-                        let path = self.path_elsewhere(scope.module.as_str(), segments)?;
-                        self.row_of_elsewhere(path.as_str(), &rows, place)
+                        let count = arguments.len();
+                        let parts = self.rows_of(arguments, count, scope, place, depth - 1)?;
+                        self.row_elsewhere(segments, &parts, scope, place)
                     }
                 }
             }
@@ -172,6 +174,9 @@ impl<'a> Builder<'a> {
     ) -> Result<usize, Fault> {
         if depth == 0 {
             return Err(self.context.refused(place, "this nests too deeply"));
+        }
+        if arguments.len() > made.most() {
+            return Err(self.context.refused_name(place, name, TOO_MANY));
         }
         if made == Made::NonZero {
             return self.row_of_nonzero(arguments, place);
@@ -194,6 +199,7 @@ impl<'a> Builder<'a> {
         let Some(alias) = source.aliases.get(number) else {
             return Err(self.context.refused(place, "this alias is not there"));
         };
+        self.require_known(alias.condition)?;
         if depth == 0 {
             return Err(self.context.refused(place, "this nests too deeply"));
         }
@@ -228,7 +234,7 @@ impl<'a> Builder<'a> {
         if depth == 0 {
             return Err(self.context.refused(place, "this nests too deeply"));
         }
-        if self.home.is_some() && !derives(self.alloc(), &declaration.attributes)? {
+        if self.home.is_some() && !derives(&self.context, &declaration.attributes)? {
             let rows = self.rows_of(arguments, arguments.len(), scope, place, depth - 1)?;
             let path = self.path_to(declaration)?;
             return self.row_of_elsewhere(path.as_str(), &rows, place);
@@ -271,6 +277,9 @@ impl<'a> Builder<'a> {
         if depth == 0 {
             return Err(self.context.refused(place, "this nests too deeply"));
         }
+        if arguments.len() > parameters.len() {
+            return Err(self.context.refused(place, TOO_MANY));
+        }
         for (number, parameter) in parameters.iter().enumerate() {
             let is_used = match body {
                 Some(body) => is_used_in(parameter, body),
@@ -279,10 +288,15 @@ impl<'a> Builder<'a> {
             if !is_used && self.home.is_none() {
                 continue;
             }
-            let Some(argument) = arguments.get(number) else {
-                return Err(self.context.refused(place, "an argument is missing here"));
+            let mut binding = match (arguments.get(number), parameter.default()) {
+                (Some(argument), _) => self.binding(parameter, argument, scope, place, depth - 1)?,
+                (None, Some(argument)) => {
+                    self.binding(parameter, argument, inner, place, depth - 1)?
+                }
+                (None, None) => {
+                    return Err(self.context.refused(place, "an argument is missing here"));
+                }
             };
-            let mut binding = self.binding(parameter, argument, scope, place, depth - 1)?;
             binding.is_used = is_used;
             inner.bindings.push(binding)?;
         }
@@ -304,7 +318,7 @@ impl<'a> Builder<'a> {
             return Err(self.context.refused(place, "this nests too deeply"));
         }
         match parameter {
-            Parameter::Type(name, _) => {
+            Parameter::Type(name, _, _) => {
                 let row = self.row_of(argument, scope, place, depth - 1)?;
                 Ok(Binding {
                     name: String::from_str(alloc, name)?,
@@ -312,7 +326,7 @@ impl<'a> Builder<'a> {
                     is_used: true,
                 })
             }
-            Parameter::Constant(name) => {
+            Parameter::Constant(name, _) => {
                 let text = self.constant_in(argument, scope, place)?;
                 Ok(Binding {
                     name: String::from_str(alloc, name)?,

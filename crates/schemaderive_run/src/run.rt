@@ -27,11 +27,11 @@ pub fn derived(alloc: Global, text: &str, asked: &Asked) -> Result<Output, Fault
 }
 
 fn derived_of_tokens(alloc: Global, tokens: &[Token], asked: &Asked) -> Result<Output, Fault> {
-    let source = read_source(alloc, tokens, end_of(tokens))?;
+    let source = read_source(alloc, tokens, end_of(tokens), &asked.given)?;
     match &asked.wanted {
         Wanted::Table(root) => table(alloc, &source, root.as_str(), asked.contract),
         Wanted::Implementations(module) => {
-            implementations(alloc, &source, module.as_str(), asked.contract)
+            implementations(alloc, &source, module.as_str(), asked)
         }
     }
 }
@@ -56,21 +56,30 @@ fn implementations(
     alloc: Global,
     source: &Source<'_>,
     module: &str,
-    contract: Contract,
+    asked: &Asked,
 ) -> Result<Output, Fault> {
-    let flag = match contract {
-        Contract::Both => "",
-        Contract::Deserialize => " --deserialize",
-        Contract::Serialize => " --serialize",
-    };
-    let first = format!(in alloc;
-        "//! Written by `schemaderive --impls {module}{flag}`, which writes it anew: edit the declarations."
-    )?;
-    let made = implementations_of(alloc, &*source, module, contract, first.as_str())?;
+    let first = first_line(alloc, module, asked)?;
+    let made = implementations_of(alloc, &*source, module, asked.contract, first.as_str())?;
     Ok(Output {
         text: made.text,
         warnings: made.warnings,
     })
+}
+
+// The first line of a file with implementations, which says how it was written.
+fn first_line(alloc: Global, module: &str, asked: &Asked) -> Result<String, AllocError> {
+    let mut line = format!(in alloc; "//! Written by `schemaderive --impls {module}")?;
+    line.push_str(match asked.contract {
+        Contract::Both => "",
+        Contract::Deserialize => " --deserialize",
+        Contract::Serialize => " --serialize",
+    })?;
+    for condition in &asked.given {
+        line.push_str(" --cfg ")?;
+        line.push_str(condition.as_str())?;
+    }
+    line.push_str("`, which writes it anew: edit the declarations.")?;
+    Ok(line)
 }
 
 // Where a source begins.
@@ -84,13 +93,20 @@ fn end_of(tokens: &[Token]) -> Place {
     }
 }
 
-/// The line of what is said of a place. Line 0 is what the words of the run say.
-pub fn place_line(alloc: Global, kind: &str, said: &Refusal) -> Result<String, AllocError> {
+/// The line of what is said of a place in this file, or in standard input. Line 0 is what the words of
+/// the run say.
+pub fn place_line(
+    alloc: Global,
+    file: &Option<String>,
+    kind: &str,
+    said: &Refusal,
+) -> Result<String, AllocError> {
     let line = said.place.line;
     let column = said.place.column;
     let reason = said.reason.as_str();
-    if line == 0 {
-        return format!(in alloc; "schemaderive: {kind}{reason}");
+    match file {
+        _ if line == 0 => format!(in alloc; "schemaderive: {kind}{reason}"),
+        Some(file) => format!(in alloc; "{file}:{line}:{column}: {kind}{reason}"),
+        None => format!(in alloc; "schemaderive: {kind}{line}:{column}: {reason}"),
     }
-    format!(in alloc; "schemaderive: {kind}{line}:{column}: {reason}")
 }

@@ -4,11 +4,11 @@ use std::alloc::{AllocError, Global};
 
 /// How the program is called.
 pub const USAGE: &str =
-    "usage: schemaderive --table ROOT|--impls MODULE [--deserialize|--serialize] [FILE]";
+    "usage: schemaderive --table ROOT|--impls MODULE [--deserialize|--serialize] [--cfg CONDITION].. [FILE]";
 
 /// What the program says of itself.
 pub const HELP: &str =
-    "usage: schemaderive --table ROOT|--impls MODULE [--deserialize|--serialize] [FILE]
+    "usage: schemaderive --table ROOT|--impls MODULE [--deserialize|--serialize] [--cfg CONDITION].. [FILE]
 
 Reads the structs and enums of a Rust or Rattle source, from FILE or standard input,
 that derive JsonSchema.
@@ -27,6 +27,9 @@ the types. MODULE is the path of the source in its crate:
 
 With --deserialize it is for the values that are read, and with --serialize for those
 that are written; without, for both.
+
+--cfg says which conditions of compilation hold, as --cfg unix --cfg 'feature=\"x\"'. Where
+there is one, those that are not given do not hold; without, conditions are refused.
 
 What can't be said is refused with its line and column, and what is
 only left out is a warning. schemaderive(1) lists the attributes.
@@ -64,6 +67,8 @@ pub struct Asked {
     pub wanted: Wanted,
     /// which values it is for
     pub contract: Contract,
+    /// the conditions that hold; where there are none, nothing is known of any
+    pub given: Vec<String>,
     /// the file of the source; none for standard input
     pub file: Option<String>,
 }
@@ -74,6 +79,7 @@ enum Next {
     Any,
     Root,
     Module,
+    Condition,
 }
 
 /// What the words after the program's name ask for.
@@ -81,17 +87,21 @@ pub fn command_of(alloc: Global, words: &[String]) -> Result<Command, AllocError
     let mut wanted = None;
     let mut contract = Contract::Both;
     let mut file = None;
+    let mut given = Vec::new(alloc);
     let mut next = Next::Any;
     for word in words {
         let word = word.as_str();
-        if next != Next::Any {
-            let word = String::from_str(alloc, word)?;
-            wanted = Some(if next == Next::Root {
-                Wanted::Table(word)
-            } else {
-                Wanted::Implementations(word)
-            });
-            next = Next::Any;
+        let kind = next;
+        next = Next::Any;
+        match kind {
+            Next::Root => wanted = Some(Wanted::Table(String::from_str(alloc, word)?)),
+            Next::Module => {
+                wanted = Some(Wanted::Implementations(String::from_str(alloc, word)?));
+            }
+            Next::Condition => given.push(String::from_str(alloc, word)?)?,
+            Next::Any => {}
+        }
+        if kind != Next::Any {
             continue;
         }
         match word {
@@ -99,6 +109,7 @@ pub fn command_of(alloc: Global, words: &[String]) -> Result<Command, AllocError
             "--version" => return Ok(Command::Version),
             "--table" if wanted.is_none() => next = Next::Root,
             "--impls" if wanted.is_none() => next = Next::Module,
+            "--cfg" => next = Next::Condition,
             "--deserialize" if contract == Contract::Both => contract = Contract::Deserialize,
             "--serialize" if contract == Contract::Both => contract = Contract::Serialize,
             name if name.starts_with("--") || file.is_some() => return Ok(Command::Unknown),
@@ -106,9 +117,11 @@ pub fn command_of(alloc: Global, words: &[String]) -> Result<Command, AllocError
         }
     }
     match wanted {
+        _ if next != Next::Any => Ok(Command::Unknown),
         Some(wanted) => Ok(Command::Derive(Asked {
             wanted,
             contract,
+            given,
             file,
         })),
         None => Ok(Command::Unknown),

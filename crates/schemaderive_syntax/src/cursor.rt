@@ -133,12 +133,7 @@ impl<'a> Cursor<'a> {
     }
 
     /// Goes past the group that is next, and returns a cursor on what is in it.
-    ///
-    /// # Errors
-    ///
-    /// The group is not closed.
-    pub fn group(&mut self, alloc: Global) -> Result<Cursor<'a>, Fault> {
-        let place = self.place();
+    pub fn group(&mut self) -> Cursor<'a> {
         let start = self.position.saturating_add(1);
         let mut depth = 0usize;
         for _ in self.position..self.tokens.len() {
@@ -146,20 +141,20 @@ impl<'a> Cursor<'a> {
             let Some(token) = self.advance() else {
                 break;
             };
-            if token.opens() {
+            if token.closing().is_some() {
                 depth = depth.saturating_add(1);
             }
             if token.closes() {
                 depth = depth.saturating_sub(1);
                 if depth == 0 {
-                    return Ok(Cursor::new(self.between(start, at), token.place));
+                    return Cursor::new(self.between(start, at), token.place);
                 }
             }
         }
-        Err(refused(alloc, place, "this bracket is not closed"))
+        Cursor::new(self.between(start, self.position), self.end)
     }
 
-    /// The tokens from one position up to another.
+    // The tokens from one position up to another.
     fn between(&self, start: usize, end: usize) -> &'a [Token] {
         match self.tokens.get(start..end) {
             Some(tokens) => tokens,
@@ -168,28 +163,20 @@ impl<'a> Cursor<'a> {
     }
 
     /// Goes past the next token, or the group that it opens.
-    ///
-    /// # Errors
-    ///
-    /// The group is not closed.
-    pub fn skip_tree(&mut self, alloc: Global) -> Result<(), Fault> {
-        let Some(token) = self.peek(0) else {
-            return Ok(());
-        };
-        if token.opens() {
-            let _inside = self.group(alloc)?;
-        } else {
-            let _ = self.advance();
+    pub fn skip_tree(&mut self) {
+        match self.peek(0) {
+            Some(token) if token.closing().is_some() => {
+                let _inside = self.group();
+            }
+            _ => {
+                let _ = self.advance();
+            }
         }
-        Ok(())
     }
 
-    /// Goes up to the next comma that is in no bracket, and returns a cursor on what is before it.
-    ///
-    /// # Errors
-    ///
-    /// A group is not closed.
-    pub fn up_to_comma(&mut self, alloc: Global) -> Result<Cursor<'a>, Fault> {
+    /// Goes up to the next of these symbols that is in no group, and in no angle brackets if those are
+    /// groups too, and returns a cursor on what is before it.
+    pub fn up_to(&mut self, ends: &[char], has_angles: bool) -> Cursor<'a> {
         let start = self.position;
         let mut angles = 0usize;
         let mut in_arrow = false;
@@ -197,82 +184,28 @@ impl<'a> Cursor<'a> {
             let Some(token) = self.peek(0) else {
                 break;
             };
-            if angles == 0 && token.is_symbol(',') {
-                break;
-            }
-            if token.is_symbol('<') {
-                angles = angles.saturating_add(1);
-            }
-            if token.is_symbol('>') && !in_arrow {
-                angles = angles.saturating_sub(1);
+            match token.kind {
+                TokenKind::Symbol('>') if in_arrow => {}
+                TokenKind::Symbol(c) if angles == 0 && ends.contains(&c) => break,
+                TokenKind::Symbol('<') if has_angles => angles = angles.saturating_add(1),
+                TokenKind::Symbol('>') => angles = angles.saturating_sub(1),
+                _ => {}
             }
             in_arrow = token.is_symbol('-') || token.is_symbol('=');
-            self.skip_tree(alloc)?;
+            self.skip_tree();
         }
-        Ok(Cursor::new(self.between(start, self.position), self.place()))
+        Cursor::new(self.between(start, self.position), self.place())
     }
 
-    /// Goes past the next comma that is in no bracket, or up to the angle bracket that is closed before
-    /// it, and returns a cursor on what is before it.
-    ///
-    /// # Errors
-    ///
-    /// A group is not closed.
-    pub fn up_to_next_parameter(&mut self, alloc: Global) -> Result<Cursor<'a>, Fault> {
-        let start = self.position;
-        let mut angles = 0usize;
-        let mut in_arrow = false;
-        for _ in self.position..self.tokens.len() {
-            let Some(token) = self.peek(0) else {
-                break;
-            };
-            if angles == 0 && (token.is_symbol(',') || token.is_symbol('>')) {
-                break;
+    /// Whether this word is among the tokens that are left.
+    pub fn has_word(&self, word: &str) -> bool {
+        let mut cursor = *self;
+        for _ in 0..self.len() {
+            if cursor.is_word(word) {
+                return true;
             }
-            if token.is_symbol('<') {
-                angles = angles.saturating_add(1);
-            }
-            if token.is_symbol('>') && !in_arrow {
-                angles = angles.saturating_sub(1);
-            }
-            in_arrow = token.is_symbol('-');
-            self.skip_tree(alloc)?;
+            let _ = cursor.advance();
         }
-        let before = Cursor::new(self.between(start, self.position), self.place());
-        let _ = self.take_symbol(',');
-        Ok(before)
-    }
-
-    /// Goes up to the next comma that is in no group, and returns a cursor on what is before it. Angle
-    /// brackets are no groups here.
-    ///
-    /// # Errors
-    ///
-    /// A group is not closed.
-    pub fn value_up_to_comma(&mut self, alloc: Global) -> Result<Cursor<'a>, Fault> {
-        let start = self.position;
-        for _ in self.position..self.tokens.len() {
-            if self.is_symbol(0, ',') {
-                break;
-            }
-            self.skip_tree(alloc)?;
-        }
-        Ok(Cursor::new(self.between(start, self.position), self.place()))
-    }
-
-    /// Goes up to the next semicolon that is in no group, and returns a cursor on what is before it.
-    ///
-    /// # Errors
-    ///
-    /// A group is not closed.
-    pub fn up_to_semicolon(&mut self, alloc: Global) -> Result<Cursor<'a>, Fault> {
-        let start = self.position;
-        for _ in self.position..self.tokens.len() {
-            if self.is_symbol(0, ';') {
-                break;
-            }
-            self.skip_tree(alloc)?;
-        }
-        Ok(Cursor::new(self.between(start, self.position), self.place()))
+        false
     }
 }

@@ -1,5 +1,5 @@
 //! The tokens of a text.
-use crate::fault::{Fault, Place};
+use crate::fault::{Fault, Place, refused};
 use crate::literals::{read_escape, read_number, read_raw_text, read_text};
 use crate::scanner::Scanner;
 use crate::token::{Token, TokenKind};
@@ -12,7 +12,7 @@ use std::alloc::{AllocError, Global};
 ///
 /// # Errors
 ///
-/// A literal or a comment has no end, or an escape is none.
+/// A literal or a comment has no end, an escape is none, or brackets do not fit each other.
 pub fn read_tokens(alloc: Global, text: &str, place: Place) -> Result<Vec<Token>, Fault> {
     let mut scanner = Scanner::new(alloc, text, place)?;
     let mut tokens = Vec::new(alloc);
@@ -41,7 +41,38 @@ pub fn read_tokens(alloc: Global, text: &str, place: Place) -> Result<Vec<Token>
     if in_attribute {
         push_symbol(&mut tokens, &scanner, ']')?;
     }
+    require_pairs(alloc, &tokens)?;
     Ok(tokens)
+}
+
+// Refuses brackets that do not fit each other.
+fn require_pairs(alloc: Global, tokens: &[Token]) -> Result<(), Fault> {
+    let mut open: Vec<(char, Place)> = Vec::new(alloc);
+    for token in tokens {
+        if let Some(closing) = token.closing() {
+            open.push((closing, token.place))?;
+        }
+        if token.closes() {
+            let wanted = open.pop();
+            require_pair(alloc, token, wanted)?;
+        }
+    }
+    match open.pop() {
+        Some((_, place)) => Err(refused(alloc, place, "this bracket is not closed")),
+        None => Ok(()),
+    }
+}
+
+// Refuses a bracket that closes another than the last that is open.
+fn require_pair(alloc: Global, token: &Token, wanted: Option<(char, Place)>) -> Result<(), Fault> {
+    match wanted {
+        Some((closing, _)) if token.is_symbol(closing) => Ok(()),
+        Some(_) => {
+            let reason = "another bracket is to be closed before this one";
+            Err(refused(alloc, token.place, reason))
+        }
+        None => Err(refused(alloc, token.place, "this bracket closes nothing")),
+    }
 }
 
 // Reads what begins with this character, which is no line comment.

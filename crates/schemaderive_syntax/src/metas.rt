@@ -1,4 +1,5 @@
 //! Attributes, and the items of their lists.
+use crate::conditions::holds;
 use crate::cursor::Cursor;
 use crate::fault::{Fault, Place, refused};
 use crate::token::TokenKind;
@@ -40,6 +41,7 @@ pub struct Meta<'a> {
 pub fn read_meta<'a>(alloc: Global, cursor: &mut Cursor<'a>) -> Result<Meta<'a>, Fault> {
     let place = cursor.place();
     let is_unset = cursor.take_symbol('!');
+    let _ = cursor.take_colons();
     let Some(token) = cursor.advance() else {
         return Err(refused(alloc, place, "an attribute is missing here"));
     };
@@ -67,10 +69,10 @@ pub fn read_meta<'a>(alloc: Global, cursor: &mut Cursor<'a>) -> Result<Meta<'a>,
 // What stands behind the name, up to the next comma.
 fn read_value<'a>(alloc: Global, cursor: &mut Cursor<'a>) -> Result<MetaValue<'a>, Fault> {
     if cursor.take_symbol('=') {
-        return Ok(MetaValue::Equals(cursor.value_up_to_comma(alloc)?));
+        return Ok(MetaValue::Equals(cursor.up_to(&[','], false)));
     }
     let value = match cursor.peek(0) {
-        Some(token) if token.opens() => MetaValue::List(cursor.group(alloc)?),
+        Some(token) if token.closing().is_some() => MetaValue::List(cursor.group()),
         _ => MetaValue::Nothing,
     };
     if !cursor.is_empty() && !cursor.is_symbol(0, ',') {
@@ -102,13 +104,19 @@ pub fn read_metas<'a>(alloc: Global, list: Cursor<'a>) -> Result<Vec<Meta<'a>>, 
     Ok(metas)
 }
 
-/// Reads the attributes that come next.
+/// Reads the attributes that come next; none if they have a condition that does not hold. One of which
+/// that is not known is left among them.
 ///
 /// # Errors
 ///
-/// A bracket is not closed, or an attribute has no name.
-pub fn read_attributes<'a>(alloc: Global, cursor: &mut Cursor<'a>) -> Result<Vec<Meta<'a>>, Fault> {
+/// An attribute has no name.
+pub fn read_attributes<'a>(
+    alloc: Global,
+    given: &[String],
+    cursor: &mut Cursor<'a>,
+) -> Result<Option<Vec<Meta<'a>>>, Fault> {
     let mut attributes = Vec::new(alloc);
+    let mut is_there = true;
     for _ in 0..cursor.len() {
         let Some(token) = cursor.peek(0) else {
             break;
@@ -118,14 +126,13 @@ pub fn read_attributes<'a>(alloc: Global, cursor: &mut Cursor<'a>) -> Result<Vec
             attributes.push(doc(token.text.as_str(), token.place))?;
         } else if token.is_symbol('#') && cursor.is_symbol(1, '[') {
             let _ = cursor.advance();
-            let mut inside = cursor.group(alloc)?;
-            let meta = read_meta(alloc, &mut inside)?;
-            push_attribute(alloc, &mut attributes, meta)?;
+            let meta = read_meta(alloc, &mut cursor.group())?;
+            is_there = add_attribute(alloc, given, &mut attributes, meta)? && is_there;
         } else {
             break;
         }
     }
-    Ok(attributes)
+    Ok(if is_there { Some(attributes) } else { None })
 }
 
 fn doc<'a>(text: &'a str, place: Place) -> Meta<'a> {
@@ -138,20 +145,32 @@ fn doc<'a>(text: &'a str, place: Place) -> Meta<'a> {
     }
 }
 
-// Adds an attribute, or those that it has under a condition, which is taken to hold.
-fn push_attribute<'a>(
+// Adds an attribute, or those that it has under a condition which holds; false if it is a condition
+// that does not hold.
+fn add_attribute<'a>(
     alloc: Global,
+    given: &[String],
     attributes: &mut Vec<Meta<'a>>,
     meta: Meta<'a>,
-) -> Result<(), Fault> {
+) -> Result<bool, Fault> {
+    let mut is_there = true;
     match meta.value {
-        MetaValue::List(list) if meta.name == "cfg_attr" => {
-            let inside = read_metas(alloc, list)?;
-            for inner in inside.iter().skip(1) {
-                attributes.push(*inner)?;
+        MetaValue::List(list) if ["cfg", "cfg_attr"].contains(&meta.name) => {
+            let mut rest = list;
+            let outcome = holds(given, &mut rest);
+            let is_read = rest.take_symbol(',') || rest.is_empty();
+            match outcome {
+                Some(outcome) if is_read && meta.name == "cfg" => is_there = outcome,
+                Some(outcome) if is_read => {
+                    if outcome {
+                        let mut inside = read_metas(alloc, rest)?;
+                        attributes.append(&mut inside)?;
+                    }
+                }
+                _ => attributes.push(meta)?,
             }
         }
         _ => attributes.push(meta)?,
     }
-    Ok(())
+    Ok(is_there)
 }

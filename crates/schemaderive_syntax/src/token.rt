@@ -50,11 +50,13 @@ impl Token {
         }
     }
 
-    /// Whether it opens a group.
-    pub fn opens(&self) -> bool {
+    /// What closes the group that it opens, if it opens one.
+    pub fn closing(&self) -> Option<char> {
         match self.kind {
-            TokenKind::Symbol(c) => c == '(' || c == '[' || c == '{',
-            _ => false,
+            TokenKind::Symbol('(') => Some(')'),
+            TokenKind::Symbol('[') => Some(']'),
+            TokenKind::Symbol('{') => Some('}'),
+            _ => None,
         }
     }
 

@@ -1,7 +1,7 @@
 //! Types as they are written.
 use crate::cursor::Cursor;
-use crate::fault::{Fault, Place};
-use crate::token::TokenKind;
+use crate::fault::{Fault, Place, refused};
+use crate::token::{Token, TokenKind};
 use std::alloc::{AllocError, Global};
 
 /// How deep types may nest.
@@ -12,7 +12,7 @@ const MAX_DEPTH: usize = 64;
 pub enum TypeExpr {
     /// a path, with the arguments of its last segment
     Path {
-        /// its segments
+        /// its segments; the first is empty if two colons begin it
         segments: Vec<String>,
         /// the arguments of the last segment, without lifetimes
         arguments: Vec<TypeExpr>,
@@ -21,7 +21,7 @@ pub enum TypeExpr {
     },
     /// a tuple, and `()` if it has no parts
     Tuple(Vec<TypeExpr>),
-    /// an array, and its length as it is written
+    /// an array, and its length as it is written, without what separates digits
     Array(Box<TypeExpr>, String),
     /// a slice
     Slice(Box<TypeExpr>),
@@ -37,7 +37,7 @@ pub enum TypeExpr {
 ///
 /// # Errors
 ///
-/// A bracket is not closed.
+/// Memory runs out.
 pub fn read_type(alloc: Global, tokens: Cursor<'_>) -> Result<TypeExpr, Fault> {
     let mut cursor = tokens;
     let place = cursor.place();
@@ -48,17 +48,54 @@ pub fn read_type(alloc: Global, tokens: Cursor<'_>) -> Result<TypeExpr, Fault> {
     Ok(TypeExpr::Other(place))
 }
 
-/// Reads the traits behind the colon of a parameter, up to its default. Lifetimes are none of them.
+/// Reads the type of a field from all the tokens up to the next comma.
 ///
 /// # Errors
 ///
-/// A bracket is not closed.
-pub fn read_bounds(alloc: Global, tokens: Cursor<'_>) -> Result<Vec<TypeExpr>, Fault> {
+/// There is another field behind it.
+pub fn read_field_type(alloc: Global, tokens: Cursor<'_>) -> Result<TypeExpr, Fault> {
+    let mut cursor = tokens;
+    let place = cursor.place();
+    let ty = type_at(alloc, &mut cursor, MAX_DEPTH)?;
+    let reason = match (cursor.peek(0), &ty) {
+        (None, _) => return Ok(ty),
+        (Some(token), TypeExpr::Other(_)) if token.is_symbol(':') => {
+            "an angle bracket is not closed before this"
+        }
+        (Some(_), TypeExpr::Other(_)) => return Ok(ty),
+        (Some(token), _) if begins_field(token) => {
+            "a comma or the end of the fields is missing here"
+        }
+        _ => return Ok(TypeExpr::Other(place)),
+    };
+    Err(refused(alloc, cursor.place(), reason))
+}
+
+fn begins_field(token: &Token) -> bool {
+    token.kind == TokenKind::Word || token.kind == TokenKind::Doc || token.is_symbol('#')
+}
+
+/// Reads the traits behind the colon of a parameter, and its default. Lifetimes are no traits.
+///
+/// # Errors
+///
+/// Memory runs out.
+pub fn read_bounds(
+    alloc: Global,
+    tokens: Cursor<'_>,
+) -> Result<(Vec<TypeExpr>, Option<TypeExpr>), Fault> {
     let mut cursor = tokens;
     let mut bounds = Vec::new(alloc);
     let _ = cursor.take_symbol(':');
     for _ in 0..tokens.len() {
-        if cursor.is_empty() || cursor.is_symbol(0, '=') {
+        if cursor.take_symbol('=') {
+            let default = match constant_at(alloc, &mut cursor)? {
+                Some(constant) => constant,
+                None => read_type(alloc, cursor)?,
+            };
+            return Ok((bounds, Some(default)));
+        }
+        if cursor.is_empty() {
             break;
         }
         if cursor.take_lifetime() || cursor.take_symbol('+') {
@@ -71,7 +108,18 @@ pub fn read_bounds(alloc: Global, tokens: Cursor<'_>) -> Result<Vec<TypeExpr>, F
         }
         bounds.push(bound)?;
     }
-    Ok(bounds)
+    Ok((bounds, None))
+}
+
+// The number or the character that comes next.
+fn constant_at(alloc: Global, cursor: &mut Cursor<'_>) -> Result<Option<TypeExpr>, AllocError> {
+    match cursor.peek(0) {
+        Some(token) if [TokenKind::Number, TokenKind::Character].contains(&token.kind) => {
+            let _ = cursor.advance();
+            Ok(Some(TypeExpr::Constant(number_text(alloc, token.text.as_str())?)))
+        }
+        _ => Ok(None),
+    }
 }
 
 // The type that comes next.
@@ -117,7 +165,7 @@ fn is_other_form(word: &str) -> bool {
 #[cycle(types)]
 fn tuple_at(alloc: Global, cursor: &mut Cursor<'_>, depth: usize) -> Result<TypeExpr, Fault> {
     let place = cursor.place();
-    let mut inside = cursor.group(alloc)?;
+    let mut inside = cursor.group();
     let mut parts = Vec::new(alloc);
     let mut has_comma = false;
     for _ in 0..inside.len() {
@@ -145,7 +193,7 @@ fn tuple_at(alloc: Global, cursor: &mut Cursor<'_>, depth: usize) -> Result<Type
 #[cycle(types)]
 fn array_at(alloc: Global, cursor: &mut Cursor<'_>, depth: usize) -> Result<TypeExpr, Fault> {
     let place = cursor.place();
-    let mut inside = cursor.group(alloc)?;
+    let mut inside = cursor.group();
     if depth == 0 {
         return Ok(TypeExpr::Other(place));
     }
@@ -156,20 +204,29 @@ fn array_at(alloc: Global, cursor: &mut Cursor<'_>, depth: usize) -> Result<Type
     if !inside.take_symbol(';') {
         return Ok(TypeExpr::Other(place));
     }
-    match inside.advance() {
-        Some(length) if inside.is_empty() && is_constant(length.kind) => {
-            let text = number_text(alloc, length.text.as_str())?;
-            Ok(TypeExpr::Array(Box::new(alloc, item)?, text))
-        }
-        _ => Ok(TypeExpr::Other(place)),
-    }
+    let length = read_length(alloc, inside)?;
+    Ok(TypeExpr::Array(Box::new(alloc, item)?, length))
 }
 
-fn is_constant(kind: TokenKind) -> bool {
-    match kind {
-        TokenKind::Word | TokenKind::Number => true,
-        _ => false,
+/// The length that all the tokens say: numbers and paths of constants, with `+` between them.
+pub fn read_length(alloc: Global, tokens: Cursor<'_>) -> Result<String, AllocError> {
+    let mut cursor = tokens;
+    let mut text = String::new(alloc);
+    let mut is_behind_word = false;
+    for _ in 0..tokens.len() {
+        let Some(token) = cursor.advance() else {
+            break;
+        };
+        match token.kind {
+            TokenKind::Symbol(c) => text.push(c)?,
+            _ => {
+                text.push_str(if is_behind_word { " " } else { "" })?;
+                text.push_str(number_text(alloc, token.text.as_str())?.as_str())?;
+            }
+        }
+        is_behind_word = token.text.as_str() != "";
     }
+    Ok(text)
 }
 
 // A number without what separates its digits, and without the name of its type.
@@ -190,9 +247,11 @@ fn number_text(alloc: Global, text: &str) -> Result<String, AllocError> {
 #[cycle(types)]
 fn path_at(alloc: Global, cursor: &mut Cursor<'_>, depth: usize) -> Result<TypeExpr, Fault> {
     let place = cursor.place();
-    let _ = cursor.take_colons();
     let mut segments = Vec::new(alloc);
     let mut arguments = Vec::new(alloc);
+    if cursor.take_colons() {
+        segments.push(String::new(alloc))?;
+    }
     for _ in 0..cursor.len() {
         let Some(name) = cursor.take_name() else {
             return Ok(TypeExpr::Other(place));
@@ -233,25 +292,18 @@ fn arguments_at(
         if cursor.take_symbol('>') {
             return Ok(Some(arguments));
         }
-        let Some(token) = cursor.peek(0) else {
+        if cursor.is_empty() {
             break;
-        };
-        match token.kind {
-            TokenKind::Lifetime => {
-                let _ = cursor.advance();
+        }
+        if !cursor.take_lifetime() {
+            if depth == 0 {
+                return Ok(None);
             }
-            TokenKind::Number | TokenKind::Character => {
-                let _ = cursor.advance();
-                let text = number_text(alloc, token.text.as_str())?;
-                arguments.push(TypeExpr::Constant(text))?;
-            }
-            _ => {
-                if depth == 0 {
-                    return Ok(None);
-                }
-                let argument = type_at(alloc, cursor, depth - 1)?;
-                arguments.push(argument)?;
-            }
+            let argument = match constant_at(alloc, cursor)? {
+                Some(constant) => constant,
+                None => type_at(alloc, cursor, depth - 1)?,
+            };
+            arguments.push(argument)?;
         }
         if !cursor.take_symbol(',') && !cursor.is_symbol(0, '>') {
             return Ok(None);

@@ -1,6 +1,6 @@
 //! The names that a source brings in by `use`.
 use crate::cursor::Cursor;
-use crate::fault::{Fault, refused};
+use crate::fault::{Fault, Place, refused};
 use std::alloc::{AllocError, Global};
 
 // How deep the groups of a `use` may nest.
@@ -13,8 +13,10 @@ pub struct Import {
     pub module: String,
     /// the name
     pub name: String,
-    /// the segments of what it stands for
+    /// the segments of what it stands for; the first is empty if two colons begin the path
     pub path: Vec<String>,
+    /// where it has a condition of which it is not known whether it holds
+    pub condition: Option<Place>,
 }
 
 /// A module whose names another brings in.
@@ -24,6 +26,8 @@ pub struct Glob {
     pub module: String,
     /// the segments of the path of the module whose names they are
     pub path: Vec<String>,
+    /// where it has a condition of which it is not known whether it holds
+    pub condition: Option<Place>,
 }
 
 /// The names that modules bring in.
@@ -33,6 +37,8 @@ pub struct Uses {
     pub imports: Vec<Import>,
     /// modules of which all names are brought in
     pub globs: Vec<Glob>,
+    /// where those that are read next have a condition
+    pub condition: Option<Place>,
 }
 
 /// Reads a `use`, whose keyword is behind, up to its semicolon.
@@ -46,7 +52,6 @@ pub fn read_use(
     module: &str,
     uses: &mut Uses,
 ) -> Result<(), Fault> {
-    let _ = cursor.take_colons();
     let prefix = Vec::new(alloc);
     tree_at(alloc, cursor, module, &prefix, uses, MAX_DEPTH)?;
     let _ = cursor.take_symbol(';');
@@ -72,6 +77,9 @@ fn tree_at(
     depth: usize,
 ) -> Result<(), Fault> {
     let mut path = copied(alloc, prefix)?;
+    if cursor.take_colons() {
+        path.push(String::new(alloc))?;
+    }
     for _ in 0..cursor.len() {
         if cursor.is_symbol(0, '{') {
             if depth == 0 {
@@ -83,6 +91,7 @@ fn tree_at(
             uses.globs.push(Glob {
                 module: String::from_str(alloc, module)?,
                 path,
+                condition: uses.condition,
             })?;
             return Ok(());
         }
@@ -114,7 +123,12 @@ fn add_import(
         }
     };
     let module = String::from_str(alloc, module)?;
-    uses.imports.push(Import { module, name, path })?;
+    uses.imports.push(Import {
+        module,
+        name,
+        path,
+        condition: uses.condition,
+    })?;
     Ok(())
 }
 
@@ -128,7 +142,7 @@ fn group_at(
     uses: &mut Uses,
     depth: usize,
 ) -> Result<(), Fault> {
-    let mut inside = cursor.group(alloc)?;
+    let mut inside = cursor.group();
     for _ in 0..inside.len() {
         if inside.is_empty() {
             break;
