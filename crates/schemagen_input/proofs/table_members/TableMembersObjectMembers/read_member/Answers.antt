@@ -26,12 +26,12 @@ returns-in_ok-self-in-root-clause-ok c =
       subst (λ k. AddsMember k done.0 old (record old { root = root })) (sym named) (adds_root done.0 old root done.2),
     )
 
-pub returns-in_ok-read_value-in_schema-clause-ok : goal.returns-in_ok-read_value-in_schema-clause-ok
-returns-in_ok-read_value-in_schema-clause-ok c =
-    let d = data_of c.in_ok-read_value-in_schema.field-0 in
+pub returns-in_ok-read_value-in-text-clause-ok : goal.returns-in_ok-read_value-in-text-clause-ok
+returns-in_ok-read_value-in-text-clause-ok c =
+    let d = data_of c.in_ok-read_value-in-text.field-0 in
     let old = c.args.self.now in
     let named : c.args.name.now ≡ codes "$schema" = search rules in
-    (d, c.in_ok-read_value-in_schema.ensures.ok, subst (λ k. AddsMember k d old old) (sym named) (adds_schema d old))
+    (d, c.in_ok-read_value-in-text.ensures.ok, subst (λ k. AddsMember k d old old) (sym named) (adds_schema d old))
 
 pub returns-in_ok-read_value-in_default-clause-ok : goal.returns-in_ok-read_value-in_default-clause-ok
 returns-in_ok-read_value-in_default-clause-ok c =
