@@ -66,6 +66,31 @@ learnt m ks k more to v known right = known_of to v ks (out-Memo m).parts go
         (all_one (IsRight to w) k (subst (λ x. IsRight to x k) (same_value v w at) right)))
     go (n ∷ path) w at = known_inside to v m known (n ∷ path) w at
 
+all_first : {X : Type 0} (P : X → Type 0) (x y : X) (xs : List X) → All P (x ∷ xs) → P y → All P (y ∷ xs)
+all_first P x y xs all here zero d few = here
+all_first P x y xs all here (suc j) d few = all (suc j) d few
+
+all_later : {X : Type 0} (P : X → Type 0) (x : X) (xs ys : List X) → All P (x ∷ xs) → All P ys → All P (x ∷ ys)
+all_later P x xs ys all rest zero d few = all zero d (omega arith)
+all_later P x xs ys all rest (suc j) d few = rest j d (omega arith)
+
+all_set : {X : Type 0} (P : X → Type 0) (xs : List X) (i : ℕ) (y : X) → All P xs → P y → All P (set xs i y)
+all_set P [] i y all here = all
+all_set P (x ∷ xs) zero y all here = all_first P x y xs all here
+all_set P (x ∷ xs) (suc i) y all here =
+    all_later P x xs (set xs i y) all (all_set P xs i y (λ j d few. all (suc j) d (omega arith)) here)
+
+-- in place of another
+pub relearnt : (m : Memo) (ks : Vec Known Global) (k : Known) (i : ℕ) → ks.items ≡ set (out-Memo m).known.items i k
+    → (to : Following) (v : Data) → IsKnown to v m → IsRight to v k → IsKnown to v (memo_of ks (out-Memo m).parts)
+relearnt m ks k i more to v known right = known_of to v ks (out-Memo m).parts go
+  where
+    go : (path : List ℕ) (w : Data) → inside_at path v ≡ Some w → All (IsRight to w) (fields_at path ks.items (out-Memo m).parts.items)
+    go [] w at =
+        subst (All (IsRight to w)) (sym more) (all_set (IsRight to w) (out-Memo m).known.items i k (known_inside to v m known [] w at)
+        (subst (λ x. IsRight to x k) (same_value v w at) right))
+    go (n ∷ path) w at = known_inside to v m known (n ∷ path) w at
+
 -- what is known of the value itself
 pub known_here : (to : Following) (v : Data) (m : Memo) → IsKnown to v m → All (IsRight to v) (out-Memo m).known.items
 known_here to v m known = known_inside to v m known [] v refl

@@ -1,5 +1,6 @@
 //! What references were found to say of a value and of its parts, so that none is followed again.
-ghost use Rattle.std.specs.Prelude.{◌≡◌, true, option_map};
+ghost use Rattle.std.specs.Prelude.{◌≡◌, ◌<◌, true, length, IfSome, option_map};
+ghost use Rattle.schemars_validate.specs.declared.memo.Memo.{out-Memo};
 ghost use Rattle.schemars_validate.specs.Memos.{AnswersFor, Keeps, Learns, Nothing, Puts, Recalls, Takes, marked_by};
 ghost use Rattle.schemars_validate.specs.Words.{meant};
 
@@ -38,6 +39,20 @@ impl Known {
             Verdict::Open => left <= self.references,
             Verdict::No => self.references <= left,
             Verdict::Yes => self.references <= left && (!asks_parts || self.judged.is_some()),
+        }
+    }
+
+    // Whether this answers wherever another answers.
+    fn covers(&self, other: &Known) -> bool {
+        if self.name.as_str() != other.name.as_str()
+            || other.judged.is_some() && self.judged.is_none()
+        {
+            return false;
+        }
+        match (self.says, other.says) {
+            (Verdict::Open, Verdict::Open) => other.references <= self.references,
+            (Verdict::Open, _) | (_, Verdict::Open) => false,
+            _ => self.references <= other.references,
         }
     }
 
@@ -104,14 +119,29 @@ impl Memo {
     ) -> Result<(), AllocError>
         ensures { Learns self.old name.now references (meant says) (option_map (λ b. b.items) judged) self.new }
     {
-        let name = String::from_str(alloc, name)?;
-        self.known.push(Known {
-            name,
+        let known = Known {
+            name: String::from_str(alloc, name)?,
             references,
             says,
             judged,
-        })?;
+        };
+        match self.covered(&known) {
+            Some(place) => self.known[place] = known,
+            None => self.known.push(known)?,
+        }
         Ok(())
+    }
+
+    // Where something is kept that answers no more than this does.
+    fn covered(&self, known: &Known) -> Option<usize>
+        ensures { IfSome result (λ n. n < length (out-Memo self.now).known.items) }
+    {
+        for place in 0..self.known.len() {
+            if known.covers(&self.known[place]) {
+                return Some(place);
+            }
+        }
+        None
     }
 
     /// Takes out what is known of the part at a place.
