@@ -12,4 +12,13 @@ pub mod PartsLeft
 pub mod Joining
 pub mod Measures
 pub mod Stepping
+pub mod KeptVerdicts
+pub mod FirmJudges
+pub mod FirmSays
+pub mod FirmMarks
+pub mod MoreReferences
+pub mod Keeping
+pub mod Recalling
+pub mod Uniting
+pub mod PartsKnown
 mod Words

@@ -168,7 +168,7 @@ placed_marks first others (number m) ds bs n is count = cc
 placed_marks first others (string s) ds bs n is count = cc
 placed_marks first others (object ms) ds bs n is count = cc
 
-item_there : (xs : List Value) (i : ℕ) (x : Value) → i < length xs → x ≡ get_or xs i x → get_item i (items_view xs) ≡ Some (view x)
+pub item_there : (xs : List Value) (i : ℕ) (x : Value) → i < length xs → x ≡ get_or xs i x → get_item i (items_view xs) ≡ Some (view x)
 item_there [] i x h is = absurd (omega arith)
 item_there (y ∷ xs) zero x h is = ap (λ (z : Value). Some (view z)) (sym is)
 item_there (y ∷ xs) (suc i) x h is = item_there xs i x (omega arith) is

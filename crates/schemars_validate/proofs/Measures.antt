@@ -171,8 +171,8 @@ less_times zero w h = absurd (omega arith)
 less_times (suc n) w h = grind arith
 
 -- a schema of a document, with one reference less
-pub reference_less : (left : ℕ) (document : Data) (d : ℕ) (deep : ℕ) → 0 < left → d ≤ depth document
-    → work (left - 1) document d 2 < work left document deep 13
-reference_less left document d deep some shallow =
+pub reference_less : (left : ℕ) (document : Data) (d : ℕ) → 0 < left → d ≤ depth document
+    → work (left - 1) document d 2 < work left document 0 12
+reference_less left document d some shallow =
     let step = less_times left (16 * depth document + 16) some in
     omega (arith, step)

@@ -21,7 +21,7 @@ pub use Rattle.schemars_schema.specs.Verdict.{No, Open, Verdict, Yes, all_of, an
 pub use Rattle.schemars_text.proofs.Lists.{from_here, nothing_left}
 pub use Rattle.schemars_text.proofs.Members.{get_member-member}
 pub use Rattle.schemars_validate.specs.Joined.{SoFar, joined_by, so_far, taken_by, with_each, with_one}
-pub use Rattle.schemars_validate.specs.Judged.{at_keys, at_positions, each_unmarked, each_unmarked_item, first_marked, fits_at, is_marked, is_matched, is_named, is_placed, is_taken, judged_beside_members, judged_by_one, keys_in, marked, matches_one, parts_of, positions_in, unmarked, unmarked_by}
+pub use Rattle.schemars_validate.specs.Judged.{at_keys, at_positions, each_unmarked, each_unmarked_item, first_marked, fits_at, is_marked, is_matched, is_named, is_placed, is_taken, judged_beside_members, judged_by_one, keys_in, marked, matches_one, parts_of, positions_in, united, unmarked, unmarked_by}
 pub use Rattle.schemars_validate.specs.Parts.{besides, dependents_by, each_item, first_schemas, inside, items_by, items_or_none, member_by, members_by, names_by, other_schema, reads}
 pub use Rattle.schemars_validate.specs.Schemas.{are_named_schemas, are_schemas, first_of, judge_at, judges_among, judges_among_in, judges_in, judges_of, members_where_read, named_judges, named_judges_in, schema_at, schema_of_rest, schema_where_read, schemas_by_name, schemas_in, schemas_where_read}
 pub use Rattle.serde_json.proofs.Views.{Entry}

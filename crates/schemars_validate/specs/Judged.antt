@@ -37,6 +37,12 @@ abbrev pub unmarked : List Part → List Bool
 unmarked [] = []
 unmarked (p ∷ ps) = false ∷ unmarked ps
 
+-- marked too where the others are
+abbrev pub united : List Bool → List Bool → List Bool
+united [] bs = bs
+united (m ∷ ms) [] = []
+united (m ∷ ms) (b ∷ bs) = (b || m) ∷ united ms bs
+
 -- so many from the first on
 abbrev pub first_marked : ℕ → List Bool → List Bool
 first_marked zero bs = bs

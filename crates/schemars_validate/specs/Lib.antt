@@ -4,3 +4,4 @@ pub mod Judged
 pub mod Joined
 pub mod Parts
 pub mod Words
+pub mod Memos

@@ -8,10 +8,11 @@ pub use Rattle.schemars_schema.specs.Judges.{Raw, where_some}
 pub use Rattle.schemars_schema.specs.Lookup.{resolved, schema_only}
 pub use Rattle.schemars_schema.specs.Verdict.{No, Yes, all_of, is_yes}
 pub use Rattle.schemars_validate.specs.Joined.{joined_by, so_far, taken_by, with_one}
-pub use Rattle.schemars_validate.specs.Judged.{at_keys, at_positions, each_unmarked, each_unmarked_item, first_marked, fits_at, is_marked, is_matched, is_named, is_placed, is_taken, judged_beside_members, judged_by_one, keys_in, marked, matches_one, parts_of, positions_in, unmarked, unmarked_by}
+pub use Rattle.schemars_validate.specs.Judged.{at_keys, at_positions, each_unmarked, each_unmarked_item, first_marked, fits_at, is_marked, is_matched, is_named, is_placed, is_taken, judged_beside_members, judged_by_one, keys_in, marked, matches_one, parts_of, positions_in, united, unmarked, unmarked_by}
+pub use Rattle.schemars_validate.specs.Memos.{IsKnown, IsKnownAt, KeepsAround}
 pub use Rattle.schemars_validate.specs.Parts.{besides, dependents_by, first_schemas, inside, items_by, items_or_none, member_by, members_by, names_by, other_schema, reads}
 pub use Rattle.schemars_validate.specs.Schemas.{are_named_schemas, are_schemas, first_of, judge_at, judges_among_in, judges_in, judges_of, members_where_read, named_judges_in, schema_at, schema_of_rest, schema_where_read, schemas_by_name, schemas_in, schemas_where_read}
-pub use Rattle.serde_json.specs.Data.{object, string}
+pub use Rattle.serde_json.specs.Data.{array, object, string}
 pub use Rattle.serde_json.specs.Events.{items_len}
 pub use Rattle.serde_json.specs.Find.{as_str, get_member}
 pub use Rattle.serde_json.specs.View.{items_view, members_view, view}

@@ -1,9 +1,10 @@
 //! A whole document, or one of its schemas, asked about a value.
 ghost use Rattle.std.specs.Prelude.{◌≡◌, IfOk, IfSome};
-ghost use Rattle.schemars_validate.specs.Words.{view, is_yes, accepts, bound, context, count_of_definitions, judge, marked, parts_of, unmarked, meant};
+ghost use Rattle.schemars_validate.specs.Words.{view, is_yes, accepts, bound, context, count_of_definitions, follow, judge, marked, parts_of, unmarked, meant, IsKnown};
 
 use crate::judge::{Document, judge};
 use crate::marks::unmarked;
+use crate::memo::Memo;
 use schemars_assertions::{Dialect, Patterns, Verdict, depth};
 use serde_json::Value;
 use std::alloc::{AllocError, Global};
@@ -22,6 +23,28 @@ pub fn validate<P: Patterns>(
     ensures { IfOk result (λ says. meant says
         ≡ accepts dialect (view document.now) (P.reading patterns.now) references (view schema.now) (view value.now)) }
 {
+    let mut memo = Memo::new(alloc);
+    validate_with(
+        alloc, dialect, document, patterns, references, schema, value, &mut memo,
+    )
+}
+
+/// As `validate`, with what is known of the value, to which is added what is found.
+pub fn validate_with<P: Patterns>(
+    alloc: Global,
+    dialect: Dialect,
+    document: &Value,
+    patterns: &P,
+    references: u64,
+    schema: &Value,
+    value: &Value,
+    memo: &mut Memo,
+) -> Result<Verdict, AllocError>
+    requires { IsKnown (follow dialect (view document.now) (P.reading patterns.now)) (view value.now) memo.old }
+    ensures verdict { IfOk result (λ says. meant says
+        ≡ accepts dialect (view document.now) (P.reading patterns.now) references (view schema.now) (view value.now)) }
+    ensures keeps { IsKnown (follow dialect (view document.now) (P.reading patterns.now)) (view value.now) memo.new }
+{
     let d = Document {
         alloc,
         dialect,
@@ -29,7 +52,7 @@ pub fn validate<P: Patterns>(
         patterns,
     };
     let mut unwanted = Vec::new(alloc);
-    judge(&d, references, schema, value, &mut unwanted)
+    judge(&d, references, memo, schema, value, &mut unwanted)
 }
 
 /// Which parts of a value a schema of a document judges, if at most `references` references within one
@@ -48,6 +71,30 @@ pub fn judged<P: Patterns>(
         IfOk result (λ marks. marks.items
         ≡ marked ((judge c (view schema.now)).judges (view value.now)) parts (unmarked parts)) }
 {
+    let mut memo = Memo::new(alloc);
+    judged_with(
+        alloc, dialect, document, patterns, references, schema, value, &mut memo,
+    )
+}
+
+/// As `judged`, with what is known of the value, to which is added what is found.
+pub fn judged_with<P: Patterns>(
+    alloc: Global,
+    dialect: Dialect,
+    document: &Value,
+    patterns: &P,
+    references: u64,
+    schema: &Value,
+    value: &Value,
+    memo: &mut Memo,
+) -> Result<Vec<bool>, AllocError>
+    requires { IsKnown (follow dialect (view document.now) (P.reading patterns.now)) (view value.now) memo.old }
+    ensures judged { let c = context dialect (view document.now) (P.reading patterns.now) references in
+        let parts = parts_of (view value.now) in
+        IfOk result (λ marks. marks.items
+        ≡ marked ((judge c (view schema.now)).judges (view value.now)) parts (unmarked parts)) }
+    ensures keeps { IsKnown (follow dialect (view document.now) (P.reading patterns.now)) (view value.now) memo.new }
+{
     let d = Document {
         alloc,
         dialect,
@@ -55,7 +102,7 @@ pub fn judged<P: Patterns>(
         patterns,
     };
     let mut marks = unmarked(alloc, value)?;
-    judge(&d, references, schema, value, &mut marks)?;
+    judge(&d, references, memo, schema, value, &mut marks)?;
     Ok(marks)
 }
 

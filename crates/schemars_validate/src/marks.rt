@@ -1,6 +1,6 @@
 //! Marks for the parts of a value that have been judged.
 ghost use Rattle.std.specs.Prelude.{◌≡◌, IfOk, Some, None, option_map, true, is_some, if◌then◌else◌, ◌&&◌, length, min, slice_set};
-ghost use Rattle.schemars_validate.specs.Words.{items_len, view, items_view, members_view, marked, unmarked, first_marked, keys_in, parts_of, at_keys, at_positions, is_placed, is_marked, is_named, matches_one, is_matched, is_taken, is_yes, meant};
+ghost use Rattle.schemars_validate.specs.Words.{items_len, view, items_view, members_view, marked, united, unmarked, first_marked, keys_in, parts_of, at_keys, at_positions, is_placed, is_marked, is_named, matches_one, is_matched, is_taken, is_yes, meant};
 
 use crate::found::{ItemSchemas, MemberSchemas};
 use schemars_assertions::{Patterns, Verdict, member};
@@ -163,6 +163,15 @@ fn matches_one<P: Patterns>(patterns: &P, schemas: &Map<String, Value>, key: &st
         }
     }
     false
+}
+
+/// Marks too what is marked in others.
+pub fn unite(others: &[bool], marks: &mut Vec<bool>)
+    ensures { marks.new.items ≡ united others.now marks.old.items }
+{
+    for (place, other) in others.iter().enumerate() {
+        mark_if(*other, marks, place);
+    }
 }
 
 /// The same marks again.

@@ -1,10 +1,11 @@
 //! What one schema says, of the same value or of another.
 ghost use Rattle.std.specs.Prelude.{◌≡◌, IfOk, OnOk, option_map, codes};
-ghost use Rattle.schemars_validate.specs.Words.{get_member, view, members_view, where_some, reference_says, judged_by, judged_by_reference, context, judge, follow, meant, marked, parts_of, judged_by_one, judge_at};
+ghost use Rattle.schemars_validate.specs.Words.{get_member, view, members_view, where_some, reference_says, judged_by, judged_by_reference, context, judge, follow, meant, marked, parts_of, judged_by_one, judge_at, IsKnown};
 
 use crate::found::{reference_in, resolved};
 use crate::judge::{Document, judge};
-use crate::marks::{copied, keep};
+use crate::marks::{copied, keep, unite, unmarked};
+use crate::memo::Memo;
 use schemars_assertions::{Patterns, Verdict};
 use serde_json::{Map, Value};
 use std::alloc::AllocError;
@@ -14,10 +15,13 @@ use std::alloc::AllocError;
 pub fn reference<P: Patterns>(
     d: &Document<'_, P>,
     left: u64,
+    memo: &mut Memo,
     keywords: &Map<String, Value>,
     value: &Value,
     marks: &mut Vec<bool>,
 ) -> Result<Verdict, AllocError>
+    requires { let to = follow d.now.dialect (view d.now.whole.now) (P.reading d.now.patterns.now) in
+        IsKnown to (view value.now) memo.old }
     ensures verdict { let to = follow d.now.dialect (view d.now.whole.now) (P.reading d.now.patterns.now) left in
         IfOk result (λ says. meant says
         ≡ reference_says to (get_member (codes "$ref") (members_view keywords.now.entries)) (view value.now)) }
@@ -25,17 +29,54 @@ pub fn reference<P: Patterns>(
         OnOk result (marks.new.items
         ≡ marked (judged_by_reference to (get_member (codes "$ref") (members_view keywords.now.entries)) (view value.now))
         (parts_of (view value.now)) marks.old.items) }
+    ensures keeps { let to = follow d.now.dialect (view d.now.whole.now) (P.reading d.now.patterns.now) in
+        IsKnown to (view value.now) memo.new }
 {
     let Some(name) = reference_in(keywords) else {
         return Ok(Verdict::Yes);
     };
+    match memo.recall(d.dialect, name, left, marks) {
+        Some(says) => Ok(says),
+        None => followed(d, left, memo, name, value, marks),
+    }
+}
+
+// The schema that a name leads to. What it says is kept.
+#[cycle(judge)]
+fn followed<P: Patterns>(
+    d: &Document<'_, P>,
+    left: u64,
+    memo: &mut Memo,
+    name: &str,
+    value: &Value,
+    marks: &mut Vec<bool>,
+) -> Result<Verdict, AllocError>
+    requires { let to = follow d.now.dialect (view d.now.whole.now) (P.reading d.now.patterns.now) in
+        IsKnown to (view value.now) memo.old }
+    ensures verdict { let to = follow d.now.dialect (view d.now.whole.now) (P.reading d.now.patterns.now) left in
+        IfOk result (λ says. meant says ≡ (to name.now).fits (view value.now)) }
+    ensures judged { let to = follow d.now.dialect (view d.now.whole.now) (P.reading d.now.patterns.now) left in
+        OnOk result (marks.new.items
+        ≡ marked (judged_by (to name.now) (view value.now)) (parts_of (view value.now)) marks.old.items) }
+    ensures keeps { let to = follow d.now.dialect (view d.now.whole.now) (P.reading d.now.patterns.now) in
+        IsKnown to (view value.now) memo.new }
+{
     if left == 0 {
         return Ok(Verdict::Open);
     }
-    match resolved(d.alloc, d.whole, name)? {
-        Some(schema) => fits(d, left - 1, schema, value, marks),
-        None => Ok(Verdict::Open),
+    let Some(schema) = resolved(d.alloc, d.whole, name)? else {
+        return Ok(Verdict::Open);
+    };
+    if marks.is_empty() {
+        let says = alone(d, left - 1, memo, Some(schema), value)?;
+        memo.keep(d.alloc, name, left, says, None)?;
+        return Ok(says);
     }
+    let mut judged = unmarked(d.alloc, value)?;
+    let says = fits(d, left - 1, memo, schema, value, &mut judged)?;
+    unite(&judged, marks);
+    memo.keep(d.alloc, name, left, says, Some(judged))?;
+    Ok(says)
 }
 
 /// What a schema of the same value says. It has judged parts only if the value fits it.
@@ -43,18 +84,23 @@ pub fn reference<P: Patterns>(
 pub fn fits<P: Patterns>(
     d: &Document<'_, P>,
     left: u64,
+    memo: &mut Memo,
     schema: &Value,
     value: &Value,
     marks: &mut Vec<bool>,
 ) -> Result<Verdict, AllocError>
+    requires { let to = follow d.now.dialect (view d.now.whole.now) (P.reading d.now.patterns.now) in
+        IsKnown to (view value.now) memo.old }
     ensures verdict { let c = context d.now.dialect (view d.now.whole.now) (P.reading d.now.patterns.now) left in
         IfOk result (λ says. meant says ≡ (judge c (view schema.now)).fits (view value.now)) }
     ensures judged { let c = context d.now.dialect (view d.now.whole.now) (P.reading d.now.patterns.now) left in
         OnOk result (marks.new.items
         ≡ marked (judged_by (judge c (view schema.now)) (view value.now)) (parts_of (view value.now)) marks.old.items) }
+    ensures keeps { let to = follow d.now.dialect (view d.now.whole.now) (P.reading d.now.patterns.now) in
+        IsKnown to (view value.now) memo.new }
 {
     let mut tried = copied(d.alloc, marks)?;
-    let says = judge(d, left, schema, value, &mut tried)?;
+    let says = judge(d, left, memo, schema, value, &mut tried)?;
     keep(says, tried, marks);
     Ok(says)
 }
@@ -64,10 +110,13 @@ pub fn fits<P: Patterns>(
 pub fn branch<P: Patterns>(
     d: &Document<'_, P>,
     left: u64,
+    memo: &mut Memo,
     schema: Option<&Value>,
     value: &Value,
     marks: &mut Vec<bool>,
 ) -> Result<Verdict, AllocError>
+    requires { let to = follow d.now.dialect (view d.now.whole.now) (P.reading d.now.patterns.now) in
+        IsKnown to (view value.now) memo.old }
     ensures verdict { let c = context d.now.dialect (view d.now.whole.now) (P.reading d.now.patterns.now) left in
         IfOk result (λ says. meant says
         ≡ where_some (judge_at c (option_map (λ s. view s.now) schema.entry)) (λ s. s.fits (view value.now))) }
@@ -75,9 +124,11 @@ pub fn branch<P: Patterns>(
         OnOk result (marks.new.items
         ≡ marked (judged_by_one (judge_at c (option_map (λ s. view s.now) schema.entry)) (view value.now))
         (parts_of (view value.now)) marks.old.items) }
+    ensures keeps { let to = follow d.now.dialect (view d.now.whole.now) (P.reading d.now.patterns.now) in
+        IsKnown to (view value.now) memo.new }
 {
     match schema {
-        Some(schema) => fits(d, left, schema, value, marks),
+        Some(schema) => fits(d, left, memo, schema, value, marks),
         None => Ok(Verdict::Yes),
     }
 }
@@ -87,17 +138,22 @@ pub fn branch<P: Patterns>(
 pub fn alone<P: Patterns>(
     d: &Document<'_, P>,
     left: u64,
+    memo: &mut Memo,
     schema: Option<&Value>,
     value: &Value,
 ) -> Result<Verdict, AllocError>
-    ensures { let c = context d.now.dialect (view d.now.whole.now) (P.reading d.now.patterns.now) left in
+    requires { let to = follow d.now.dialect (view d.now.whole.now) (P.reading d.now.patterns.now) in
+        IsKnown to (view value.now) memo.old }
+    ensures verdict { let c = context d.now.dialect (view d.now.whole.now) (P.reading d.now.patterns.now) left in
         IfOk result (λ says. meant says
         ≡ where_some (judge_at c (option_map (λ s. view s.now) schema.entry)) (λ s. s.fits (view value.now))) }
+    ensures keeps { let to = follow d.now.dialect (view d.now.whole.now) (P.reading d.now.patterns.now) in
+        IsKnown to (view value.now) memo.new }
 {
     match schema {
         Some(schema) => {
             let mut unwanted = Vec::new(d.alloc);
-            judge(d, left, schema, value, &mut unwanted)
+            judge(d, left, memo, schema, value, &mut unwanted)
         }
         None => Ok(Verdict::Yes),
     }

@@ -1,11 +1,12 @@
 //! Keywords with several schemas of the same value.
 ghost use Rattle.std.specs.Prelude.{◌≡◌, IfOk, OnOk, option_map, map, codes};
-ghost use Rattle.schemars_validate.specs.Words.{get_member, view, items_view, members_view, reads_dependencies, Raw, where_some, condition_says, dependencies_say, judged_by_some, judged_by_condition, context, meant, marked, parts_of, judged_beside_members, joined_by, judges_of, judges_in, judges_among_in, reads, dependents_by};
+ghost use Rattle.schemars_validate.specs.Words.{get_member, view, items_view, members_view, reads_dependencies, Raw, where_some, condition_says, dependencies_say, judged_by_some, judged_by_condition, context, meant, marked, parts_of, judged_beside_members, joined_by, judges_of, judges_in, judges_among_in, reads, dependents_by, follow, IsKnown};
 
 use crate::found::{members_where_read, schema_at, schema_beside, schema_where_read};
 use crate::joined::{Join, Joined};
 use crate::judge::Document;
 use crate::judge::one::{branch, fits};
+use crate::memo::Memo;
 use schemars_assertions::{Patterns, Verdict, both, dependent_required_says, member};
 use serde_json::{Map, Value};
 use std::alloc::AllocError;
@@ -16,11 +17,14 @@ use std::alloc::AllocError;
 pub fn each<P: Patterns>(
     d: &Document<'_, P>,
     left: u64,
+    memo: &mut Memo,
     join: Join,
     schemas: Option<&Vec<Value>>,
     value: &Value,
     marks: &mut Vec<bool>,
 ) -> Result<Verdict, AllocError>
+    requires { let to = follow d.now.dialect (view d.now.whole.now) (P.reading d.now.patterns.now) in
+        IsKnown to (view value.now) memo.old }
     ensures verdict { let c = context d.now.dialect (view d.now.whole.now) (P.reading d.now.patterns.now) left in
         IfOk result (λ says. meant says
         ≡ where_some (option_map (λ s. items_view s.now.items) schemas.entry)
@@ -29,13 +33,15 @@ pub fn each<P: Patterns>(
         OnOk result (marks.new.items
         ≡ marked (judged_by_some (judges_in c (option_map (λ s. items_view s.now.items) schemas.entry)) (view value.now))
         (parts_of (view value.now)) marks.old.items) }
+    ensures keeps { let to = follow d.now.dialect (view d.now.whole.now) (P.reading d.now.patterns.now) in
+        IsKnown to (view value.now) memo.new }
 {
     let Some(schemas) = schemas else {
         return Ok(Verdict::Yes);
     };
     let mut joined = Joined::new();
     for schema in schemas {
-        let says = fits(d, left, schema, value, marks)?;
+        let says = fits(d, left, memo, schema, value, marks)?;
         joined = joined.with(says);
     }
     Ok(joined.by(join))
@@ -46,10 +52,13 @@ pub fn each<P: Patterns>(
 pub fn condition<P: Patterns>(
     d: &Document<'_, P>,
     left: u64,
+    memo: &mut Memo,
     keywords: &Map<String, Value>,
     value: &Value,
     marks: &mut Vec<bool>,
 ) -> Result<Verdict, AllocError>
+    requires { let to = follow d.now.dialect (view d.now.whole.now) (P.reading d.now.patterns.now) in
+        IsKnown to (view value.now) memo.old }
     ensures verdict { let c = context d.now.dialect (view d.now.whole.now) (P.reading d.now.patterns.now) left in
         let raw : Raw = λ k. get_member k (members_view keywords.now.entries) in
         IfOk result (λ says. meant says
@@ -60,15 +69,31 @@ pub fn condition<P: Patterns>(
         OnOk result (marks.new.items
         ≡ marked (judged_by_condition d.now.dialect.reads_const (reads c raw (codes "if")) (reads c raw (codes "then"))
         (reads c raw (codes "else")) (view value.now)) (parts_of (view value.now)) marks.old.items) }
+    ensures keeps { let to = follow d.now.dialect (view d.now.whole.now) (P.reading d.now.patterns.now) in
+        IsKnown to (view value.now) memo.new }
 {
     let asked = schema_where_read(d.dialect.reads_const(), member(keywords, "if"));
     let Some(schema) = asked else {
         return Ok(Verdict::Yes);
     };
-    let says = fits(d, left, schema, value, marks)?;
+    let says = fits(d, left, memo, schema, value, marks)?;
     match says {
-        Verdict::Yes => branch(d, left, schema_at(member(keywords, "then")), value, marks),
-        Verdict::No => branch(d, left, schema_at(member(keywords, "else")), value, marks),
+        Verdict::Yes => branch(
+            d,
+            left,
+            memo,
+            schema_at(member(keywords, "then")),
+            value,
+            marks,
+        ),
+        Verdict::No => branch(
+            d,
+            left,
+            memo,
+            schema_at(member(keywords, "else")),
+            value,
+            marks,
+        ),
         Verdict::Open => Ok(says),
     }
 }
@@ -78,10 +103,13 @@ pub fn condition<P: Patterns>(
 pub fn dependents<P: Patterns>(
     d: &Document<'_, P>,
     left: u64,
+    memo: &mut Memo,
     by_name: Option<&Map<String, Value>>,
     value: &Value,
     marks: &mut Vec<bool>,
 ) -> Result<Verdict, AllocError>
+    requires { let to = follow d.now.dialect (view d.now.whole.now) (P.reading d.now.patterns.now) in
+        IsKnown to (view value.now) memo.old }
     ensures verdict { let c = context d.now.dialect (view d.now.whole.now) (P.reading d.now.patterns.now) left in
         IfOk result (λ says. meant says
         ≡ dependents_by (judges_among_in c (option_map (λ s. members_view s.now.entries) by_name.entry)) (view value.now)) }
@@ -89,6 +117,8 @@ pub fn dependents<P: Patterns>(
         OnOk result (marks.new.items
         ≡ marked (judged_beside_members (judges_among_in c (option_map (λ s. members_view s.now.entries) by_name.entry))
         (view value.now)) (parts_of (view value.now)) marks.old.items) }
+    ensures keeps { let to = follow d.now.dialect (view d.now.whole.now) (P.reading d.now.patterns.now) in
+        IsKnown to (view value.now) memo.new }
 {
     let mut says = Verdict::Yes;
     let Some(schemas) = by_name else {
@@ -99,7 +129,7 @@ pub fn dependents<P: Patterns>(
     };
     for (name, schema) in schemas.iter() {
         let asked = schema_beside(members, name.as_str(), schema);
-        says = both(says, branch(d, left, asked, value, marks)?);
+        says = both(says, branch(d, left, memo, asked, value, marks)?);
     }
     Ok(says)
 }
@@ -109,20 +139,25 @@ pub fn dependents<P: Patterns>(
 pub fn dependencies<P: Patterns>(
     d: &Document<'_, P>,
     left: u64,
+    memo: &mut Memo,
     keywords: &Map<String, Value>,
     value: &Value,
 ) -> Result<Verdict, AllocError>
-    ensures { let c = context d.now.dialect (view d.now.whole.now) (P.reading d.now.patterns.now) left in
+    requires { let to = follow d.now.dialect (view d.now.whole.now) (P.reading d.now.patterns.now) in
+        IsKnown to (view value.now) memo.old }
+    ensures verdict { let c = context d.now.dialect (view d.now.whole.now) (P.reading d.now.patterns.now) left in
         let raw : Raw = λ k. get_member k (members_view keywords.now.entries) in
         IfOk result (λ says. meant says
         ≡ dependencies_say (reads_dependencies d.now.dialect) (raw (codes "dependencies")) (reads c raw (codes "dependencies"))
         (view value.now)) }
+    ensures keeps { let to = follow d.now.dialect (view d.now.whole.now) (P.reading d.now.patterns.now) in
+        IsKnown to (view value.now) memo.new }
 {
     let reads = d.dialect.reads_dependencies();
     let by_name = member(keywords, "dependencies");
     let required = dependent_required_says(reads, by_name, value);
     let mut unwanted = Vec::new(d.alloc);
     let among = members_where_read(reads, by_name);
-    let says = dependents(d, left, among, value, &mut unwanted)?;
+    let says = dependents(d, left, memo, among, value, &mut unwanted)?;
     Ok(both(required, says))
 }

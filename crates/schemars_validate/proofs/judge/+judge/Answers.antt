@@ -128,20 +128,8 @@ one::reference-returns-in_default-clause-verdict = one.one::reference-returns-in
 pub one::reference-returns-in_default-clause-judged : goal.one::reference-returns-in_default-clause-judged
 one::reference-returns-in_default-clause-judged = one.one::reference-returns-in_default-clause-judged
 
-pub one::reference-returns-then-left-eq0-clause-verdict : goal.one::reference-returns-then-left-eq0-clause-verdict
-one::reference-returns-then-left-eq0-clause-verdict = one.one::reference-returns-then-left-eq0-clause-verdict
-
-pub one::reference-returns-then-left-eq0-clause-judged : goal.one::reference-returns-then-left-eq0-clause-judged
-one::reference-returns-then-left-eq0-clause-judged = one.one::reference-returns-then-left-eq0-clause-judged
-
-pub one::reference-fits-requires : goal.one::reference-fits-requires
-one::reference-fits-requires = one.one::reference-fits-requires
-
-pub one::reference-returns-in-Some-2-clause-verdict : goal.one::reference-returns-in-Some-2-clause-verdict
-one::reference-returns-in-Some-2-clause-verdict = one.one::reference-returns-in-Some-2-clause-verdict
-
-pub one::reference-returns-in-Some-2-clause-judged : goal.one::reference-returns-in-Some-2-clause-judged
-one::reference-returns-in-Some-2-clause-judged = one.one::reference-returns-in-Some-2-clause-judged
+pub one::reference-followed-requires : goal.one::reference-followed-requires
+one::reference-followed-requires = one.one::reference-followed-requires
 
 pub one::reference-returns-in-None-clause-verdict : goal.one::reference-returns-in-None-clause-verdict
 one::reference-returns-in-None-clause-verdict = one.one::reference-returns-in-None-clause-verdict
@@ -149,17 +137,59 @@ one::reference-returns-in-None-clause-verdict = one.one::reference-returns-in-No
 pub one::reference-returns-in-None-clause-judged : goal.one::reference-returns-in-None-clause-judged
 one::reference-returns-in-None-clause-judged = one.one::reference-returns-in-None-clause-judged
 
+pub one::followed-returns-then-left-eq0-clause-verdict : goal.one::followed-returns-then-left-eq0-clause-verdict
+one::followed-returns-then-left-eq0-clause-verdict = one.one::followed-returns-then-left-eq0-clause-verdict
+
+pub one::followed-returns-then-left-eq0-clause-judged : goal.one::followed-returns-then-left-eq0-clause-judged
+one::followed-returns-then-left-eq0-clause-judged = one.one::followed-returns-then-left-eq0-clause-judged
+
+pub one::followed-returns-in_default-clause-verdict : goal.one::followed-returns-in_default-clause-verdict
+one::followed-returns-in_default-clause-verdict = one.one::followed-returns-in_default-clause-verdict
+
+pub one::followed-returns-in_default-clause-judged : goal.one::followed-returns-in_default-clause-judged
+one::followed-returns-in_default-clause-judged = one.one::followed-returns-in_default-clause-judged
+
+pub one::followed-alone-requires : goal.one::followed-alone-requires
+one::followed-alone-requires = one.one::followed-alone-requires
+
+pub one::followed-fits-requires : goal.one::followed-fits-requires
+one::followed-fits-requires = one.one::followed-fits-requires
+
+pub one::followed-returns-then-is_empty-clause-verdict : goal.one::followed-returns-then-is_empty-clause-verdict
+one::followed-returns-then-is_empty-clause-verdict = one.one::followed-returns-then-is_empty-clause-verdict
+
+pub one::followed-returns-then-is_empty-clause-judged : goal.one::followed-returns-then-is_empty-clause-judged
+one::followed-returns-then-is_empty-clause-judged = one.one::followed-returns-then-is_empty-clause-judged
+
+pub one::followed-returns-then-is_empty-clause-keeps : goal.one::followed-returns-then-is_empty-clause-keeps
+one::followed-returns-then-is_empty-clause-keeps = one.one::followed-returns-then-is_empty-clause-keeps
+
+pub one::followed-returns-in_err-keep-clause-keeps : goal.one::followed-returns-in_err-keep-clause-keeps
+one::followed-returns-in_err-keep-clause-keeps = one.one::followed-returns-in_err-keep-clause-keeps
+
+pub one::followed-returns-clause-verdict : goal.one::followed-returns-clause-verdict
+one::followed-returns-clause-verdict = one.one::followed-returns-clause-verdict
+
+pub one::followed-returns-clause-judged : goal.one::followed-returns-clause-judged
+one::followed-returns-clause-judged = one.one::followed-returns-clause-judged
+
+pub one::followed-returns-clause-keeps : goal.one::followed-returns-clause-keeps
+one::followed-returns-clause-keeps = one.one::followed-returns-clause-keeps
+
+pub one::followed-returns-in_err-keep-2-clause-keeps : goal.one::followed-returns-in_err-keep-2-clause-keeps
+one::followed-returns-in_err-keep-2-clause-keeps = one.one::followed-returns-in_err-keep-2-clause-keeps
+
 pub one::fits-returns-clause-judged : goal.one::fits-returns-clause-judged
 one::fits-returns-clause-judged = one.one::fits-returns-clause-judged
 
 pub one::alone-judge-requires : goal.one::alone-judge-requires
 one::alone-judge-requires = one.one::alone-judge-requires
 
-pub one::alone-returns-in-Some : goal.one::alone-returns-in-Some
-one::alone-returns-in-Some = one.one::alone-returns-in-Some
+pub one::alone-returns-in-Some-clause-verdict : goal.one::alone-returns-in-Some-clause-verdict
+one::alone-returns-in-Some-clause-verdict = one.one::alone-returns-in-Some-clause-verdict
 
-pub one::alone-returns-in-None : goal.one::alone-returns-in-None
-one::alone-returns-in-None = one.one::alone-returns-in-None
+pub one::alone-returns-in-None-clause-verdict : goal.one::alone-returns-in-None-clause-verdict
+one::alone-returns-in-None-clause-verdict = one.one::alone-returns-in-None-clause-verdict
 
 pub one::fits-judge-requires : goal.one::fits-judge-requires
 one::fits-judge-requires = one.one::fits-judge-requires
@@ -216,8 +246,8 @@ several::dependents-returns-clause-judged = several.several::dependents-returns-
 pub several::dependencies-dependents-requires : goal.several::dependencies-dependents-requires
 several::dependencies-dependents-requires = several.several::dependencies-dependents-requires
 
-pub several::dependencies-returns : goal.several::dependencies-returns
-several::dependencies-returns = several.several::dependencies-returns
+pub several::dependencies-returns-clause-verdict : goal.several::dependencies-returns-clause-verdict
+several::dependencies-returns-clause-verdict = several.several::dependencies-returns-clause-verdict
 
 pub several::each-fits-requires : goal.several::each-fits-requires
 several::each-fits-requires = several.several::each-fits-requires
@@ -257,22 +287,43 @@ lists::contains-returns-clause-verdict = items.lists::contains-returns-clause-ve
 pub lists::contains-returns-clause-judged : goal.lists::contains-returns-clause-judged
 lists::contains-returns-clause-judged = items.lists::contains-returns-clause-judged
 
-pub lists::items-alone-requires : goal.lists::items-alone-requires
-lists::items-alone-requires = items.lists::items-alone-requires
+pub lists::items-part_at-requires : goal.lists::items-part_at-requires
+lists::items-part_at-requires = items.lists::items-part_at-requires
 
-pub lists::items-loop-item-preserved : goal.lists::items-loop-item-preserved
-lists::items-loop-item-preserved = items.lists::items-loop-item-preserved
+pub lists::items-loop-place-preserved : goal.lists::items-loop-place-preserved
+lists::items-loop-place-preserved = items.lists::items-loop-place-preserved
+
+pub lists::count_of_fitting-part_at-requires : goal.lists::count_of_fitting-part_at-requires
+lists::count_of_fitting-part_at-requires = items.lists::count_of_fitting-part_at-requires
 
 pub lists::count_of_fitting-loop-place-preserved : goal.lists::count_of_fitting-loop-place-preserved
 lists::count_of_fitting-loop-place-preserved = items.lists::count_of_fitting-loop-place-preserved
 
-pub lists::items-returns : goal.lists::items-returns
-lists::items-returns = items.lists::items-returns
+pub lists::items-returns-clause-verdict : goal.lists::items-returns-clause-verdict
+lists::items-returns-clause-verdict = items.lists::items-returns-clause-verdict
+
+pub lists::contains-returns-clause-keeps : goal.lists::contains-returns-clause-keeps
+lists::contains-returns-clause-keeps = items.lists::contains-returns-clause-keeps
+
+pub lists::items-returns-clause-keeps : goal.lists::items-returns-clause-keeps
+lists::items-returns-clause-keeps = items.lists::items-returns-clause-keeps
+
+pub lists::items-returns-in_err-part_at-clause-keeps : goal.lists::items-returns-in_err-part_at-clause-keeps
+lists::items-returns-in_err-part_at-clause-keeps = items.lists::items-returns-in_err-part_at-clause-keeps
+
+pub lists::count_of_fitting-returns-in_err-says-clause-keeps : goal.lists::count_of_fitting-returns-in_err-says-clause-keeps
+lists::count_of_fitting-returns-in_err-says-clause-keeps = items.lists::count_of_fitting-returns-in_err-says-clause-keeps
 
 -- ---- the members of an object, and the patterns that a key matches
 
-pub objects::members-loop-key-preserved : goal.objects::members-loop-key-preserved
-objects::members-loop-key-preserved = members.objects::members-loop-key-preserved
+pub objects::members-loop-place-init : goal.objects::members-loop-place-init
+objects::members-loop-place-init = members.objects::members-loop-place-init
+
+pub objects::members-member_at-requires : goal.objects::members-member_at-requires
+objects::members-member_at-requires = members.objects::members-member_at-requires
+
+pub objects::members-loop-place-preserved : goal.objects::members-loop-place-preserved
+objects::members-loop-place-preserved = members.objects::members-loop-place-preserved
 
 pub objects::one_member-alone-requires : goal.objects::one_member-alone-requires
 objects::one_member-alone-requires = members.objects::one_member-alone-requires
@@ -280,8 +331,8 @@ objects::one_member-alone-requires = members.objects::one_member-alone-requires
 pub objects::one_member-alone-requires-2 : goal.objects::one_member-alone-requires-2
 objects::one_member-alone-requires-2 = members.objects::one_member-alone-requires-2
 
-pub objects::one_member-returns : goal.objects::one_member-returns
-objects::one_member-returns = members.objects::one_member-returns
+pub objects::one_member-returns-clause-verdict : goal.objects::one_member-returns-clause-verdict
+objects::one_member-returns-clause-verdict = members.objects::one_member-returns-clause-verdict
 
 pub objects::matching-alone-requires : goal.objects::matching-alone-requires
 objects::matching-alone-requires = members.objects::matching-alone-requires
@@ -298,25 +349,37 @@ objects::matching-returns-clause-says = members.objects::matching-returns-clause
 pub objects::matching-returns-clause-some : goal.objects::matching-returns-clause-some
 objects::matching-returns-clause-some = members.objects::matching-returns-clause-some
 
-pub objects::members-returns : goal.objects::members-returns
-objects::members-returns = members.objects::members-returns
+pub objects::members-returns-clause-verdict : goal.objects::members-returns-clause-verdict
+objects::members-returns-clause-verdict = members.objects::members-returns-clause-verdict
+
+pub objects::members-returns-clause-keeps : goal.objects::members-returns-clause-keeps
+objects::members-returns-clause-keeps = members.objects::members-returns-clause-keeps
+
+pub objects::members-returns-in_err-member_at-clause-keeps : goal.objects::members-returns-in_err-member_at-clause-keeps
+objects::members-returns-in_err-member_at-clause-keeps = members.objects::members-returns-in_err-member_at-clause-keeps
 
 -- ---- the parts without a mark
 
-pub rest::unevaluated_items-alone-requires : goal.rest::unevaluated_items-alone-requires
-rest::unevaluated_items-alone-requires = left.rest::unevaluated_items-alone-requires
+pub rest::unevaluated_items-part_at-requires : goal.rest::unevaluated_items-part_at-requires
+rest::unevaluated_items-part_at-requires = left.rest::unevaluated_items-part_at-requires
 
-pub rest::unevaluated_items-loop-item-preserved : goal.rest::unevaluated_items-loop-item-preserved
-rest::unevaluated_items-loop-item-preserved = left.rest::unevaluated_items-loop-item-preserved
+pub rest::unevaluated_items-loop-place-preserved : goal.rest::unevaluated_items-loop-place-preserved
+rest::unevaluated_items-loop-place-preserved = left.rest::unevaluated_items-loop-place-preserved
 
-pub rest::unevaluated_members-alone-requires : goal.rest::unevaluated_members-alone-requires
-rest::unevaluated_members-alone-requires = left.rest::unevaluated_members-alone-requires
+pub rest::unevaluated_members-part_at-requires : goal.rest::unevaluated_members-part_at-requires
+rest::unevaluated_members-part_at-requires = left.rest::unevaluated_members-part_at-requires
 
-pub rest::unevaluated_members-loop-member-preserved : goal.rest::unevaluated_members-loop-member-preserved
-rest::unevaluated_members-loop-member-preserved = left.rest::unevaluated_members-loop-member-preserved
+pub rest::unevaluated_members-loop-place-preserved : goal.rest::unevaluated_members-loop-place-preserved
+rest::unevaluated_members-loop-place-preserved = left.rest::unevaluated_members-loop-place-preserved
 
-pub rest::unevaluated_members-returns : goal.rest::unevaluated_members-returns
-rest::unevaluated_members-returns = left.rest::unevaluated_members-returns
+pub rest::unevaluated_members-returns-clause-verdict : goal.rest::unevaluated_members-returns-clause-verdict
+rest::unevaluated_members-returns-clause-verdict = left.rest::unevaluated_members-returns-clause-verdict
 
-pub rest::unevaluated_items-returns : goal.rest::unevaluated_items-returns
-rest::unevaluated_items-returns = left.rest::unevaluated_items-returns
+pub rest::unevaluated_items-returns-clause-verdict : goal.rest::unevaluated_items-returns-clause-verdict
+rest::unevaluated_items-returns-clause-verdict = left.rest::unevaluated_items-returns-clause-verdict
+
+pub rest::unevaluated_items-returns-in_err-part_at-clause-keeps : goal.rest::unevaluated_items-returns-in_err-part_at-clause-keeps
+rest::unevaluated_items-returns-in_err-part_at-clause-keeps = left.rest::unevaluated_items-returns-in_err-part_at-clause-keeps
+
+pub rest::unevaluated_members-returns-in_err-part_at-clause-keeps : goal.rest::unevaluated_members-returns-in_err-part_at-clause-keeps
+rest::unevaluated_members-returns-in_err-part_at-clause-keeps = left.rest::unevaluated_members-returns-in_err-part_at-clause-keeps

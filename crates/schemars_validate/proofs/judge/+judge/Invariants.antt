@@ -1,6 +1,7 @@
 -- What is left is still to be judged; and the work that is left.
-use Rattle.std.proofs.Common.{◌≡◌, ◌≤◌, ◌++◌, take, drop, map, max, option_map}
-use Rattle.schemars_validate.proofs.Words.{◌||◌, iter_rest, string, depth, items_depth, members_depth, view, items_view, members_view, both, all_of, each_member, where_some, by_patterns, matches_some, count_of_fitting, beside_members, judged_by_some, context, judge, meant, so_far, with_each, taken_by, joined_by, parts_of, positions_in, marked, at_positions, fits_at, each_unmarked, each_unmarked_item, judged_beside_members, judge_at, judges_of, judges_in, named_judges, named_judges_in, judges_among, judges_among_in, each_item, items_by, member_by, members_by, names_by, dependents_by}
+use Rattle.std.proofs.Common.{◌≡◌, ◌≤◌, ◌<◌, ◌+◌, Some, length, ◌++◌, take, drop, map, max, option_map}
+use Rattle.schemars_validate.specs.Memos.{IsKnown}
+use Rattle.schemars_validate.proofs.Words.{◌||◌, as_object, iter_rest, string, array, object, follow, depth, items_depth, members_depth, view, items_view, members_view, both, all_of, each_member, where_some, by_patterns, matches_some, count_of_fitting, beside_members, judged_by_some, context, judge, meant, so_far, with_each, taken_by, joined_by, parts_of, positions_in, marked, at_positions, fits_at, each_unmarked, each_unmarked_item, judged_beside_members, judge_at, judges_of, judges_in, named_judges, named_judges_in, judges_among, judges_among_in, each_item, items_by, member_by, members_by, names_by, dependents_by}
 use Rattle.schemars_validate.proofs.Stepping.{added, IsFew}
 use Rattle.schemars_validate.proofs.Measures.{work, depth_at, items_depth_at, members_depth_at}
 use Rattle.schemars_validate.proofs.judge.+judge.Given as goal
@@ -21,7 +22,7 @@ abbrev pub decreases-lists::contains : goal.decreases-lists::contains
 decreases-lists::contains g l = work l.left (view l.d.now.whole.now) (members_depth (members_view l.keywords.now.entries)) 12
 
 abbrev pub decreases-lists::count_of_fitting : goal.decreases-lists::count_of_fitting
-decreases-lists::count_of_fitting g l = work l.left (view l.d.now.whole.now) (depth (view l.schema.now)) 2
+decreases-lists::count_of_fitting g l = work l.left (view l.d.now.whole.now) (depth (view l.schema.now)) 3
 
 abbrev pub decreases-objects::names : goal.decreases-objects::names
 decreases-objects::names g l = work l.left (view l.d.now.whole.now) (depth_at (option_map (λ s. view s.now) l.of_names)) 2
@@ -39,6 +40,19 @@ decreases-several::dependents g l =
 abbrev pub decreases-one::reference : goal.decreases-one::reference
 decreases-one::reference g l = work l.left (view l.d.now.whole.now) (members_depth (members_view l.keywords.now.entries)) 13
 
+abbrev pub decreases-one::followed : goal.decreases-one::followed
+decreases-one::followed g l = work l.left (view l.d.now.whole.now) 0 12
+
+abbrev pub decreases-parts::part_at : goal.decreases-parts::part_at
+decreases-parts::part_at g l = work l.left (view l.d.now.whole.now) (depth_at (option_map (λ s. view s.now) l.schema)) 2
+
+abbrev pub decreases-parts::member_at : goal.decreases-parts::member_at
+decreases-parts::member_at g l =
+    work l.left (view l.d.now.whole.now)
+    (max (members_depth_at (option_map (λ s. members_view s.now.entries) l.schemas.now.named))
+    (max (members_depth_at (option_map (λ s. members_view s.now.entries) l.schemas.now.by_pattern))
+    (depth_at (option_map (λ s. view s.now) l.schemas.now.others)))) 4
+
 abbrev pub decreases-one::fits : goal.decreases-one::fits
 decreases-one::fits g l = work l.left (view l.d.now.whole.now) (depth (view l.schema.now)) 2
 
@@ -55,7 +69,7 @@ decreases-objects::members g l =
     work l.left (view l.d.now.whole.now)
     (max (members_depth_at (option_map (λ s. members_view s.now.entries) l.schemas.now.named))
     (max (members_depth_at (option_map (λ s. members_view s.now.entries) l.schemas.now.by_pattern))
-    (depth_at (option_map (λ s. view s.now) l.schemas.now.others)))) 4
+    (depth_at (option_map (λ s. view s.now) l.schemas.now.others)))) 5
 
 abbrev pub decreases-objects::one_member : goal.decreases-objects::one_member
 decreases-objects::one_member g l =
@@ -84,12 +98,13 @@ decreases-rest::unevaluated_items g l = work l.left (view l.d.now.whole.now) (de
 abbrev pub decreases-rest::unevaluated_members : goal.decreases-rest::unevaluated_members
 decreases-rest::unevaluated_members g l = work l.left (view l.d.now.whole.now) (depth (view l.schema.now)) 3
 
-abbrev pub invariant-lists::items-loop-item : goal.invariant-lists::items-loop-item
-invariant-lists::items-loop-item g l =
+abbrev pub invariant-lists::items-loop-place : goal.invariant-lists::items-loop-place
+invariant-lists::items-loop-place g l =
     let c = context l.d.dialect (view l.d.whole.now) (g.P.Patterns.reading l.d.patterns.now) l.left in
     let others = judge_at c (option_map (λ s. view s.now) l.schemas.others) in record {
+      known : IsKnown (follow l.d.dialect (view l.d.whole.now) (g.P.Patterns.reading l.d.patterns.now)) (view l.value) l.memo;
       deep : items_depth (items_view (iter_rest l.first)) ≤ items_depth (items_view l.schemas.first.now);
-      rest : both (meant l.says) (each_item (judges_of c (items_view (iter_rest l.first))) others (items_view (drop l.item-index l.item-items)))
+      rest : both (meant l.says) (each_item (judges_of c (items_view (iter_rest l.first))) others (items_view (drop l.place l.item-items)))
           ≡ items_by (judges_of c (items_view l.schemas.first.now)) others (view l.value);
     }
 
@@ -98,6 +113,7 @@ invariant-lists::count_of_fitting-loop-place g l =
     let c = context l.d.dialect (view l.d.whole.now) (g.P.Patterns.reading l.d.patterns.now) l.left in
     let s = judge c (view l.schema) in
     let f = at_positions (fits_at l.d.dialect.reads_prefix_items s (items_view l.items)) in record {
+      known : IsKnown (follow l.d.dialect (view l.d.whole.now) (g.P.Patterns.reading l.d.patterns.now)) (array (items_view l.items)) l.memo;
       counted : added l.count (count_of_fitting s (items_view (drop l.place l.items))) ≡ count_of_fitting s (items_view l.items);
       few : IsFew l.count l.place;
       judged : take l.place l.marks.items ++ marked f (positions_in l.place (items_view (drop l.place l.items))) (drop l.place l.marks.items)
@@ -117,26 +133,33 @@ invariant-several::dependents-loop-name g l =
     let v = view l.value in
     let left = beside_members (judges_among c (members_view l.name-iterator)) (members_view l.members.entries) in
     let all = judges_among_in c (option_map (λ s. members_view s.now.entries) l.by_name) in record {
+      known : IsKnown (follow l.d.dialect (view l.d.whole.now) (g.P.Patterns.reading l.d.patterns.now)) v l.memo;
       deep : members_depth (members_view l.name-iterator) ≤ members_depth_at (option_map (λ s. members_view s.now.entries) l.by_name);
       rest : both (meant l.says) (all_of (map (λ s. s.fits v) left)) ≡ dependents_by all v;
       judged : marked (judged_by_some left v) (parts_of v) l.marks.items ≡ marked (judged_beside_members all v) (parts_of v) l.fn.marks.items;
     }
 
-abbrev pub invariant-objects::members-loop-key : goal.invariant-objects::members-loop-key
-invariant-objects::members-loop-key g l =
+abbrev pub invariant-objects::members-loop-place : goal.invariant-objects::members-loop-place
+invariant-objects::members-loop-place g l =
     let patterns = g.P.Patterns.reading l.d.patterns.now in
     let c = context l.d.dialect (view l.d.whole.now) patterns l.left in
     let named = named_judges_in c (option_map (λ s. members_view s.now.entries) l.schemas.named) in
     let matched = named_judges_in c (option_map (λ s. members_view s.now.entries) l.schemas.by_pattern) in
-    let others = judge_at c (option_map (λ s. view s.now) l.schemas.others) in
-    both (meant l.says) (each_member (member_by patterns named matched others) (members_view l.key-iterator))
-    ≡ members_by patterns named matched others (view l.value)
+    let others = judge_at c (option_map (λ s. view s.now) l.schemas.others) in record {
+      known : IsKnown (follow l.d.dialect (view l.d.whole.now) patterns) (view l.value) l.memo;
+      there : drop l.place l.initial.key-iterator ≡ l.key-iterator;
+      same : Some (members_view l.initial.key-iterator) ≡ as_object (view l.value);
+      few : l.place + length l.key-iterator < 18446744073709551616;
+      rest : both (meant l.says) (each_member (member_by patterns named matched others) (members_view l.key-iterator))
+          ≡ members_by patterns named matched others (view l.value);
+    }
 
 abbrev pub invariant-objects::matching-loop-pattern : goal.invariant-objects::matching-loop-pattern
 invariant-objects::matching-loop-pattern g l =
     let patterns = g.P.Patterns.reading l.d.patterns.now in
     let c = context l.d.dialect (view l.d.whole.now) patterns l.left in
     let all = named_judges_in c (option_map (λ s. members_view s.now.entries) l.by_pattern) in record {
+      known : IsKnown (follow l.d.dialect (view l.d.whole.now) patterns) (view l.member) l.memo;
       deep : members_depth (members_view l.pattern-iterator) ≤ members_depth_at (option_map (λ s. members_view s.now.entries) l.by_pattern);
       rest : both (meant l.says) (by_patterns patterns (named_judges c (members_view l.pattern-iterator)) l.key (view l.member))
           ≡ by_patterns patterns all l.key (view l.member);
@@ -147,6 +170,7 @@ abbrev pub invariant-several::each-loop-schema : goal.invariant-several::each-lo
 invariant-several::each-loop-schema g l =
     let c = context l.d.dialect (view l.d.whole.now) (g.P.Patterns.reading l.d.patterns.now) l.left in
     let left = items_view (drop l.schema-index l.schema-items) in record {
+      known : IsKnown (follow l.d.dialect (view l.d.whole.now) (g.P.Patterns.reading l.d.patterns.now)) (view l.value) l.memo;
       deep : items_depth (items_view l.schema-items) ≤ items_depth_at (option_map (λ s. items_view s.now.items) l.schemas);
       joined : taken_by l.join (with_each (so_far l.joined) (map (λ s. s.fits (view l.value)) (judges_of c left)))
           ≡ where_some (option_map (λ s. items_view s.now.items) l.schemas)
@@ -156,14 +180,19 @@ invariant-several::each-loop-schema g l =
           l.fn.marks.items;
     }
 
-abbrev pub invariant-rest::unevaluated_items-loop-item : goal.invariant-rest::unevaluated_items-loop-item
-invariant-rest::unevaluated_items-loop-item g l =
-    let c = context l.d.dialect (view l.d.whole.now) (g.P.Patterns.reading l.d.patterns.now) l.left in
-    both (meant l.says) (each_unmarked_item (judge c (view l.schema)) (items_view (drop l.item-index l.items)) (iter_rest l.marks))
-    ≡ each_unmarked_item (judge c (view l.schema)) (items_view l.items) l.judged
+abbrev pub invariant-rest::unevaluated_items-loop-place : goal.invariant-rest::unevaluated_items-loop-place
+invariant-rest::unevaluated_items-loop-place g l =
+    let c = context l.d.dialect (view l.d.whole.now) (g.P.Patterns.reading l.d.patterns.now) l.left in record {
+      known : IsKnown (follow l.d.dialect (view l.d.whole.now) (g.P.Patterns.reading l.d.patterns.now)) (array (items_view l.items)) l.memo;
+      rest : both (meant l.says) (each_unmarked_item (judge c (view l.schema)) (items_view (drop l.place l.items)) (iter_rest l.marks))
+          ≡ each_unmarked_item (judge c (view l.schema)) (items_view l.items) l.judged;
+    }
 
-abbrev pub invariant-rest::unevaluated_members-loop-member : goal.invariant-rest::unevaluated_members-loop-member
-invariant-rest::unevaluated_members-loop-member g l =
-    let c = context l.d.dialect (view l.d.whole.now) (g.P.Patterns.reading l.d.patterns.now) l.left in
-    both (meant l.says) (each_unmarked (judge c (view l.schema)) (members_view l.member-iterator) (iter_rest l.marks))
-    ≡ each_unmarked (judge c (view l.schema)) (members_view l.members.entries) l.judged
+abbrev pub invariant-rest::unevaluated_members-loop-place : goal.invariant-rest::unevaluated_members-loop-place
+invariant-rest::unevaluated_members-loop-place g l =
+    let c = context l.d.dialect (view l.d.whole.now) (g.P.Patterns.reading l.d.patterns.now) l.left in record {
+      known : IsKnown (follow l.d.dialect (view l.d.whole.now) (g.P.Patterns.reading l.d.patterns.now)) (object (members_view l.members.entries)) l.memo;
+      there : drop l.place l.members.entries ≡ l.member-iterator;
+      rest : both (meant l.says) (each_unmarked (judge c (view l.schema)) (members_view l.member-iterator) (iter_rest l.marks))
+          ≡ each_unmarked (judge c (view l.schema)) (members_view l.members.entries) l.judged;
+    }

@@ -8,28 +8,28 @@ use Rattle.schemars_validate.proofs.Marking.{mapped_some}
 use Rattle.schemars_validate.proofs.judge.+judge.Goals as goal
 
 pub keywords::beside-inside-requires : goal.keywords::beside-inside-requires
-keywords::beside-inside-requires g t c = λ κs s. (omega (arith, c.decreases), s)
+keywords::beside-inside-requires g t c = λ κs s. (omega (arith, c.decreases), (s, c.requires))
 
 pub keywords::beside-each-requires : goal.keywords::beside-each-requires
 keywords::beside-each-requires g t c =
     let ms = members_view c.args.keywords.now.entries in
     let deep = ap items_depth_at (c.schemas_in.ensures ∙ ap schemas_in c.member.ensures) in
-    λ κs s. (omega (arith, deep, list_under (codes "allOf") ms, c.decreases), s)
+    λ κs s. (omega (arith, deep, list_under (codes "allOf") ms, c.decreases), (s, c.inside.ensures.keeps))
 
 pub keywords::beside-each-requires-2 : goal.keywords::beside-each-requires-2
 keywords::beside-each-requires-2 g t c =
     let ms = members_view c.args.keywords.now.entries in
     let deep = ap items_depth_at (c.schemas_in-2.ensures ∙ ap schemas_in c.member-2.ensures) in
-    λ κs s. (omega (arith, deep, list_under (codes "anyOf") ms, c.decreases), s)
+    λ κs s. (omega (arith, deep, list_under (codes "anyOf") ms, c.decreases), (s, c.each.ensures.keeps))
 
 pub keywords::beside-each-requires-3 : goal.keywords::beside-each-requires-3
 keywords::beside-each-requires-3 g t c =
     let ms = members_view c.args.keywords.now.entries in
     let deep = ap items_depth_at (c.schemas_in-3.ensures ∙ ap schemas_in c.member-3.ensures) in
-    λ κs s. (omega (arith, deep, list_under (codes "oneOf") ms, c.decreases), s)
+    λ κs s. (omega (arith, deep, list_under (codes "oneOf") ms, c.decreases), (s, c.each-2.ensures.keeps))
 
 pub keywords::beside-condition-requires : goal.keywords::beside-condition-requires
-keywords::beside-condition-requires g t c = λ κs s. (omega (arith, c.decreases), s)
+keywords::beside-condition-requires g t c = λ κs s. (omega (arith, c.decreases), (s, c.each-3.ensures.keeps))
 
 pub keywords::beside-dependents-requires : goal.keywords::beside-dependents-requires
 keywords::beside-dependents-requires g t c =
@@ -37,19 +37,19 @@ keywords::beside-dependents-requires g t c =
     let r = c.args.d.now.dialect.reads_unevaluated in
     let deep = ap members_depth_at (c.schemas_where_read-named.ensures
     ∙ (λ i. schemas_where_read (c.reads_unevaluated.ensures i) (c.member-4.ensures i))) in
-    λ κs s. (omega (arith, deep, read_map_under r (codes "dependentSchemas") ms, c.decreases), s)
+    λ κs s. (omega (arith, deep, read_map_under r (codes "dependentSchemas") ms, c.decreases), (s, c.condition.ensures.keeps))
 
 pub keywords::beside-reference-requires : goal.keywords::beside-reference-requires
-keywords::beside-reference-requires g t c = λ κs s. (omega (arith, c.decreases), s)
+keywords::beside-reference-requires g t c = λ κs s. (omega (arith, c.decreases), (s, c.dependents.ensures.keeps))
 
 pub keywords::beside-dependencies-requires : goal.keywords::beside-dependencies-requires
-keywords::beside-dependencies-requires g t c = λ κs s. (omega (arith, c.decreases), s)
+keywords::beside-dependencies-requires g t c = λ κs s. (omega (arith, c.decreases), (s, c.reference.ensures.keeps))
 
 pub keywords::beside-alone-requires : goal.keywords::beside-alone-requires
 keywords::beside-alone-requires g t c =
     let ms = members_view c.args.keywords.now.entries in
     let deep = ap depth_at (c.schema_at-denied.ensures ∙ ap schema_at c.member-5.ensures) in
-    λ κs s. (omega (arith, deep, schema_under (codes "not") ms, c.decreases), s)
+    λ κs s. (omega (arith, deep, schema_under (codes "not") ms, c.decreases), (s, c.dependencies.ensures.keeps))
 
 pub keywords::beside-returns-clause-verdict : goal.keywords::beside-returns-clause-verdict
 keywords::beside-returns-clause-verdict g t c =
@@ -60,7 +60,7 @@ keywords::beside-returns-clause-verdict g t c =
     let raw : Raw = λ k. get_member k ms in
     let denied = c.schema_at-denied.ensures ∙ ap schema_at c.member-5.ensures in
     let is = mapped_some (λ s. view s.now) c.schema_at-denied.result ∙ ap is_some denied in
-    let said = c.in_ok-fits_denied.ensures ∙ ap (λ (o : Option Data). where_some (judge_at x o) (λ s. s.fits v)) denied in
+    let said = c.in_ok-fits_denied.ensures.verdict ∙ ap (λ (o : Option Data). where_some (judge_at x o) (λ s. s.fits v)) denied in
     c.all_of.ensures
     ∙ beside_says x raw v _ _ _ _ _ _ _ _ _ _
     c.in_ok-reference.ensures.verdict
@@ -82,7 +82,7 @@ keywords::beside-returns-clause-verdict g t c =
     (c.in_ok-dependent.ensures.verdict
     ∙ ap (λ (o : Option Members). dependents_by (judges_among_in x o) v) (c.schemas_where_read-named.ensures
     ∙ (λ i. schemas_where_read (c.reads_unevaluated.ensures i) (c.member-4.ensures i))))
-    c.in_ok-dependencies.ensures
+    c.in_ok-dependencies.ensures.verdict
 
 pub keywords::beside-returns-clause-judged : goal.keywords::beside-returns-clause-judged
 keywords::beside-returns-clause-judged g t c =
@@ -116,10 +116,10 @@ keywords::inside-items-requires g t c =
     let r = c.args.d.now.dialect.reads_prefix_items in
     let first = ap items_depth c.item_schemas-of_items.ensures.first in
     let others = ap depth_at c.item_schemas-of_items.ensures.others in
-    λ κs s. (omega (arith, first, others, first_under r ms, other_under r ms, c.decreases), s)
+    λ κs s. (omega (arith, first, others, first_under r ms, other_under r ms, c.decreases), (s, c.requires))
 
 pub keywords::inside-contains-requires : goal.keywords::inside-contains-requires
-keywords::inside-contains-requires g t c = λ κs s. (omega (arith, c.decreases), s)
+keywords::inside-contains-requires g t c = λ κs s. (omega (arith, c.decreases), (s, c.items.ensures.keeps))
 
 pub keywords::inside-names-requires : goal.keywords::inside-names-requires
 keywords::inside-names-requires g t c =
@@ -135,7 +135,7 @@ keywords::inside-members-requires g t c =
     let named = ap members_depth_at c.member_schemas-of_members.ensures.named in
     let matched = ap members_depth_at c.member_schemas-of_members.ensures.by_pattern in
     let others = ap depth_at c.member_schemas-of_members.ensures.others in
-    λ κs s. (omega (arith, named, matched, others, map_under (codes "properties") ms, map_under (codes "patternProperties") ms, schema_under (codes "additionalProperties") ms, c.decreases), s)
+    λ κs s. (omega (arith, named, matched, others, map_under (codes "properties") ms, map_under (codes "patternProperties") ms, schema_under (codes "additionalProperties") ms, c.decreases), (s, c.contains.ensures.keeps))
 
 pub keywords::inside-returns-clause-verdict : goal.keywords::inside-returns-clause-verdict
 keywords::inside-returns-clause-verdict g t c =
@@ -146,14 +146,14 @@ keywords::inside-returns-clause-verdict g t c =
     let raw : Raw = λ k. get_member k ms in
     c.all_of.ensures
     ∙ inside_says x raw v _ _ _ _ _
-    (c.in_ok-items.ensures
+    (c.in_ok-items.ensures.verdict
     ∙ (λ i. items_by (judges_of x (c.item_schemas-of_items.ensures.first i)) (judge_at x (c.item_schemas-of_items.ensures.others i)) v))
     c.in_ok-contains.ensures.verdict
     c.by_keys-keys.ensures
     (c.in_ok-names.ensures
     ∙ ap (λ (o : Option Data). names_by (judge_at x o) v) (c.schema_where_read-of_names.ensures
     ∙ (λ i. schema_where_read (c.reads_const.ensures i) (c.member.ensures i))))
-    (c.in_ok-members.ensures
+    (c.in_ok-members.ensures.verdict
     ∙ (λ i. members_by reading (named_judges_in x (c.member_schemas-of_members.ensures.named i))
     (named_judges_in x (c.member_schemas-of_members.ensures.by_pattern i)) (judge_at x (c.member_schemas-of_members.ensures.others i)) v))
 

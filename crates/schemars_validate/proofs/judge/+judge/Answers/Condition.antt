@@ -36,19 +36,19 @@ several::condition-fits-requires g t c =
     let read = c.schema_where_read-asked.ensures ∙ (λ i. schema_where_read (c.reads_const.ensures i) (c.member.ensures i)) in
     let deep = ap (λ o. depth_at (option_map (λ s. view s.now) o)) c.in-Some.is in
     let same = ap depth_at read in
-    λ κs s. (omega (arith, deep, same, read_under r (codes "if") ms, c.decreases), s)
+    λ κs s. (omega (arith, deep, same, read_under r (codes "if") ms, c.decreases), (s, c.requires))
 
 pub several::condition-branch-d-requires : goal.several::condition-branch-d-requires
 several::condition-branch-d-requires g t c =
     let ms = members_view c.args.keywords.now.entries in
     let deep = ap depth_at (c.schema_at.ensures ∙ ap schema_at c.member-in-Yes.ensures) in
-    λ κs s. (omega (arith, deep, schema_under (codes "then") ms, c.decreases), s)
+    λ κs s. (omega (arith, deep, schema_under (codes "then") ms, c.decreases), (s, c.fits.ensures.keeps))
 
 pub several::condition-branch-d-requires-in-No : goal.several::condition-branch-d-requires-in-No
 several::condition-branch-d-requires-in-No g t c =
     let ms = members_view c.args.keywords.now.entries in
     let deep = ap depth_at (c.schema_at-in-No.ensures ∙ ap schema_at c.member-in-No.ensures) in
-    λ κs s. (omega (arith, deep, schema_under (codes "else") ms, c.decreases), s)
+    λ κs s. (omega (arith, deep, schema_under (codes "else") ms, c.decreases), (s, c.fits.ensures.keeps))
 
 pub several::condition-returns-in-Yes-clause-verdict : goal.several::condition-returns-in-Yes-clause-verdict
 several::condition-returns-in-Yes-clause-verdict g t c =

@@ -28,7 +28,7 @@ several::dependents-branch-d-requires g t c =
     let deep = entry_deep (c.in-Some-2.name.now, c.in-Some-2.schema.now) c.loop-name.name-iterator c.next.new.self
     c.in-Some-2.ensures.steps in
     let shallow = beside_deep ms name (view c.in-Some-2.schema.now) in
-    λ κs s. (omega (arith, same, shallow, deep.0, c.loop-name.invariant.deep, c.decreases), s)
+    λ κs s. (omega (arith, same, shallow, deep.0, c.loop-name.invariant.deep, c.decreases), (s, c.loop-name.invariant.known))
 
 pub several::dependents-loop-name-preserved : goal.several::dependents-loop-name-preserved
 several::dependents-loop-name-preserved g t c =
@@ -45,6 +45,7 @@ several::dependents-loop-name-preserved g t c =
     let rest = judges_among x (members_view c.next.new.self) in
     let deep = entry_deep (c.in-Some-2.name.now, c.in-Some-2.schema.now) c.loop-name.name-iterator c.next.new.self steps in
     record {
+      known = c.branch-d.ensures.keeps;
       deep = omega (arith, deep.1, c.loop-name.invariant.deep);
       rest = one_more_said S _ (meant c.both-says.result) _ _
           (c.both-says.ensures ∙ ap (both S) (c.in_ok-branch.ensures.verdict
@@ -74,10 +75,10 @@ several::dependencies-dependents-requires g t c =
     let r = reads_dependencies c.args.d.now.dialect in
     let deep = ap members_depth_at (c.members_where_read-among.ensures
     ∙ (λ i. members_where_read (c.reads_dependencies-reads.ensures i) (c.member-by_name.ensures i))) in
-    λ κs s. (omega (arith, deep, among_under r (codes "dependencies") ms, c.decreases), s)
+    λ κs s. (omega (arith, deep, among_under r (codes "dependencies") ms, c.decreases), (s, c.requires))
 
-pub several::dependencies-returns : goal.several::dependencies-returns
-several::dependencies-returns g t c =
+pub several::dependencies-returns-clause-verdict : goal.several::dependencies-returns-clause-verdict
+several::dependencies-returns-clause-verdict g t c =
     let x = context c.args.d.now.dialect (view c.args.d.now.whole.now) (g.P.Patterns.reading c.args.d.now.patterns.now) c.args.left in
     let v = view c.args.value.now in
     let y = get_member (codes "dependencies") (members_view c.args.keywords.now.entries) in
@@ -92,7 +93,7 @@ several::dependencies-returns g t c =
 pub several::each-fits-requires : goal.several::each-fits-requires
 several::each-fits-requires g t c =
     let under = item_under c.deref-schema-items.result.now c.loop-schema.schema-index c.schema-item.result c.loop-schema-test.true c.schema-item.is in
-    λ κs s. (omega (arith, under, c.loop-schema.invariant.deep, c.decreases), s)
+    λ κs s. (omega (arith, under, c.loop-schema.invariant.deep, c.decreases), (s, c.loop-schema.invariant.known))
 
 pub several::each-loop-schema-preserved : goal.several::each-loop-schema-preserved
 several::each-loop-schema-preserved g t c =
@@ -105,6 +106,7 @@ several::each-loop-schema-preserved g t c =
     let F : Items → List Verdict = λ ds. map (λ s. s.fits v) (judges_of x ds) in
     let J = so_far c.loop-schema.joined in
     record {
+      known = c.fits.ensures.keeps;
       deep = c.loop-schema.invariant.deep;
       joined = ap (λ (k : SoFar). taken_by c.args.join (with_each k (F rest)))
           (c.with-joined.ensures ∙ ap (with_one J) c.in_ok-says.ensures.verdict)

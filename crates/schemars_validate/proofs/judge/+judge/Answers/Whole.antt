@@ -11,7 +11,7 @@ pub judge-object-requires : goal.judge-object-requires
 judge-object-requires g t c =
     let deep : depth (view c.args.schema.now) ≡ depth (object (members_view c.in-Some.keywords.now.entries)) =
     ap depth (object-as_object (view c.args.schema.now) (members_view c.in-Some.keywords.now.entries) c.in-Some.ensures) in
-    λ κs s. (omega (arith, deep, c.decreases), s)
+    λ κs s. (omega (arith, deep, c.decreases), (s, c.requires))
 
 pub judge-returns-in-Some-clause-verdict : goal.judge-returns-in-Some-clause-verdict
 judge-returns-in-Some-clause-verdict g t c =
@@ -47,19 +47,19 @@ judge-returns-in-None-clause-judged g t c =
     ∙ marked_none (parts_of v) c.args.marks.now.items)
 
 pub object-reference-requires : goal.object-reference-requires
-object-reference-requires g t c = λ κs s. (omega (arith, c.decreases), s)
+object-reference-requires g t c = λ κs s. (omega (arith, c.decreases), (s, c.requires))
 
 pub object-beside-requires : goal.object-beside-requires
-object-beside-requires g t c = λ κs s. (omega (arith, c.decreases), s)
+object-beside-requires g t c = λ κs s. (omega (arith, c.decreases), (s, c.requires))
 
 pub object-beside-requires-in-None : goal.object-beside-requires-in-None
-object-beside-requires-in-None g t c = λ κs s. (omega (arith, c.decreases), s)
+object-beside-requires-in-None g t c = λ κs s. (omega (arith, c.decreases), (s, c.requires))
 
 pub object-unevaluated-requires : goal.object-unevaluated-requires
 object-unevaluated-requires g t c =
     let deep = ap depth_at c.in-Some.ensures in
     let under = rest_under c.args.d.now.dialect.reads_unevaluated (members_view c.args.keywords.now.entries) (view c.args.value.now) in
-    λ κs s. (omega (arith, deep, under, c.decreases), s)
+    λ κs s. (omega (arith, deep, under, c.decreases), (s, c.beside.ensures.keeps))
 
 pub object-returns-then-refers_alone-clause-verdict : goal.object-returns-then-refers_alone-clause-verdict
 object-returns-then-refers_alone-clause-verdict g t c =
@@ -89,7 +89,7 @@ object-returns-in_ok-rest-in-Some-clause-verdict g t c =
     ∙ (object_with x raw v d _ _ c.beside.new.marks.items c.in-Some.ensures c.in_ok-says-in-Some.ensures.verdict
     (c.in_ok-says-in-Some.ensures.judged
     ∙ ap (marked (judged_beside x raw (reads x raw) v) (parts_of v)) c.in_ok-judged-in-Some.ensures)
-    (c.in_ok-rest-in-Some.ensures ∙ ap (unmarked_by (judge x d) v) c.deref.ensures.value)
+    (c.in_ok-rest-in-Some.ensures.verdict ∙ ap (unmarked_by (judge x d) v) c.deref.ensures.value)
     ∙ sym (ap (λ (j : Judge). j.fits v) whole))
 
 pub object-returns-in_ok-rest-in-Some-clause-judged : goal.object-returns-in_ok-rest-in-Some-clause-judged
