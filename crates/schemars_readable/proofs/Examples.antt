@@ -1,7 +1,7 @@
 -- The definitions at examples, computed.
 use Rattle.std.proofs.Common.{◌≡◌, negsuc, [], ◌∷◌, true, false, refl, map}
-use Rattle.schemars_readable.proofs.Words.{codes, chars, fin, le, lt, eq, digits, encode, Data, unsigned, float, boolean, number, string, array, object, Items, no_items, item, Members, no_members, member, expression_of, schemas_at, schemas_inside, schemas_under, schemas_listed, schemas_named, unread_among, patterns_in}
-use Rattle.schemars_readable.specs.declared.draft.Draft.TheVariants.{Draft07, Draft2020_12, OpenApi3}
+use Rattle.schemars_readable.proofs.Words.{codes, chars, fin, le, lt, eq, digits, encode, Data, unsigned, float, boolean, number, string, array, object, Items, no_items, item, Members, no_members, member, expression_of, schemas_at, schemas_inside, schemas_under, schemas_listed, schemas_named, unread_among, is_malformed, patterns_in}
+use Rattle.schemars_readable.specs.declared.draft.Draft.TheVariants.{Draft07, Draft2019_09, Draft2020_12, OpenApi3}
 
 -- ---- patterns
 
@@ -98,6 +98,31 @@ other_dialect : unread_among Draft07 document [] (member (codes "$schema") (stri
     ≡ (codes "/$schema", codes "$schema") ∷ []
 unfolding chars encode
 other_dialect = refl
+
+-- ---- keywords of the wrong form
+
+-- {"items": [{}]}
+a_list_of_items : (is_malformed Draft2020_12 (codes "items") (array (item nothing no_items)) ≡ true)
+    × (is_malformed OpenApi3 (codes "items") (array (item nothing no_items)) ≡ true)
+    × (is_malformed Draft07 (codes "items") (array (item nothing no_items)) ≡ false)
+a_list_of_items = (refl, refl, refl)
+
+-- {"type": "strin"}, {"type": "null"} and {"type": 3}
+types : (is_malformed Draft07 (codes "type") (string (codes "strin")) ≡ true)
+    × (is_malformed Draft07 (codes "type") (string (codes "null")) ≡ false)
+    × (is_malformed OpenApi3 (codes "type") (string (codes "null")) ≡ true)
+    × (is_malformed Draft07 (codes "type") (number (unsigned 3)) ≡ true)
+types = (refl, refl, refl, refl)
+
+-- {"minLength": "5"}, {"required": "name"}, {"properties": {"b": 3}}, {"multipleOf": 0}, {"anyOf": []}, {"title": 3}
+others : (is_malformed Draft2019_09 (codes "minLength") (string (codes "5")) ≡ true)
+    × (is_malformed Draft2019_09 (codes "required") (string (codes "name")) ≡ true)
+    × (is_malformed Draft2019_09 (codes "properties") (object (member (codes "b") (number (unsigned 3)) no_members)) ≡ true)
+    × (is_malformed Draft2019_09 (codes "multipleOf") (number (unsigned 0)) ≡ true)
+    × (is_malformed Draft2019_09 (codes "anyOf") (array no_items) ≡ true)
+    × (is_malformed Draft2019_09 (codes "title") (number (unsigned 3)) ≡ false)
+unfolding le
+others = (refl, refl, refl, refl, refl, refl)
 
 -- ---- patterns of a schema
 

@@ -1,6 +1,7 @@
 -- Words that many proofs of this crate name.
 pub use Rattle.schemars_readable.specs.Expressions.{AreExpressionsOf, AreOwn, IsReadFrom, IsRefusalAmong, asked_of, each_name, named, patterns_in, patterns_of, with_patterns}
 pub use Rattle.schemars_readable.specs.Following.{AreAmong, AreFollowed, IsGrown, leads_to}
+pub use Rattle.schemars_readable.specs.Forms.{is_malformed}
 pub use Rattle.schemars_readable.specs.Refused.{IsRead, IsRefusal}
 pub use Rattle.schemars_readable.specs.Standing.{StandsAt, escaped_character, escaped_characters, inside, reference_of, referred, schemas_referred, standing}
 unfoldable pub use Rattle.schemars_readable.specs.Standing.{schemas_at, schemas_inside, schemas_listed, schemas_named, schemas_under}

@@ -3,6 +3,7 @@ pub mod Drafts
 pub mod Translation
 pub mod Standing
 pub mod Following
+pub mod Forms
 pub mod Unread
 pub mod Expressions
 pub mod Refused

@@ -1,4 +1,4 @@
--- What stands in a document and is not read.
+-- What stands in a document and is not read, or has no form in which it would be.
 use Rattle.std.specs.Prelude.{◌&&◌, ◌||◌, ◌==◌, Bool, true, false, not, is_some, length, List, [], ◌∷◌, ◌++◌, Option, Some, None, if◌then◌else◌, codes, map, bytes_eq, string_bytes, Contains}
 use Rattle.serde_json.specs.Data.{Data, Num, unsigned, Members, no_members, member}
 use Rattle.serde_json.specs.Find.{as_str, as_number}
@@ -8,6 +8,7 @@ use Rattle.schemars_schema.specs.Lookup.{resolved}
 use Rattle.schemars_schema.specs.Numbers.{number_le, size_in_64_bits}
 use Rattle.schemars_readable.specs.declared.draft.Draft as named
 use Rattle.schemars_readable.specs.declared.refusal.Unread.{Unread}
+use Rattle.schemars_readable.specs.Forms.{is_malformed}
 use Rattle.schemars_readable.specs.Standing.{StandsAt, member_place}
 
 -- ---- keywords that judge values
@@ -57,10 +58,11 @@ is_lost document (Some reference) = not (is_some (resolved document reference))
 abbrev pub leads_nowhere : Data → Text → Data → Bool
 leads_nowhere document k d = bytes_eq k (codes "$ref") && is_lost document (as_str d)
 
--- a keyword of a schema at a place is not read
+-- a keyword of a schema at a place is not read, or its value has no form that the dialect gives it
 abbrev pub is_unread_at : named.Draft → Data → Text → Text → Data → Bool
 is_unread_at draft document place k d =
-    ((is_unread draft k || leaves_open k d) || is_inner_id place k) || (is_other_dialect draft k d || leads_nowhere document k d)
+    ((is_unread draft k || leaves_open k d) || (is_inner_id place k || is_malformed draft k d))
+    || (is_other_dialect draft k d || leads_nowhere document k d)
 
 abbrev pub unread_keyword : named.Draft → Data → Text → Text → Data → List (Text × Text)
 unread_keyword draft document place k d =

@@ -1,6 +1,6 @@
 //! The dialects of JSON Schema.
 ghost use Rattle.std.specs.Prelude.{◌≡◌};
-ghost use Rattle.schemars_readable.specs.Drafts.{dialect_of, path_of};
+ghost use Rattle.schemars_readable.specs.Drafts.{dialect_of, draft_named, path_of};
 ghost use Rattle.schemars_readable.specs.Unread.{is_named_by};
 
 use schemars_schema::edits::is_listed;
@@ -32,7 +32,9 @@ pub enum Draft {
 
 impl Draft {
     /// The dialect of a name: `2020-12`, `2019-09`, `draft-07` or `openapi3`.
-    pub fn named(name: &str) -> Option<Draft> {
+    pub fn named(name: &str) -> Option<Draft>
+        ensures { result ≡ draft_named name.now }
+    {
         match name {
             "2020-12" => Some(Draft::Draft2020_12),
             "2019-09" => Some(Draft::Draft2019_09),

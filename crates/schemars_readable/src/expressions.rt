@@ -166,7 +166,11 @@ fn expression_for(alloc: Global, asked: &Asked<'_>) -> Result<Expression, Refusa
         Err(Error::OutOfMemory) => Err(Refusal::OutOfMemory),
         Err(Error::Syntax(_) | Error::CompiledTooBig | Error::Internal) => {
             let keyword = pattern;
-            Err(Refusal::Pattern(Unread { place, keyword }))
+            Err(Refusal::Pattern(Unread {
+                place,
+                keyword,
+                wanted: None,
+            }))
         }
     }
 }

@@ -4,11 +4,13 @@
 mod draft;
 mod ecma;
 mod expressions;
+mod forms;
 mod keywords;
 mod members;
 mod places;
 mod refusal;
 mod unread;
+mod wanted;
 
 pub use draft::Draft;
 pub use expressions::{Expression, compiled, patterns_in};

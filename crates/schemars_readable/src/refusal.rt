@@ -5,12 +5,15 @@ use crate::expressions::Expression;
 use std::alloc::{AllocError, AllocFailed};
 use std::fmt::{self, Display, Formatter, Write};
 
-/// A keyword that judges values and is not read, or a reference that is not followed.
+/// A keyword that judges values and is not read, or whose value has the wrong form, or a reference that
+/// is not followed.
 #[derive(Debug, Drop)]
 pub struct Unread {
     /// The place in the document as a JSON Pointer.
     pub place: String,
     pub keyword: String,
+    /// What the keyword takes, for a reader, where its value has another form.
+    pub wanted: Option<String>,
 }
 
 /// Why a document is not taken.
@@ -19,7 +22,7 @@ pub enum Refusal {
     OutOfMemory,
     /// The document is neither an object nor a truth value.
     NotASchema,
-    /// Keywords that judge values and are not read.
+    /// Keywords that judge values and are not read, and those whose value has the wrong form.
     Unread(Vec<Unread>),
     /// A pattern that is no regular expression of the `regex` crate, or too large.
     Pattern(Unread),
@@ -51,12 +54,8 @@ impl Display for Refusal {
             Refusal::OutOfMemory => f.write_str("out of memory"),
             Refusal::NotASchema => f.write_str("the document is no schema"),
             Refusal::Unread(unread) => {
-                f.write_str("keywords that are not read:")?;
-                for it in unread {
-                    let place = it.place.as_str();
-                    write!(f, " {place}")?;
-                }
-                Ok(())
+                write_malformed(f, unread)?;
+                write_unread(f, unread)
             }
             Refusal::Pattern(it) => {
                 let (place, pattern) = (it.place.as_str(), it.keyword.as_str());
@@ -64,4 +63,47 @@ impl Display for Refusal {
             }
         }
     }
+}
+
+// A line for each keyword whose value has the wrong form.
+fn write_malformed<W: Write>(f: &mut Formatter<W>, unread: &[Unread]) -> fmt::Result {
+    let mut begun = false;
+    for it in unread {
+        if let Some(wanted) = &it.wanted {
+            if !begun {
+                f.write_str("values of keywords have the wrong form:")?;
+                begun = true;
+            }
+            let (place, wanted) = (it.place.as_str(), wanted.as_str());
+            write!(f, "\n  {place}: {wanted}")?;
+        }
+    }
+    if begun && has_unread(unread) {
+        f.write_str("\n")?;
+    }
+    Ok(())
+}
+
+fn has_unread(unread: &[Unread]) -> bool {
+    for it in unread {
+        if it.wanted.is_none() {
+            return true;
+        }
+    }
+    false
+}
+
+// The places of the keywords that are not read.
+fn write_unread<W: Write>(f: &mut Formatter<W>, unread: &[Unread]) -> fmt::Result {
+    if !has_unread(unread) {
+        return Ok(());
+    }
+    f.write_str("keywords that are not read:")?;
+    for it in unread {
+        if it.wanted.is_none() {
+            let place = it.place.as_str();
+            write!(f, " {place}")?;
+        }
+    }
+    Ok(())
 }

@@ -3,16 +3,19 @@ ghost use Rattle.std.specs.Prelude.{◌≡◌, [], ◌∷◌, IfOk, OnOk, option
 ghost use Rattle.schemars_readable.specs.Words.{view, members_view, number_view, standing, is_inner_id, is_open_divisor, is_other_dialect, is_own, is_told, is_unread_at, leads_nowhere, leaves_open, told, unread_among, unread_keyword, unread_of, with_new};
 
 use crate::draft::Draft;
+use crate::forms::is_malformed;
 use crate::keywords::is_unread;
 use crate::places::{Place, member_place};
 use crate::refusal::Unread;
+use crate::wanted::what_is_wanted;
 use schemars_validate::{numbers_le, resolved, size_in_64_bits};
 use serde_json::{Number, Value};
 use std::alloc::{AllocError, Global};
 
-/// The keywords of a document that judge values and are not read, a `multipleOf` that is a fraction,
-/// the references that lead to no schema of it, each `$id` inside, which would change what references lead to, and a `$schema` that
-/// is not that of the dialect. Each is told once.
+/// The keywords of a document that judge values and are not read, those whose value has no form that the
+/// dialect gives it, a `multipleOf` that is a fraction, the references that lead to no schema of it, each
+/// `$id` inside, which would change what references lead to, and a `$schema` that is not that of the
+/// dialect. Each is told once.
 pub fn unread_in(
     alloc: Global,
     draft: Draft,
@@ -73,7 +76,8 @@ fn add_keyword(
         return Ok(());
     }
     let at = member_place(alloc, place, keyword)?;
-    add_new(alloc, at, keyword, unread)
+    let wanted = what_is_wanted(alloc, draft, keyword, value)?;
+    add_new(alloc, at, keyword, wanted, unread)
 }
 
 // Adds a keyword at a place, unless it was told before.
@@ -81,6 +85,7 @@ fn add_new(
     alloc: Global,
     place: String,
     keyword: &str,
+    wanted: Option<String>,
     unread: &mut Vec<Unread>,
 ) -> Result<(), AllocError>
     ensures { OnOk result (told unread.new.items
@@ -90,7 +95,11 @@ fn add_new(
         return Ok(());
     }
     let keyword = String::from_str(alloc, keyword)?;
-    unread.push(Unread { place, keyword })?;
+    unread.push(Unread {
+        place,
+        keyword,
+        wanted,
+    })?;
     Ok(())
 }
 
@@ -119,7 +128,8 @@ fn is_unread_at(
     let is_lost = leads_nowhere(alloc, document, keyword, value)?;
     let is_changed = is_other_dialect(draft, keyword, value) || is_lost;
     let is_passed_over = is_unread(draft, keyword) || leaves_open(keyword, value);
-    Ok(is_passed_over || is_inner_id(place, keyword) || is_changed)
+    let is_wrong = is_inner_id(place, keyword) || is_malformed(draft, keyword, value);
+    Ok(is_passed_over || is_wrong || is_changed)
 }
 
 // Whether the keyword is a divisor that leaves numbers open.

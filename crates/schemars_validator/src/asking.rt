@@ -1,24 +1,11 @@
 //! What is asked of schemas about the parts of a value, and what is found.
-ghost use Rattle.std.specs.Prelude.{◌≡◌, IsTrue, OnOk};
-ghost use Rattle.schemars_readable.specs.Refused.{has_some};
-
 use crate::probes::with_keywords;
 use crate::reading::Reading;
+use crate::told::{Failure, Told};
 use schemars_readable::{Draft, member_place};
 use schemars_validate::{Verdict, judged, validate};
 use serde_json::{Map, Value};
 use std::alloc::{AllocError, Global};
-
-/// A keyword that a value does not meet (JSON Schema core 2020-12, 12.4.2: the basic output).
-#[derive(Debug, Drop)]
-pub struct Failure {
-    /// The way to the keyword through the document and its references, as a JSON Pointer.
-    pub keyword_location: String,
-    /// The place in the value, as a JSON Pointer.
-    pub instance_location: String,
-    /// What is wrong, for a reader.
-    pub error: String,
-}
 
 /// What stays the same at each place.
 #[derive(Clone, Copy)]
@@ -38,26 +25,36 @@ pub struct At<'a> {
     pub value: &'a Value,
 }
 
-/// Adds a failure of a keyword of the schema at the place, or of the schema as a whole.
+/// Adds a failure of a keyword of the schema at the place.
 pub fn add(
     asked: &Asked<'_>,
-    at: &At<'_>,
+    keywords: &Map<String, Value>,
     keyword: &str,
+    at: &At<'_>,
     error: &str,
-    failures: &mut Vec<Failure>,
-) -> Result<(), AllocError>
-    ensures { OnOk result (IsTrue (has_some failures.new.items)) }
-{
-    let alloc = asked.alloc;
-    let keyword_location = if keyword.is_empty() {
-        String::from_str(alloc, at.keywords)?
-    } else {
-        member_place(alloc, at.keywords, keyword)?
-    };
-    failures.push(Failure {
-        keyword_location,
-        instance_location: String::from_str(alloc, at.instance)?,
-        error: String::from_str(alloc, error)?,
+    told: &mut Told,
+) -> Result<(), AllocError> {
+    let error = told.said(asked.alloc, error)?;
+    told.add(Failure {
+        keyword_location: member_place(asked.alloc, at.keywords, keyword)?,
+        instance_location: String::from_str(asked.alloc, at.instance)?,
+        error,
+    })?;
+    Ok(())
+}
+
+/// Adds a failure of the schema at the place as a whole.
+pub fn add_whole(
+    asked: &Asked<'_>,
+    at: &At<'_>,
+    error: &str,
+    told: &mut Told,
+) -> Result<(), AllocError> {
+    let error = told.said(asked.alloc, error)?;
+    told.add(Failure {
+        keyword_location: String::from_str(asked.alloc, at.keywords)?,
+        instance_location: String::from_str(asked.alloc, at.instance)?,
+        error,
     })?;
     Ok(())
 }

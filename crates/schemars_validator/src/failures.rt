@@ -2,15 +2,18 @@
 ghost use Rattle.std.specs.Prelude.{IfOk, IsTrue};
 ghost use Rattle.schemars_readable.specs.Refused.{has_some};
 
-use crate::asking::{Asked, At, Failure, add, is_denied, is_denied_by, judged_by};
+use crate::asking::{Asked, At, add, add_whole, is_denied, is_denied_by, judged_by};
 use crate::itself::explain_itself;
 use crate::probes::without;
 use crate::reading::Reading;
-use crate::sentences::{Choice, sentence_of_choice, sentence_of_key};
-use crate::ways::{Way, parts_of, way_of, ways_beside_keys, ways_listed, ways_to};
+use crate::sentences::{Choice, sentence_of_choice};
+use crate::told::{Failure, Told};
+use crate::ways::{
+    Part, Way, parts_of, way_of, way_of_reference, ways_beside_keys, ways_listed, ways_to,
+};
+use schemars_assertions::member;
 use schemars_readable::{Draft, member_place};
 use schemars_schema::Schema;
-use schemars_validate::resolved;
 use serde_json::{Map, Value};
 use std::alloc::{AllocError, Global};
 
@@ -37,12 +40,9 @@ pub fn failures_of(
         keywords: "",
         value,
     };
-    let mut failures = Vec::new(alloc);
-    explain(&asked, DEEPEST, document, &at, &mut failures)?;
-    if failures.is_empty() {
-        add(&asked, &at, "", "is not accepted", &mut failures)?;
-    }
-    Ok(failures)
+    let mut told = Told::new(alloc);
+    explain(&asked, DEEPEST, document, &at, &mut told)?;
+    told.into_failures(alloc)
 }
 
 // How deep schemas within one another are explained.
@@ -55,14 +55,19 @@ fn explain(
     left: u32,
     schema: &Value,
     at: &At<'_>,
-    failures: &mut Vec<Failure>,
+    told: &mut Told,
 ) -> Result<(), AllocError> {
-    if left == 0 || !is_denied(asked, schema, at.value)? {
+    if left == 0 || told.is_full() {
+        told.pass_over();
         return Ok(());
     }
+    if !is_denied(asked, schema, at.value)? {
+        return Ok(());
+    }
+    told.begin();
     match schema {
-        Value::Object(keywords) => explain_object(asked, left - 1, keywords, at, failures),
-        _ => add(asked, at, "", "is not allowed", failures),
+        Value::Object(keywords) => explain_object(asked, left - 1, keywords, at, told),
+        _ => add_whole(asked, at, "is not allowed", told),
     }
 }
 
@@ -72,25 +77,20 @@ fn explain_object(
     left: u32,
     keywords: &Map<String, Value>,
     at: &At<'_>,
-    failures: &mut Vec<Failure>,
+    told: &mut Told,
 ) -> Result<(), AllocError> {
-    let before = failures.len();
+    let before = told.count();
     let alone = refers_alone(asked.draft, keywords);
     if !alone {
-        explain_itself(asked, keywords, at, failures)?;
+        explain_itself(asked, keywords, at, told)?;
     }
-    explain_ways(
-        asked,
-        left,
-        &way_of_reference(asked, keywords)?,
-        at,
-        failures,
-    )?;
+    let referred = way_of_reference(asked.alloc, asked.document, keywords)?;
+    explain_ways(asked, left, &referred, at, told)?;
     if !alone {
-        explain_inside(asked, left, keywords, at, failures)?;
+        explain_inside(asked, left, keywords, at, told)?;
     }
-    if failures.len() == before {
-        add(asked, at, "", "is not accepted", failures)?;
+    if told.count() == before {
+        add_whole(asked, at, "is not accepted", told)?;
     }
     Ok(())
 }
@@ -110,34 +110,16 @@ fn explain_inside(
     left: u32,
     keywords: &Map<String, Value>,
     at: &At<'_>,
-    failures: &mut Vec<Failure>,
+    told: &mut Told,
 ) -> Result<(), AllocError> {
-    explain_parts(asked, left, keywords, at, failures)?;
-    explain_keys(asked, left, keywords, at, failures)?;
-    explain_same(asked, left, keywords, at, failures)?;
-    explain_choices(asked, left, keywords, at, failures)?;
-    explain_unjudged(asked, left, keywords, at, failures)
+    explain_parts(asked, left, keywords, at, told)?;
+    explain_keys(asked, left, keywords, at, told)?;
+    explain_same(asked, left, keywords, at, told)?;
+    explain_choices(asked, left, keywords, at, told)?;
+    explain_unjudged(asked, left, keywords, at, told)
 }
 
 // ---- schemas of the same value, and of its parts
-
-// What the reference leads to.
-fn way_of_reference<'a>(
-    asked: &Asked<'a>,
-    keywords: &'a Map<String, Value>,
-) -> Result<Vec<Way<'a>>, AllocError> {
-    let mut ways = Vec::new(asked.alloc);
-    if let Some(Value::String(name)) = keywords.get("$ref") {
-        if let Some(schema) = resolved(asked.alloc, asked.document, name.as_str())? {
-            ways.push(Way {
-                keyword: "$ref",
-                key: None,
-                schema,
-            })?;
-        }
-    }
-    Ok(ways)
-}
 
 // Adds why the schemas of `allOf`, of the branch of a condition and beside keys deny the value.
 #[cycle(explain)]
@@ -146,17 +128,16 @@ fn explain_same(
     left: u32,
     keywords: &Map<String, Value>,
     at: &At<'_>,
-    failures: &mut Vec<Failure>,
+    told: &mut Told,
 ) -> Result<(), AllocError> {
     let all = ways_listed(asked.alloc, keywords, "allOf")?;
-    explain_ways(asked, left, &all, at, failures)?;
+    explain_ways(asked, left, &all, at, told)?;
     let branch = way_of_branch(asked, keywords, at.value)?;
-    explain_ways(asked, left, &branch, at, failures)?;
-    for keyword in ["dependentSchemas", "dependencies"] {
-        let beside = ways_of_dependents(asked, keywords, keyword, at.value)?;
-        explain_ways(asked, left, &beside, at, failures)?;
-    }
-    Ok(())
+    explain_ways(asked, left, &branch, at, told)?;
+    let beside = ways_of_dependents(asked, keywords, "dependentSchemas", at.value)?;
+    explain_ways(asked, left, &beside, at, told)?;
+    let beside = ways_of_dependents(asked, keywords, "dependencies", at.value)?;
+    explain_ways(asked, left, &beside, at, told)
 }
 
 // The schema under `then` or `else`, where the condition denies the value.
@@ -199,18 +180,29 @@ fn explain_ways(
     left: u32,
     ways: &[Way<'_>],
     at: &At<'_>,
-    failures: &mut Vec<Failure>,
+    told: &mut Told,
 ) -> Result<(), AllocError> {
     for way in ways {
-        let place = way.place_in(asked.alloc, at.keywords)?;
-        let inner = At {
-            instance: at.instance,
-            keywords: place.as_str(),
-            value: at.value,
-        };
-        explain(asked, left, way.schema, &inner, failures)?;
+        explain_way(asked, left, way, at, told)?;
     }
     Ok(())
+}
+
+#[cycle(explain)]
+fn explain_way(
+    asked: &Asked<'_>,
+    left: u32,
+    way: &Way<'_>,
+    at: &At<'_>,
+    told: &mut Told,
+) -> Result<(), AllocError> {
+    let place = way.place_in(asked.alloc, at.keywords)?;
+    let inner = At {
+        instance: at.instance,
+        keywords: place.as_str(),
+        value: at.value,
+    };
+    explain(asked, left, way.schema, &inner, told)
 }
 
 #[cycle(explain)]
@@ -219,19 +211,32 @@ fn explain_parts(
     left: u32,
     keywords: &Map<String, Value>,
     at: &At<'_>,
-    failures: &mut Vec<Failure>,
+    told: &mut Told,
 ) -> Result<(), AllocError> {
-    for (key, value) in parts_of(asked.alloc, at.value)? {
-        let instance = key.place_in(asked.alloc, at.instance)?;
-        let inner = At {
-            instance: instance.as_str(),
-            keywords: at.keywords,
-            value,
-        };
-        let ways = ways_to(asked.alloc, asked.reading, keywords, key)?;
-        explain_ways(asked, left, &ways, &inner, failures)?;
+    let parts = parts_of(asked.alloc, at.value)?;
+    for part in &parts {
+        explain_part(asked, left, keywords, part, at, told)?;
     }
     Ok(())
+}
+
+#[cycle(explain)]
+fn explain_part(
+    asked: &Asked<'_>,
+    left: u32,
+    keywords: &Map<String, Value>,
+    part: &Part<'_>,
+    at: &At<'_>,
+    told: &mut Told,
+) -> Result<(), AllocError> {
+    let instance = part.key.place_in(asked.alloc, at.instance)?;
+    let inner = At {
+        instance: instance.as_str(),
+        keywords: at.keywords,
+        value: part.value,
+    };
+    let ways = ways_to(asked.alloc, asked.reading, keywords, part.key)?;
+    explain_ways(asked, left, &ways, &inner, told)
 }
 
 // Adds why the schema for keys denies them: what fails for the key as a text, at the place of its member.
@@ -241,41 +246,47 @@ fn explain_keys(
     left: u32,
     keywords: &Map<String, Value>,
     at: &At<'_>,
-    failures: &mut Vec<Failure>,
+    told: &mut Told,
 ) -> Result<(), AllocError> {
     let keyword = "propertyNames";
-    let (Some(schema), Value::Object(members)) = (keywords.get(keyword), at.value) else {
+    let Value::Object(members) = at.value else {
         return Ok(());
     };
     if !is_denied_by(asked, keywords, &[keyword], at.value)? {
         return Ok(());
     }
-    let place = member_place(asked.alloc, at.keywords, keyword)?;
-    for (name, _) in members.iter() {
-        let instance = member_place(asked.alloc, at.instance, name.as_str())?;
-        let key = Value::String(String::from_str(asked.alloc, name.as_str())?);
-        let inner = At {
-            instance: instance.as_str(),
-            keywords: place.as_str(),
-            value: &key,
-        };
-        let mut own = Vec::new(asked.alloc);
-        explain(asked, left, schema, &inner, &mut own)?;
-        for failure in own {
-            failures.push(of_key(asked.alloc, failure)?)?;
-        }
+    let ways = way_of(asked.alloc, keywords, keyword)?;
+    for name in members.keys() {
+        explain_key(asked, left, &ways, members, name.as_str(), at, told)?;
     }
     Ok(())
 }
 
-// The failure of a key, told of the value that has it.
-fn of_key(alloc: Global, failure: Failure) -> Result<Failure, AllocError> {
-    let error = sentence_of_key(alloc, failure.error.as_str())?;
-    Ok(Failure {
-        keyword_location: failure.keyword_location,
-        instance_location: failure.instance_location,
-        error,
-    })
+// Adds why schemas deny the key of a member.
+#[cycle(explain)]
+fn explain_key(
+    asked: &Asked<'_>,
+    left: u32,
+    ways: &[Way<'_>],
+    members: &Map<String, Value>,
+    name: &str,
+    at: &At<'_>,
+    told: &mut Told,
+) -> Result<(), AllocError> {
+    if member(members, name).is_none() {
+        return Ok(());
+    }
+    let instance = member_place(asked.alloc, at.instance, name)?;
+    let key = Value::String(String::from_str(asked.alloc, name)?);
+    let inner = At {
+        instance: instance.as_str(),
+        keywords: at.keywords,
+        value: &key,
+    };
+    let mut own = told.beside(asked.alloc, true);
+    explain_ways(asked, left, ways, &inner, &mut own)?;
+    told.take(own)?;
+    Ok(())
 }
 
 // The keyword for members or items that no other one judges.
@@ -293,32 +304,44 @@ fn explain_unjudged(
     left: u32,
     keywords: &Map<String, Value>,
     at: &At<'_>,
-    failures: &mut Vec<Failure>,
+    told: &mut Told,
 ) -> Result<(), AllocError> {
     let keyword = unevaluated_keyword(at.value);
-    let Some(schema) = keywords.get(keyword) else {
+    let ways = way_of(asked.alloc, keywords, keyword)?;
+    if ways.is_empty() {
         return Ok(());
-    };
+    }
     let rest = without(asked.alloc, keywords, keyword)?;
     if is_denied(asked, &rest, at.value)? {
         return Ok(());
     }
     let judged = judged_by(asked, &rest, at.value)?;
-    let mut marks = judged.iter();
-    let place = member_place(asked.alloc, at.keywords, keyword)?;
-    for (key, part) in parts_of(asked.alloc, at.value)? {
-        if let Some(true) = marks.next() {
-            continue;
+    let parts = parts_of(asked.alloc, at.value)?;
+    for (n, part) in parts.iter().enumerate() {
+        if !matches!(judged.get(n), Some(true)) {
+            explain_rest(asked, left, &ways, part, at, told)?;
         }
-        let instance = key.place_in(asked.alloc, at.instance)?;
-        let inner = At {
-            instance: instance.as_str(),
-            keywords: place.as_str(),
-            value: part,
-        };
-        explain(asked, left, schema, &inner, failures)?;
     }
     Ok(())
+}
+
+// Adds why schemas deny a member or an item.
+#[cycle(explain)]
+fn explain_rest(
+    asked: &Asked<'_>,
+    left: u32,
+    ways: &[Way<'_>],
+    part: &Part<'_>,
+    at: &At<'_>,
+    told: &mut Told,
+) -> Result<(), AllocError> {
+    let instance = part.key.place_in(asked.alloc, at.instance)?;
+    let inner = At {
+        instance: instance.as_str(),
+        keywords: at.keywords,
+        value: part.value,
+    };
+    explain_ways(asked, left, ways, &inner, told)
 }
 
 // ---- choices
@@ -329,22 +352,37 @@ fn explain_choices(
     left: u32,
     keywords: &Map<String, Value>,
     at: &At<'_>,
-    failures: &mut Vec<Failure>,
+    told: &mut Told,
 ) -> Result<(), AllocError> {
-    for choice in [Choice::AnyOf, Choice::OneOf, Choice::Not] {
-        let Some(schemas) = keywords.get(choice.keyword()) else {
-            continue;
-        };
-        if let Some(fitting) = fitting(asked, schemas, at.value)? {
-            if !choice.is_met(fitting) {
-                let error = sentence_of_choice(asked.alloc, choice, fitting)?;
-                add(asked, at, choice.keyword(), error.as_str(), failures)?;
-                if fitting == 0 {
-                    let ways = ways_listed(asked.alloc, keywords, choice.keyword())?;
-                    explain_each(asked, left, &ways, at, failures)?;
-                }
-            }
-        }
+    explain_choice(asked, left, Choice::AnyOf, keywords, at, told)?;
+    explain_choice(asked, left, Choice::OneOf, keywords, at, told)?;
+    explain_choice(asked, left, Choice::Not, keywords, at, told)
+}
+
+#[cycle(explain)]
+fn explain_choice(
+    asked: &Asked<'_>,
+    left: u32,
+    choice: Choice,
+    keywords: &Map<String, Value>,
+    at: &At<'_>,
+    told: &mut Told,
+) -> Result<(), AllocError> {
+    let keyword = choice.keyword();
+    let Some(schemas) = member(keywords, keyword) else {
+        return Ok(());
+    };
+    let Some(fitting) = fitting(asked, schemas, at.value)? else {
+        return Ok(());
+    };
+    if choice.is_met(fitting) {
+        return Ok(());
+    }
+    let error = sentence_of_choice(asked.alloc, choice, fitting)?;
+    add(asked, keywords, keyword, at, error.as_str(), told)?;
+    if fitting == 0 {
+        let ways = ways_listed(asked.alloc, keywords, keyword)?;
+        explain_each(asked, left, &ways, at, told)?;
     }
     Ok(())
 }
@@ -356,29 +394,18 @@ fn explain_each(
     left: u32,
     ways: &[Way<'_>],
     at: &At<'_>,
-    failures: &mut Vec<Failure>,
+    told: &mut Told,
 ) -> Result<(), AllocError> {
     for way in ways {
-        let mut own = Vec::new(asked.alloc);
-        explain_ways(asked, left, &[*way], at, &mut own)?;
-        if !has_other_type(&own, at.instance) {
-            for failure in own {
-                failures.push(failure)?;
-            }
+        let mut own = told.beside(asked.alloc, false);
+        explain_way(asked, left, way, at, &mut own)?;
+        if own.has_other_type(at.instance) {
+            told.pass(&own);
+        } else {
+            told.take(own)?;
         }
     }
     Ok(())
-}
-
-// Whether a failure is that the value at this place has another type.
-fn has_other_type(failures: &[Failure], instance: &str) -> bool {
-    for failure in failures {
-        let keyword = failure.keyword_location.as_str();
-        if failure.instance_location.as_str() == instance && keyword.ends_with("/type") {
-            return true;
-        }
-    }
-    false
 }
 
 // How many of the schemas under a keyword a value fits; none where these are no schemas.

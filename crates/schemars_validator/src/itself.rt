@@ -1,7 +1,9 @@
 //! The failures of keywords that judge a value by itself, or by its keys, or by how many of its items fit.
-use crate::asking::{Asked, At, Failure, add, is_denied, is_denied_by};
+use crate::asking::{Asked, At, add, is_denied, is_denied_by};
 use crate::probes::with_keyword;
 use crate::sentences::{sentence_about, sentence_of_items, sentence_of_missing};
+use crate::told::Told;
+use schemars_assertions::member;
 use serde_json::{Map, Value};
 use std::alloc::AllocError;
 
@@ -30,17 +32,17 @@ pub fn explain_itself(
     asked: &Asked<'_>,
     keywords: &Map<String, Value>,
     at: &At<'_>,
-    failures: &mut Vec<Failure>,
+    told: &mut Told,
 ) -> Result<(), AllocError> {
     for keyword in BY_ITSELF {
-        if let Some(wanted) = keywords.get(keyword) {
-            explain_keyword(asked, keywords, keyword, wanted, at, failures)?;
+        if let Some(wanted) = member(keywords, keyword) {
+            explain_keyword(asked, keywords, keyword, wanted, at, told)?;
         }
     }
-    explain_required(asked, keywords, at, failures)?;
-    explain_dependent(asked, keywords, "dependentRequired", at, failures)?;
-    explain_dependent(asked, keywords, "dependencies", at, failures)?;
-    explain_contained(asked, keywords, at, failures)
+    explain_required(asked, keywords, at, told)?;
+    explain_dependent(asked, keywords, "dependentRequired", at, told)?;
+    explain_dependent(asked, keywords, "dependencies", at, told)?;
+    explain_contained(asked, keywords, at, told)
 }
 
 // The keyword whose bound a truth value under this one excludes.
@@ -59,7 +61,7 @@ fn explain_keyword(
     keyword: &'static str,
     wanted: &Value,
     at: &At<'_>,
-    failures: &mut Vec<Failure>,
+    told: &mut Told,
 ) -> Result<(), AllocError> {
     let bound = excluded_bound(keyword, wanted);
     let beside = bound.unwrap_or("nullable");
@@ -68,12 +70,12 @@ fn explain_keyword(
     {
         return Ok(());
     }
-    let told = match bound {
+    let said = match bound {
         Some(bound) => keywords.get(bound).unwrap_or(wanted),
         None => wanted,
     };
-    let error = sentence_about(asked.alloc, keyword, told)?;
-    add(asked, at, keyword, error.as_str(), failures)
+    let error = sentence_about(asked.alloc, keyword, said)?;
+    add(asked, keywords, keyword, at, error.as_str(), told)
 }
 
 // ---- keys
@@ -82,10 +84,10 @@ fn explain_required(
     asked: &Asked<'_>,
     keywords: &Map<String, Value>,
     at: &At<'_>,
-    failures: &mut Vec<Failure>,
+    told: &mut Told,
 ) -> Result<(), AllocError> {
-    match keywords.get("required") {
-        Some(names) => explain_missing(asked, "required", None, names, at, failures),
+    match member(keywords, "required") {
+        Some(names) => explain_missing(asked, keywords, "required", None, names, at, told),
         None => Ok(()),
     }
 }
@@ -96,10 +98,12 @@ fn explain_dependent(
     keywords: &Map<String, Value>,
     keyword: &str,
     at: &At<'_>,
-    failures: &mut Vec<Failure>,
+    told: &mut Told,
 ) -> Result<(), AllocError> {
-    let (Some(Value::Object(dependent)), Value::Object(members)) = (keywords.get(keyword), at.value)
-    else {
+    let (Some(Value::Object(dependent)), Value::Object(members)) = (
+        member(keywords, keyword),
+        at.value,
+    ) else {
         return Ok(());
     };
     if !is_denied_by(asked, keywords, &[keyword], at.value)? {
@@ -108,7 +112,7 @@ fn explain_dependent(
     for (name, names) in dependent.iter() {
         let name = name.as_str();
         if members.get(name).is_some() {
-            explain_missing(asked, keyword, Some(name), names, at, failures)?;
+            explain_missing(asked, keywords, keyword, Some(name), names, at, told)?;
         }
     }
     Ok(())
@@ -117,11 +121,12 @@ fn explain_dependent(
 // Adds each required name that the value lacks. A list of other things requires nothing.
 fn explain_missing(
     asked: &Asked<'_>,
+    keywords: &Map<String, Value>,
     keyword: &str,
     beside: Option<&str>,
     names: &Value,
     at: &At<'_>,
-    failures: &mut Vec<Failure>,
+    told: &mut Told,
 ) -> Result<(), AllocError> {
     let (Value::Array(list), Value::Object(members)) = (names, at.value) else {
         return Ok(());
@@ -135,7 +140,7 @@ fn explain_missing(
             let name = name.as_str();
             if members.get(name).is_none() {
                 let error = sentence_of_missing(asked.alloc, name, beside)?;
-                add(asked, at, keyword, error.as_str(), failures)?;
+                add(asked, keywords, keyword, at, error.as_str(), told)?;
             }
         }
     }
@@ -149,9 +154,9 @@ fn explain_contained(
     asked: &Asked<'_>,
     keywords: &Map<String, Value>,
     at: &At<'_>,
-    failures: &mut Vec<Failure>,
+    told: &mut Told,
 ) -> Result<(), AllocError> {
-    let (Some(schema), Value::Array(items)) = (keywords.get("contains"), at.value) else {
+    let (Some(schema), Value::Array(items)) = (member(keywords, "contains"), at.value) else {
         return Ok(());
     };
     let all = ["contains", "minContains", "maxContains"];
@@ -166,5 +171,5 @@ fn explain_contained(
     }
     let few = is_denied_by(asked, keywords, &["contains", "minContains"], at.value)?;
     let error = sentence_of_items(asked.alloc, count, few)?;
-    add(asked, at, "contains", error.as_str(), failures)
+    add(asked, keywords, "contains", at, error.as_str(), told)
 }

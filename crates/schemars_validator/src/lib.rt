@@ -7,11 +7,12 @@ mod itself;
 mod probes;
 mod reading;
 mod sentences;
+mod told;
 mod validator;
 mod ways;
 
-pub use asking::Failure;
 pub use reading::Reading;
 pub use schemars_readable::{Draft, Refusal, Unread};
 pub use schemars_validate::Verdict;
+pub use told::Failure;
 pub use validator::{Examined, Validator};

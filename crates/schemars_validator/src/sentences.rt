@@ -90,3 +90,15 @@ pub fn sentence_of_choice(
         Choice::Not => String::from_str(alloc, "fits the schema that is denied"),
     }
 }
+
+/// What is said where failures were left out, and schemas were not asked.
+pub fn sentence_of_more(
+    alloc: Global,
+    left_out: u64,
+    not_asked: u64,
+) -> Result<String, AllocError> {
+    if not_asked == 0 {
+        return format!(in alloc; "has {left_out} more failures");
+    }
+    format!(in alloc; "has {left_out} more failures, and {not_asked} more schemas were not asked")
+}

@@ -2,9 +2,9 @@
 ghost use Rattle.std.specs.Prelude.{◌≡◌, ◌≤◌, IfOk, OnOk, IfErr};
 ghost use Rattle.schemars_validator.specs.Words.{view, bound, meant, Accepts, IsOf, Says, has_some, is_no, pairs_of, path_of, IsReadBy, AreExpressionsOf, IsRead, IsRefusal};
 
-use crate::asking::Failure;
 use crate::failures::failures_of;
 use crate::reading::{Reading, read};
+use crate::told::Failure;
 use schemars_readable::{
     Draft, Expression, Place, Refusal, compiled, patterns_in, schemas_in, unread_in,
 };

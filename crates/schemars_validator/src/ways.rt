@@ -1,8 +1,9 @@
 //! The parts of a value, and the schemas under keywords that judge them.
 use crate::reading::Reading;
+use schemars_assertions::member;
 use schemars_readable::{item_place, member_place};
 use schemars_schema::Schema;
-use schemars_validate::Patterns;
+use schemars_validate::{Patterns, resolved};
 use serde_json::{Map, Value};
 use std::alloc::{AllocError, Global};
 
@@ -23,24 +24,55 @@ impl Key<'_> {
     }
 }
 
+// ---- parts
+
+/// A member or an item of a value.
+#[derive(Clone, Copy)]
+pub struct Part<'a> {
+    pub key: Key<'a>,
+    pub value: &'a Value,
+}
+
 /// The members or the items of a value.
-pub fn parts_of(alloc: Global, value: &Value) -> Result<Vec<(Key<'_>, &Value)>, AllocError> {
+pub fn parts_of(alloc: Global, value: &Value) -> Result<Vec<Part<'_>>, AllocError> {
     let mut parts = Vec::new(alloc);
     match value {
-        Value::Object(members) => {
-            for (name, member) in members.iter() {
-                parts.push((Key::Name(name.as_str()), member))?;
-            }
-        }
-        Value::Array(items) => {
-            for (n, item) in items.iter().enumerate() {
-                parts.push((Key::Index(n), item))?;
-            }
-        }
+        Value::Object(members) => add_members(members, &mut parts)?,
+        Value::Array(items) => add_items(items, &mut parts)?,
         _ => {}
     }
     Ok(parts)
 }
+
+fn add_members<'a>(
+    members: &'a Map<String, Value>,
+    parts: &mut Vec<Part<'a>>,
+) -> Result<(), AllocError> {
+    for name in members.keys() {
+        let name = name.as_str();
+        if let Some(value) = member(members, name) {
+            let key = Key::Name(name);
+            parts.push(Part { key, value })?;
+        }
+    }
+    Ok(())
+}
+
+fn add_items<'a>(items: &'a Vec<Value>, parts: &mut Vec<Part<'a>>) -> Result<(), AllocError> {
+    for n in 0..items.len() {
+        if let Some(value) = item(items, n) {
+            let key = Key::Index(n);
+            parts.push(Part { key, value })?;
+        }
+    }
+    Ok(())
+}
+
+fn item(items: &Vec<Value>, n: usize) -> Option<&Value> {
+    items.get(n)
+}
+
+// ---- ways
 
 /// A schema under a keyword: the keyword's value, or what is at a key in it.
 #[derive(Clone, Copy)]
@@ -60,6 +92,80 @@ impl Way<'_> {
         }
     }
 }
+
+/// What the reference of an object leads to.
+pub fn way_of_reference<'a>(
+    alloc: Global,
+    document: &'a Value,
+    keywords: &'a Map<String, Value>,
+) -> Result<Vec<Way<'a>>, AllocError> {
+    let mut ways = Vec::new(alloc);
+    if let Some(Value::String(name)) = member(keywords, "$ref") {
+        if let Some(schema) = resolved(alloc, document, name.as_str())? {
+            ways.push(Way {
+                keyword: "$ref",
+                key: None,
+                schema,
+            })?;
+        }
+    }
+    Ok(ways)
+}
+
+/// The schema that is a keyword's value.
+pub fn whole_way<'a>(keywords: &'a Map<String, Value>, keyword: &'a str) -> Option<Way<'a>> {
+    match member(keywords, keyword) {
+        Some(schema) => Some(Way {
+            keyword,
+            key: None,
+            schema,
+        }),
+        None => None,
+    }
+}
+
+// The schema of a name under a keyword.
+fn named_way<'a>(
+    keywords: &'a Map<String, Value>,
+    keyword: &'a str,
+    name: &'a str,
+) -> Option<Way<'a>> {
+    let Some(Value::Object(named)) = member(keywords, keyword) else {
+        return None;
+    };
+    match member(named, name) {
+        Some(schema) => Some(Way {
+            keyword,
+            key: Some(Key::Name(name)),
+            schema,
+        }),
+        None => None,
+    }
+}
+
+// The schema at an index of the list under a keyword.
+fn listed_way<'a>(keywords: &'a Map<String, Value>, keyword: &'a str, n: usize) -> Option<Way<'a>> {
+    let Some(Value::Array(listed)) = member(keywords, keyword) else {
+        return None;
+    };
+    match item(listed, n) {
+        Some(schema) => Some(Way {
+            keyword,
+            key: Some(Key::Index(n)),
+            schema,
+        }),
+        None => None,
+    }
+}
+
+fn add<'a>(way: Option<Way<'a>>, ways: &mut Vec<Way<'a>>) -> Result<(), AllocError> {
+    if let Some(way) = way {
+        ways.push(way)?;
+    }
+    Ok(())
+}
+
+// ---- lists of ways
 
 /// The schemas that judge a part of a value.
 pub fn ways_to<'a>(
@@ -83,21 +189,28 @@ fn add_for_member<'a>(
     name: &'a str,
     ways: &mut Vec<Way<'a>>,
 ) -> Result<(), AllocError> {
-    if let Some(Value::Object(properties)) = keywords.get("properties") {
-        if let Some(schema) = properties.get(name) {
-            add(ways, "properties", Some(Key::Name(name)), schema)?;
-        }
+    add(named_way(keywords, "properties", name), ways)?;
+    add_by_pattern(reading, keywords, name, ways)?;
+    if ways.is_empty() {
+        add(whole_way(keywords, "additionalProperties"), ways)?;
     }
-    if let Some(Value::Object(patterns)) = keywords.get("patternProperties") {
-        for (pattern, schema) in patterns.iter() {
-            if reading.matches(pattern.as_str(), name) {
-                let key = Key::Name(pattern.as_str());
-                add(ways, "patternProperties", Some(key), schema)?;
+    Ok(())
+}
+
+fn add_by_pattern<'a>(
+    reading: &Reading,
+    keywords: &'a Map<String, Value>,
+    name: &str,
+    ways: &mut Vec<Way<'a>>,
+) -> Result<(), AllocError> {
+    let keyword = "patternProperties";
+    if let Some(Value::Object(patterns)) = keywords.get(keyword) {
+        for pattern in patterns.keys() {
+            let pattern = pattern.as_str();
+            if reading.matches(pattern, name) {
+                add(named_way(keywords, keyword, pattern), ways)?;
             }
         }
-    }
-    if ways.is_empty() {
-        return add_whole(keywords, "additionalProperties", ways);
     }
     Ok(())
 }
@@ -112,37 +225,12 @@ fn add_for_item<'a>(
         Some(Value::Array(_)) => ("items", "additionalItems"),
         _ => ("prefixItems", "items"),
     };
-    if let Some(Value::Array(schemas)) = keywords.get(first) {
-        if let Some(schema) = schemas.get(n) {
-            return add(ways, first, Some(Key::Index(n)), schema);
-        }
-    }
-    add_whole(keywords, others, ways)
-}
-
-// The schema that is a keyword's value.
-fn add_whole<'a>(
-    keywords: &'a Map<String, Value>,
-    keyword: &'a str,
-    ways: &mut Vec<Way<'a>>,
-) -> Result<(), AllocError> {
-    match keywords.get(keyword) {
-        Some(schema) => add(ways, keyword, None, schema),
-        None => Ok(()),
-    }
-}
-
-fn add<'a>(
-    ways: &mut Vec<Way<'a>>,
-    keyword: &'a str,
-    key: Option<Key<'a>>,
-    schema: &'a Value,
-) -> Result<(), AllocError> {
-    ways.push(Way {
-        keyword,
-        key,
-        schema,
-    })?;
+    let listed = listed_way(keywords, first, n);
+    let way = match listed {
+        Some(way) => Some(way),
+        None => whole_way(keywords, others),
+    };
+    add(way, ways)?;
     Ok(())
 }
 
@@ -153,7 +241,7 @@ pub fn way_of<'a>(
     keyword: &'a str,
 ) -> Result<Vec<Way<'a>>, AllocError> {
     let mut ways = Vec::new(alloc);
-    add_whole(keywords, keyword, &mut ways)?;
+    add(whole_way(keywords, keyword), &mut ways)?;
     Ok(ways)
 }
 
@@ -166,14 +254,24 @@ pub fn ways_beside_keys<'a>(
 ) -> Result<Vec<Way<'a>>, AllocError> {
     let mut ways = Vec::new(alloc);
     if let (Some(Value::Object(schemas)), Value::Object(members)) = (keywords.get(keyword), value) {
-        for (name, schema) in schemas.iter() {
+        for name in schemas.keys() {
             let name = name.as_str();
-            if members.get(name).is_some() && Schema::is_schema(schema) {
-                add(&mut ways, keyword, Some(Key::Name(name)), schema)?;
+            if members.get(name).is_some() {
+                add_schema(named_way(keywords, keyword, name), &mut ways)?;
             }
         }
     }
     Ok(ways)
+}
+
+// Adds a way, if it leads to a schema.
+fn add_schema<'a>(way: Option<Way<'a>>, ways: &mut Vec<Way<'a>>) -> Result<(), AllocError> {
+    if let Some(way) = way {
+        if Schema::is_schema(way.schema) {
+            ways.push(way)?;
+        }
+    }
+    Ok(())
 }
 
 /// The schemas of the list under a keyword.
@@ -184,8 +282,8 @@ pub fn ways_listed<'a>(
 ) -> Result<Vec<Way<'a>>, AllocError> {
     let mut ways = Vec::new(alloc);
     if let Some(Value::Array(schemas)) = keywords.get(keyword) {
-        for (n, schema) in schemas.iter().enumerate() {
-            add(&mut ways, keyword, Some(Key::Index(n)), schema)?;
+        for n in 0..schemas.len() {
+            add(listed_way(keywords, keyword, n), &mut ways)?;
         }
     }
     Ok(ways)

@@ -1,0 +1,7 @@
+-- The members that are left decide.
+use Rattle.std.proofs.Common.{◌≡◌}
+use Rattle.schemars_readable.specs.Words.{members_view, each_member, are_names}
+use Rattle.schemars_readable.proofs.forms.are_all_names.Given as goal
+
+abbrev pub invariant-loop-member : goal.invariant-loop-member
+invariant-loop-member l = each_member are_names (members_view l.member-iterator) ≡ each_member are_names (members_view l.members.entries)
