@@ -124,7 +124,12 @@ fn struct_content(
             Some(field) => Ok(Content::Newtype(newtype_part(builder, field, scope)?)),
             None => Ok(Content::Null),
         },
-        Fields::Tuple(list) => Ok(Content::Tuple(tuple_parts(builder, list, scope)?)),
+        Fields::Tuple(list) => match options.default {
+            Some(DefaultValue::OfType(place) | DefaultValue::OfFunction(place)) => {
+                Err(builder.context.refused_name(place, "default", IN_PLACE))
+            }
+            None => Ok(Content::Tuple(tuple_parts(builder, list, scope)?)),
+        },
         Fields::Named(list) => Ok(Content::Struct(struct_members(
             builder,
             list,
@@ -194,7 +199,9 @@ pub fn only_part(
     noted_part(builder, field, &options, scope)
 }
 
-// What attributes say of a field without a name, which has its place in each value.
+const IN_PLACE: &str = "a field without a name has its place in each value";
+
+// What attributes say of a field without a name.
 fn unnamed_options(builder: &mut Builder<'_>, field: &Field<'_>) -> Result<FieldOptions, Fault> {
     let options = field_options(&mut builder.context, &field.attributes)?;
     let refused = match (options.flat, options.skip_place, options.default) {
@@ -207,8 +214,7 @@ fn unnamed_options(builder: &mut Builder<'_>, field: &Field<'_>) -> Result<Field
     };
     match refused {
         Some((place, name)) if options.skipped.is_none() => {
-            let reason = "a field without a name has its place in each value";
-            Err(builder.context.refused_name(place, name, reason))
+            Err(builder.context.refused_name(place, name, IN_PLACE))
         }
         _ => Ok(options),
     }

@@ -334,8 +334,9 @@ impl<'a, 'g> Reader<'a, 'g> {
             return Ok(());
         }
         let ty = read_type(self.alloc, cursor.up_to(&[';'], false))?;
+        let module = self.module()?;
         self.source.aliases.push(Alias {
-            module: self.module()?,
+            module,
             name,
             place,
             condition,
@@ -545,17 +546,30 @@ fn named_fields<'a>(
         let attributes = read_attributes(alloc, given, &mut cursor)?;
         skip_visibility(&mut cursor);
         match attributes {
-            Some(attributes) if !cursor.is_word("ghost") || cursor.is_symbol(1, ':') => {
-                let field = named_field(alloc, &mut cursor, attributes)?;
-                fields.push(field)?;
-            }
-            _ => {
+            Some(attributes) => add_named(alloc, &mut cursor, &mut fields, attributes)?,
+            None => {
                 let _ = cursor.up_to(&[','], true);
             }
         }
         let _ = cursor.take_symbol(',');
     }
     Ok(fields)
+}
+
+// Adds the field that comes next. One that is a statement for a proof is passed over.
+fn add_named<'a>(
+    alloc: Global,
+    cursor: &mut Cursor<'a>,
+    fields: &mut Vec<Field<'a>>,
+    attributes: Vec<Meta<'a>>,
+) -> Result<(), Fault> {
+    if cursor.is_word("ghost") && !cursor.is_symbol(1, ':') {
+        let _ghost = cursor.up_to(&[','], true);
+        return Ok(());
+    }
+    let field = named_field(alloc, cursor, attributes)?;
+    fields.push(field)?;
+    Ok(())
 }
 
 fn named_field<'a>(
