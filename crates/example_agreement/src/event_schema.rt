@@ -14,8 +14,8 @@ ghost use Rattle.schemars_accepted.specs.contracts.impls.primitives.I8AgreesAsDe
 ghost use Rattle.schemars_accepted.specs.OwnLaws.{variants_row_at};
 
 use crate::event::Event;
-use schemars_agreement::Agrees;
 use schemars_accepted::AgreesAsDescribed;
+use schemars_agreement::Agrees;
 use schemars_impls::{
     JsonSchema, REQUIRED, add_field, add_newtype, add_one, add_struct, add_tuple, add_unit,
     external_entry,

@@ -10,8 +10,8 @@ ghost use Rattle.schemars_accepted.specs.OwnLaws.{fields_row_at};
 ghost use Rattle.schemars_accepted.specs.contracts.impls.primitives.StringAgreesAsDescribed.TheImpl.Laws as string;
 
 use crate::page::Page;
-use schemars_agreement::Agrees;
 use schemars_accepted::AgreesAsDescribed;
+use schemars_agreement::Agrees;
 use schemars_impls::{JsonSchema, OPTIONAL, REQUIRED, add_field, struct_entry};
 use schemars_types::{TypeEntry, Types, TypesError};
 use std::alloc::{AllocError, Global};

@@ -13,8 +13,8 @@ ghost use Rattle.schemars_accepted.specs.contracts.impls.primitives.U32AgreesAsD
 ghost use Rattle.schemars_accepted.specs.contracts.impls.primitives.I16AgreesAsDescribed.TheImpl.Laws as i16_impl;
 
 use crate::sensor::Sensor;
-use schemars_agreement::Agrees;
 use schemars_accepted::AgreesAsDescribed;
+use schemars_agreement::Agrees;
 use schemars_impls::{JsonSchema, REQUIRED, add_field, struct_entry};
 use schemars_types::{TypeEntry, Types, TypesError};
 use std::alloc::{AllocError, Global};
