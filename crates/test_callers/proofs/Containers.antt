@@ -37,9 +37,6 @@ made_twice make o e p =
     let same : p.1 ≡ p.0 = cc in
     (p.0, p.2, p.4 ∙ ap (make p.0) same)
 
-same_entry : (g e : Entry) → Some g ≡ Some e → e ≡ g
-same_entry g e is = cc
-
 -- a type without parts, whose entry has this shape
 abbrev leaf : Text → Text → Bool → Shape → TypeRow
 leaf id name inline s = alone id name inline (without_notes inline s)
@@ -56,7 +53,7 @@ pub empty_holds : (t : TypeRow) {rows : List Row} {n : ℕ} → IsRegistered (ar
     → HoldsOne (row (array_id t.id 0) (array_name t.name 0) true (tuple [])) rows n
 unfolding array_row
 empty_holds t {rows = rows} {n = n} r =
-    holds_one (array_row t 0) (in_place (tuple [])) rows n r (λ d. tt) (λ g is. same_entry (in_place (tuple [])) g is)
+    holds_one (array_row t 0) (in_place (tuple [])) rows n r (λ d. tt) (λ g is. is)
 
 -- ---- two rows
 
