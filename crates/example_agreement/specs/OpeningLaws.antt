@@ -9,14 +9,13 @@ use Rattle.schemars_shapes.specs.Shape.{by_name}
 use Rattle.schemars_shapes.specs.declared.shape.IntKind.TheVariants.{U8, I16}
 use Rattle.schemars_types.specs.Rows.{Row}
 use Rattle.schemars_types.specs.Faults.{IsChecked}
-use Rattle.schemars_written.specs.Readings.{AnyReading, Readings, every, those, of_entries, IsAmong, TakesInteger}
+use Rattle.schemars_written.specs.Readings.{AnyReading, TakesWholeNumbers}
 use Rattle.schemars_written.specs.Gives.{Gives, GivesAsKey, Field, Done}
 use Rattle.schemars_written.specs.Fits.{Means, MeansUnder, IsKeyUnder, HasShape, HasUnit, HasFields, LastField}
 use Rattle.schemars_written.proofs.Atoms.{under, text_agrees}
 use Rattle.schemars_written.proofs.Keys.{unit_key_law}
 use Rattle.schemars_written.proofs.KeyLaws.{i16_key_law}
 use Rattle.schemars_written.proofs.Laws.{u8_law, keyed_map_law, struct_law, next_field, last_field}
-use Rattle.schemars_written.proofs.Parts.{own_map_law}
 use Rattle.schemars_written.proofs.Variants.{unit_law}
 use Rattle.example_agreement.specs.Events.{IsText}
 use Rattle.example_agreement.specs.EventLaws.{as_is}
@@ -51,20 +50,16 @@ hours_law rows m x checked row valid = keyed_map_law rows checked m day_writes (
     IsDayRow (λ rows k. HasShape rows k (shape.int U8)) (λ k d is u. day_key_law rows k d checked is)
     (λ k v is low. u8_law rows k v checked is low) row x.hours.entries valid.0
 
--- the readings that take the numbers of the notes
-abbrev OfNotes : Readings Opening
-OfNotes = of_entries (those TakesInteger) every (λ x. x.notes.entries)
-
 notes_law : (rows : List Row) (m : ℕ) (x : Opening) → IsChecked rows → AreNotes rows m → IsOpening x
-    → Gives (notes_write x) (MeansUnder (IsAmong OfNotes x) rows m)
-notes_law rows m x checked row valid = own_map_law (those TakesInteger) every x (λ y. y.notes.entries) rows checked m
-    (λ z. Sends (signed z)) (λ s. Sends (text (string_bytes s)))
+    → Gives (notes_write x) (MeansUnder TakesWholeNumbers rows m)
+notes_law rows m x checked row valid = keyed_map_law rows checked m (λ z. Sends (signed z)) (λ s. Sends (text (string_bytes s)))
     (FitsSigned w16) (λ s. Unit {0}) (λ rows k. HasShape rows k (shape.int I16)) IsText
-    (λ k z is fits. i16_key_law rows k z checked is fits) (λ k s is u. text_agrees rows k (string_bytes s) is)
-    row valid.1
+    (λ k z is fits. i16_key_law rows k z checked is fits)
+    (λ k s is u. under (Sends (text (string_bytes s))) rows k (λ p takes. tt) (text_agrees rows k (string_bytes s) is))
+    row x.notes.entries valid.1
 
 pub opening_law : (rows : List Row) (n : ℕ) (x : Opening) → IsChecked rows → HasFields rows n (OpeningFields rows) → IsOpening x
-    → Gives (opening_writes x) (MeansUnder (IsAmong OfNotes x) rows n)
+    → Gives (opening_writes x) (MeansUnder TakesWholeNumbers rows n)
 opening_law rows n x checked row valid = struct_law rows checked n 2 (OpeningFields rows)
     (Field (codes "hours") (hours_write x) (Field (codes "notes") (notes_write x) Done)) row
     (next_field rows (codes "hours") (AreHours rows) (NotesField rows) (hours_write x) (Field (codes "notes") (notes_write x) Done)

@@ -1,6 +1,6 @@
 //! A struct with maps, one by the variants of an enum and one by whole numbers.
 ghost use Rattle.std.specs.Prelude.{⊤, codes};
-ghost use Rattle.schemars_written.specs.Readings.{every, those, of_entries, TakesInteger};
+ghost use Rattle.schemars_written.specs.Readings.{those, TakesWholeNumbers};
 ghost use Rattle.schemars_written.specs.Fits.{HasFields};
 ghost use Rattle.example_agreement.specs.Openings.{day_writes, IsDayRow, opening_writes, IsOpening, OpeningFields};
 ghost use Rattle.example_agreement.specs.OpeningLaws.{day_law, day_key_law, opening_law};
@@ -79,7 +79,7 @@ impl Serialize for Opening {
 impl Agrees for Opening {
     ghost valid = { IsOpening };
 
-    ghost readings = { of_entries (those TakesInteger) every (λ x. x.notes.entries) };
+    ghost readings = { those (λ _. TakesWholeNumbers) };
 
     ghost is_row = { λ rows n. HasFields rows n (OpeningFields rows) };
 
