@@ -21,7 +21,7 @@ pub use Rattle.schemars_documents.specs.Basis.{Basis}
 pub use Rattle.schemars_documents.specs.Describes.{AreAnswered, Fills, IsAnswered, IsContent, IsOwnDocument, IsWritten, are_optional, references_of, without_options, without_options_within}
 unfoldable pub use Rattle.schemars_documents.specs.Describes.{Describes}
 pub use Rattle.schemars_documents.specs.OfShape.{entry_template}
-pub use Rattle.schemars_documents.specs.PlainTable.{ArePlainParts, AreTagged, IsOpenStruct, IsPlainEntry, IsPlainShape, IsPlainUnder, IsTagged, parts_in, payload_parts, variant_parts}
+pub use Rattle.schemars_documents.specs.PlainTable.{ArePlainParts, HasContent, HaveContents, IsNoContent, IsOpenStruct, IsPlainEntry, IsPlainUnder, ShapeHasContents, parts_in, payload_parts, variant_parts}
 pub use Rattle.schemars_flatten.specs.Opening.{must_be_in_place, opened_inside}
 pub use Rattle.schemars_flatten.specs.Parts.{flattened_part}
 pub use Rattle.schemars_meaning.proofs.FieldsDescribed.{described_fields, described_stays}
@@ -44,7 +44,7 @@ pub use Rattle.schemars_text.proofs.Members.{bytes_eq_comm}
 pub use Rattle.schemars_types.proofs.Asked.{entry_low, flattened_number, of_variants-more}
 pub use Rattle.schemars_types.proofs.Options.{stops}
 pub use Rattle.schemars_types.specs.Edges.{RefersWithin, asked_at, asked_in, below, below_all, below_within, height, is_inline_at, numbers_at, option_at, rank, same_value_numbers_at}
-pub use Rattle.schemars_types.specs.Effective.{expanded_payload, expanded_shape, expanded_variant, flattened_enums, flattened_fields, flattened_in, part_enums, part_fields, required_only_if, row_fields, shape_enums, shape_fields}
+pub use Rattle.schemars_types.specs.Effective.{flattened_enums, flattened_fields, flattened_in, part_enums, part_fields, required_only_if, row_fields, shape_enums, shape_fields}
 unfoldable pub use Rattle.schemars_types.specs.Effective.{enums_within, fields_within}
 pub use Rattle.schemars_types.specs.Faults.{IsChecked}
 pub use Rattle.schemars_types.specs.Rows.{Row, entry_at}

@@ -1,7 +1,7 @@
 -- In a plain table only structs that must be present are flattened: no row has another meaning, and the table is plain under each
 -- contract.
 use Rattle.std.proofs.Common.{◌≡◌, ℕ, zero, suc, List, [], ◌∷◌, ◌++◌, map, Option, Some, None, Bool, false, refl, sym, ap, ◌∙◌, subst, true≢false, length}
-use Rattle.schemars_documents.proofs.Words.{fun_ext, if◌then◌else◌, is_some, option_and_then, ◌&&◌, ◌||◌, not, ◌+◌, ◌*◌, list_any, option_map_or, Data, Members, depth, Text, Patterns, Shape, Field, Flattened, Fields, Tagging, Payload, Variant, option_of, no_payload, newtype_payload, tuple_payload, struct_payload, KeyOptions, key_options, Row, entry_at, option_at, without_options_within, without_options, flattened_fields, required_only_if, part_fields, shape_fields, fields_within, row_fields, flattened_enums, shape_enums, enums_within, part_enums, enum_at, expanded_fields, expanded_payload, expanded_variant, expanded_shape_in, VariantMatch, is_required, has_payload, has_variant, has_shape, belongs_within, choices_within, belongs, joined_fields, joined_payload, joined_variant, joined_shape, struct_fields_within, joined_in, no_choices, belongs_plainly_within, belongs_plainly, IsTagged, AreTagged, IsPlainShape, IsOpenStruct, IsPlainPart, ArePlainParts, IsPlainEntry, IsPlainTable, parts_in, payload_parts, variant_parts, PayloadHasNamesApart, VariantsHaveNamesApart, ShapeHasNamesApart, enum_names_at, may_miss, IsPartShape, IsPartEntry, IsPartUnder, ArePartsUnder, IsEntryUnder, IsPlainUnder}
+use Rattle.schemars_documents.proofs.Words.{fun_ext, if◌then◌else◌, is_some, option_and_then, ◌&&◌, ◌||◌, not, ◌+◌, ◌*◌, list_any, option_map_or, Data, Members, depth, Text, Patterns, Shape, Field, Flattened, Fields, Tagging, Payload, Variant, option_of, no_payload, newtype_payload, tuple_payload, struct_payload, KeyOptions, key_options, Row, entry_at, option_at, without_options_within, without_options, flattened_fields, required_only_if, part_fields, shape_fields, fields_within, row_fields, flattened_enums, shape_enums, enums_within, part_enums, enum_at, expanded_fields, expanded_payload, expanded_variant, expanded_shape_in, VariantMatch, is_required, has_payload, has_variant, has_shape, belongs_within, choices_within, belongs, joined_fields, joined_payload, joined_variant, joined_shape, struct_fields_within, joined_in, no_choices, belongs_plainly_within, belongs_plainly, IsTagged, AreTagged, HasContent, HaveContents, ShapeHasContents, IsNoContent, IsPlainContent, IsPlainShape, IsOpenStruct, IsPlainPart, ArePlainParts, IsPlainEntry, IsPlainTable, parts_in, payload_parts, variant_parts, PayloadHasNamesApart, VariantsHaveNamesApart, ShapeHasNamesApart, enum_names_at, may_miss, IsPartShape, IsPartEntry, IsPartUnder, ArePartsUnder, IsEntryUnder, IsPlainUnder}
 use Rattle.schemars_shapes.specs.Shape as shape
 use Rattle.schemars_shapes.specs.Shape.{Entry}
 use Rattle.schemars_types.specs.declared.contract.Contract.{Contract}
@@ -208,7 +208,7 @@ module _ (names : ℕ → List Text) (part : Flattened → List Field) where
   tag_apart : (tag : Text) (p : Payload) → IsTagged tag (joined_payload part p)
       → PayloadHasNamesApart names ((tag ∷ []) ∷ []) (joined_payload part p)
   tag_apart tag no_payload h = tt
-  tag_apart tag (newtype_payload n) h = absurd h
+  tag_apart tag (newtype_payload n) h = tt
   tag_apart tag (tuple_payload ns) h = absurd h
   tag_apart tag (struct_payload x) h = ((h, tt), tt, tt)
 
@@ -224,6 +224,19 @@ module _ (names : ℕ → List Text) (part : Flattened → List Field) where
   shape_apart (shape.enum (shape.by_tag tag closed) xs) h = tags_apart tag xs h.2
   shape_apart (shape.enum (shape.by_tag_and_content tag key closed) xs) h = variants_apart xs
   shape_apart s h = tt
+
+-- what fits in the one sense fits in the other
+contents_map : (F G : Text → ℕ → Type 0) → ((tag : Text) (n : ℕ) → F tag n → G tag n) → (s : Shape) → ShapeHasContents F s → ShapeHasContents G s
+contents_map F G f (shape.enum (shape.by_tag tag closed) xs) h = each xs h
+  where
+    one : (p : Payload) → HasContent F tag p → HasContent G tag p
+    one (newtype_payload n) fits = f tag n fits
+    one _ fits = tt
+
+    each : (ys : List Variant) → HaveContents F tag ys → HaveContents G tag ys
+    each [] fit = tt
+    each (y ∷ ys) fit = (one y.payload fit.0, each ys fit.1)
+contents_map F G f s h = tt
 
 module _ (rows : List Row) (contract : Contract) where
   part_under : (p : Flattened) → IsPlainPart rows p → IsPartUnder contract rows p
@@ -254,4 +267,5 @@ module _ (rows : List Row) (contract : Contract) where
             subst (ShapeHasNamesApart (enum_names_at rows)) (sym same)
                 (shape_apart (enum_names_at rows) (F rows plain) e.shape (subst IsPlainShape same h.1)),
             parts_under (parts_in e.shape) h.2,
+            contents_map IsNoContent (IsPlainContent rows) (λ tag n fits. absurd fits) e.shape h.3,
           )

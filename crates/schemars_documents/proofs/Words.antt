@@ -2,7 +2,7 @@
 pub use Rattle.schemars_builders.specs.NullLaw.{text_items}
 pub use Rattle.schemars_documents.specs.Documents.{required_names}
 pub use Rattle.schemars_documents.specs.OfShape.{adjacent_item, bare_units, choice_of, content_template, external_template, internal_item, literal_document, members_asked, named_template, other_items, other_values, pattern_properties_at, payload_item, property, titled, untagged_template, values_of, with_flattened}
-pub use Rattle.schemars_documents.specs.PlainTable.{ArePartsUnder, ArePlainParts, AreTagged, IsEntryUnder, IsOpenStruct, IsPartEntry, IsPartShape, IsPartUnder, IsPlainEntry, IsPlainPart, IsPlainShape, IsPlainTable, IsPlainUnder, IsTagged, PayloadHasNamesApart, ShapeHasNamesApart, VariantsHaveNamesApart, enum_names_at, may_miss, parts_in, payload_parts, variant_parts}
+pub use Rattle.schemars_documents.specs.PlainTable.{ArePartsUnder, ArePlainParts, AreTagged, HasContent, HaveContents, IsEntryUnder, IsNoContent, IsOpenStruct, IsPartEntry, IsPartShape, IsPartUnder, IsPlainContent, IsPlainEntry, IsPlainPart, IsPlainShape, IsPlainTable, IsPlainUnder, IsTagged, PayloadHasNamesApart, ShapeHasContents, ShapeHasNamesApart, VariantsHaveNamesApart, enum_names_at, may_miss, parts_in, payload_parts, variant_parts}
 pub use Rattle.schemars_schema.specs.Json.{Text}
 pub use Rattle.schemars_schema.specs.Judges.{Patterns}
 pub use Rattle.schemars_schema.specs.SchemaData.{IsSchema}

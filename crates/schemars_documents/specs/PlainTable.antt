@@ -12,7 +12,7 @@ use Rattle.schemars_shapes.specs.Units.{is_none}
 use Rattle.schemars_shapes.specs.Decimals.{entry_has_float}
 use Rattle.schemars_types.specs.Rows.{Row, entry_at}
 use Rattle.schemars_types.specs.Edges.{option_at}
-use Rattle.schemars_types.specs.Effective.{without_options, flattened_enums, part_enums, expanded_shape_in}
+use Rattle.schemars_types.specs.Effective.{effective, flattened_in, without_options, flattened_enums, part_enums, expanded_shape_in}
 use Rattle.schemars_types.specs.declared.contract.Contract.{Contract}
 use Rattle.schemars_types.specs.Meaning.{is_required}
 
@@ -49,15 +49,34 @@ abbrev pub ArePlainVariants : List Variant → Type 0
 ArePlainVariants [] = Unit {0}
 ArePlainVariants (x ∷ xs) = AreNotes x.notes × IsPlainPayload x.payload × ArePlainVariants xs
 
--- what is tagged inside its map is a unit or has fields, none of which is named as the tag
+-- what is tagged inside its map is no tuple, and none of its own fields is named as the tag
 abbrev pub IsTagged : Text → Payload → Type 0
 IsTagged tag no_payload = Unit {0}
-IsTagged tag (newtype_payload n) = ⊥
+IsTagged tag (newtype_payload n) = Unit {0}
 IsTagged tag (tuple_payload ns) = ⊥
 IsTagged tag (struct_payload x) = IsNoName tag x.list
 
 abbrev pub AreTagged : Text → List Variant → Type 0
 AreTagged tag = AllByRecursion (λ x. IsTagged tag x.payload)
+
+-- below, `Fits tag n` says that the members of row n may stand beside this tag
+
+-- a newtype
+abbrev pub HasContent : (Text → ℕ → Type 0) → Text → Payload → Type 0
+HasContent Fits tag (newtype_payload n) = Fits tag n
+HasContent Fits tag _ = Unit {0}
+
+abbrev pub HaveContents : (Text → ℕ → Type 0) → Text → List Variant → Type 0
+HaveContents Fits tag = AllByRecursion (λ x. HasContent Fits tag x.payload)
+
+-- the newtypes of an enum that is tagged inside its maps
+abbrev pub ShapeHasContents : (Text → ℕ → Type 0) → Shape → Type 0
+ShapeHasContents Fits (shape.enum (shape.by_tag tag closed) xs) = HaveContents Fits tag xs
+ShapeHasContents Fits _ = Unit {0}
+
+-- no row may
+abbrev pub IsNoContent : Text → ℕ → Type 0
+IsNoContent tag n = ⊥
 
 -- ---- flattened rows
 
@@ -103,10 +122,11 @@ IsPlainShape _ = Unit {0}
 abbrev pub IsPlainEntry : List Row → Option Entry → Type 0
 IsPlainEntry rows None = Unit {0}
 IsPlainEntry rows (Some e) = AreNotes e.notes × IsPlainShape (expanded_shape_in rows e.shape) × ArePlainParts rows (parts_in e.shape)
+    × ShapeHasContents IsNoContent e.shape
 
 -- Literals are plain, the notes of rows, fields and variants are annotations alone, and what is flattened is an open struct.
 -- The names of a struct's own and flattened fields are all different, and those of the variants that are told by their
--- names; what is tagged inside its map is a unit or has fields, none of them named as the tag. Where name and content are
+-- names; what is tagged inside its map is a unit or has fields of its own, none of them named as the tag. Where name and content are
 -- under two keys, the keys are different.
 abbrev pub IsPlainTable : List Row → Type 0
 IsPlainTable rows = (n : ℕ) → IsPlainEntry rows (entry_at rows n)
@@ -164,6 +184,29 @@ ShapeHasNamesApart names (shape.struct x) = HasNamesApart names [] x
 ShapeHasNamesApart names (shape.enum tagging xs) = VariantsHaveNamesApart names (tag_names (tag_beside tagging)) xs
 ShapeHasNamesApart names _ = Unit {0}
 
+-- ---- what stands beside a tag
+
+-- no enum anywhere in what is flattened
+abbrev pub HasNoEnums : List Row → List Flattened → Type 0
+HasNoEnums rows ps = flattened_enums (part_enums rows) ps ≡ []
+
+abbrev pub VariantsHaveNoEnums : List Row → List Variant → Type 0
+VariantsHaveNoEnums rows = AllByRecursion (λ x. HasNoEnums rows (payload_parts x.payload))
+
+-- a struct, none of whose fields is named as the tag, without enums among its members
+abbrev pub IsContentShape : List Row → Text → Shape → Type 0
+IsContentShape rows tag (shape.struct x) = IsNoName tag (effective (flattened_in rows) x) × HasNoEnums rows x.flatten
+IsContentShape rows tag _ = ⊥
+
+abbrev pub IsContentEntry : List Row → Text → Option Entry → Type 0
+IsContentEntry rows tag None = ⊥
+IsContentEntry rows tag (Some e) = IsContentShape rows tag e.shape
+
+abbrev pub IsPlainContent : List Row → Text → ℕ → Type 0
+IsPlainContent rows tag n = IsContentEntry rows tag (entry_at rows n)
+
+-- ---- what may be flattened
+
 -- a unit without notes
 abbrev pub IsBare : Variant → Type 0
 IsBare x = elim x.payload [
@@ -180,19 +223,12 @@ abbrev pub HasVariant : List Variant → Type 0
 HasVariant [] = ⊥
 HasVariant (x ∷ xs) = Unit {0}
 
--- no enum anywhere in what is flattened
-abbrev pub HasNoEnums : List Row → List Flattened → Type 0
-HasNoEnums rows ps = flattened_enums (part_enums rows) ps ≡ []
-
-abbrev pub VariantsHaveNoEnums : List Row → List Variant → Type 0
-VariantsHaveNoEnums rows = AllByRecursion (λ x. HasNoEnums rows (payload_parts x.payload))
-
 -- an open struct, or an enum that has to be there
 abbrev pub IsPartShape : List Row → Bool → Shape → Type 0
 IsPartShape rows optional (shape.struct x) = (x.closed ≡ false) × (optional ≡ true → HasNoEnums rows x.flatten)
 IsPartShape rows optional (shape.enum shape.by_name xs) = (optional ≡ false) × HasVariant xs × HasBareUnits xs
 IsPartShape rows optional (shape.enum (shape.by_tag tag closed) xs) =
-    (optional ≡ false) × HasVariant xs × HasBareUnits xs × VariantsHaveNoEnums rows xs
+    (optional ≡ false) × HasVariant xs × HaveContents IsNoContent tag xs × VariantsHaveNoEnums rows xs
 IsPartShape rows optional _ = ⊥
 
 abbrev pub IsPartEntry : List Row → Bool → Option Entry → Type 0
@@ -213,10 +249,12 @@ abbrev pub IsEntryUnder : Contract → List Row → Option Entry → Type 0
 IsEntryUnder contract rows None = Unit {0}
 IsEntryUnder contract rows (Some e) = AreNotes e.notes × IsPlainShape (expanded_shape_in rows e.shape)
     × ShapeHasNamesApart (enum_names_at rows) (expanded_shape_in rows e.shape) × ArePartsUnder contract rows (parts_in e.shape)
+    × ShapeHasContents (IsPlainContent rows) e.shape
 
--- What is flattened is, its Options taken off, an open struct, or an enum that has to be there under the contract, is told by its names
--- or by a tag, has a variant and no notes on units. No enum stands in a struct that may be missing, nor in a variant of a flattened enum
--- that is tagged. The names of different parts are all different. All else is as in a plain table.
+-- What is flattened is, its Options taken off, an open struct, or an enum that has to be there under the contract and has a variant: one
+-- told by its names, without notes on units, or one told by a tag, without newtypes. No enum stands in a struct that may be missing, nor in
+-- a variant of a flattened enum that is tagged. The names of different parts are all different. A newtype that is tagged inside its map is
+-- of a struct that has no enum among its members, and no field named as the tag. All else is as in a plain table.
 abbrev pub IsPlainUnder : Contract → List Row → Type 0
 IsPlainUnder contract rows = (n : ℕ) → IsEntryUnder contract rows (entry_at rows n)
 

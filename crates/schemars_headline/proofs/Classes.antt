@@ -1,6 +1,6 @@
 -- In a plain table each document of a row is one that the laws of the drafts speak of.
 use Rattle.std.proofs.Common.{◌≡◌, ℕ, zero, suc, inl, inr, List, [], ◌∷◌, ◌++◌, map, Option, Some, None, Bool, true, false, codes, refl, sym, subst}
-use Rattle.schemars_headline.proofs.Words.{is_some, if◌then◌else◌, option_map_or, Data, Members, Text, get_member, Everywhere, IsName, HasPlainItems, weaker, text-alone, Stands, IsForOpenApi, draft2020_12, AreNotes, Shape, Field, Fields, Flattened, Entry, Row, entry_at, option_at, AreNoted, IsPlainTable, IsNotedThroughout, HasPlainNotesThroughout, Basis, Ask, asks_of, filled, struct_template, template_of, IsOwnDocument, IsWritten, Fit, plain_rows, Named, IsDraft07, none-plain, text-named, Required, effective, shape_fields, required_only_if, part_fields, flattened_in, part_enums, expanded_shape_in, IsPlainShape, ArePlainParts, parts_in, IsPlainEntry, IsNotedShape, IsAnswered, parts_apart, AnswersFields, struct_fills, described_fields, fields_within, Describes}
+use Rattle.schemars_headline.proofs.Words.{is_some, if◌then◌else◌, option_map_or, Data, Members, Text, get_member, Everywhere, IsName, HasPlainItems, weaker, text-alone, Stands, IsForOpenApi, draft2020_12, AreNotes, Shape, Field, Fields, Flattened, Entry, Row, entry_at, option_at, AreNoted, IsPlainTable, IsNotedThroughout, HasPlainNotesThroughout, Basis, Ask, asks_of, filled, struct_template, template_of, IsOwnDocument, IsWritten, Fit, plain_rows, Named, IsDraft07, none-plain, text-named, Required, effective, shape_fields, required_only_if, part_fields, flattened_in, part_enums, expanded_shape_in, IsPlainShape, IsNoContent, ShapeHasContents, content, ArePlainParts, parts_in, IsPlainEntry, IsNotedShape, IsAnswered, parts_apart, AnswersFields, struct_fills, described_fields, fields_within, Describes}
 use Rattle.schemars_shapes.specs.Shape as shape
 use Rattle.schemars_types.specs.Effective.{without_options}
 use Rattle.schemars_headline.proofs.Changes.{Demand, IsDraft2019_09, IsGood, good-annotated}
@@ -42,10 +42,11 @@ module _ (rows : List Row) (noted : HasPlainNotesThroughout rows) where
 
 -- ---- the documents of rows
 
--- what a table says of a row that it has
-abbrev pub IsNotedUnder : List Row → (List Flattened → Type 0) → Entry → Type 0
-IsNotedUnder rows Under e =
-    AreNotes e.notes × IsPlainShape (expanded_shape_in rows e.shape) × IsNotedShape e.shape × Under (parts_in e.shape)
+-- what a table says of a row that it has; `Fits` says which rows may stand beside a tag
+abbrev pub IsNotedUnder : List Row → (Text → ℕ → Type 0) → (List Flattened → Type 0) → Entry → Type 0
+IsNotedUnder rows Fits Under e =
+    AreNotes e.notes × (IsPlainShape (expanded_shape_in rows e.shape) × ShapeHasContents Fits e.shape) × IsNotedShape e.shape
+    × Under (parts_in e.shape)
 
 module _ (R : Demand) (basis : Basis) (Refers : ℕ → Text → Type 0) (names : (j : ℕ) (r : Text) → Refers j r → R.refers r) where
   abbrev pub In : ℕ → ℕ → Data → Type 0
@@ -63,17 +64,22 @@ module _ (R : Demand) (basis : Basis) (Refers : ℕ → Text → Type 0) (names 
       PartsGood d → (y : Fields) → AreNoted y.list → Under y.flatten → (us : List Data)
       → Fit (Answer d) (asks_of (struct_template basis.contract y)) us → IsGood R (filled (struct_template basis.contract y) us)
 
-  module _ (Under : List Flattened → Type 0) (apart : (ps qs : List Flattened) → Under (ps ++ qs) → Under ps × Under qs)
-      (entries : (n : ℕ) (e : Entry) → entry_at basis.rows n ≡ Some e → IsNotedUnder basis.rows Under e)
-      (structs : (d : ℕ) → StructsGood Under d) where
-    own-good : (d : ℕ) → PartsGood d → (o : Option Entry) → ((e : Entry) → o ≡ Some e → IsNotedUnder basis.rows Under e) → (t : Data)
+  -- what stands beside a tag is written as a part is
+  abbrev pub AreWrittenBeside : (Text → ℕ → Type 0) → ℕ → Type 0
+  AreWrittenBeside Fits d = (tag : Text) (n : ℕ) (t : Data) → Fits tag n → Answer d (content n) t → In d n t
+
+  module _ (Fits : Text → ℕ → Type 0) (Under : List Flattened → Type 0)
+      (apart : (ps qs : List Flattened) → Under (ps ++ qs) → Under ps × Under qs)
+      (entries : (n : ℕ) (e : Entry) → entry_at basis.rows n ≡ Some e → IsNotedUnder basis.rows Fits Under e)
+      (structs : (d : ℕ) → StructsGood Under d) (contents : (d : ℕ) → AreWrittenBeside Fits d) where
+    own-good : (d : ℕ) → PartsGood d → (o : Option Entry) → ((e : Entry) → o ≡ Some e → IsNotedUnder basis.rows Fits Under e) → (t : Data)
         → IsOwnDocument (Answer d) basis o t → IsGood R t
     own-good d parts None entry t h = absurd h
     own-good d parts (Some e) entry t h =
         let told = entry e refl in
         subst (IsGood R) (sym h.is) (good-annotated R e.notes (filled (template_of basis e.shape) h.parts) told.0
-        (shape-makes R (Answer d) basis Under apart (structs d parts) parts (flattened_in basis.rows) (part_enums basis.rows) e.shape
-        (told.1, told.2, told.3) h.parts h.answered))
+        (shape-makes R (Answer d) basis Under apart (structs d parts) parts (flattened_in basis.rows) (part_enums basis.rows) Fits
+        (λ tag n u fits answer. parts n u (contents d tag n u fits answer)) e.shape (told.1, told.2, told.3) h.parts h.answered))
 
     written-by : (d : ℕ) → ((j : ℕ) (t : Data) → Describes basis Refers d j t → IsGood R t) → PartsGood d
     written-by d own j t (inl h) = subst (IsGood R) (sym h.2) (reference-good R h.0 (names j h.0 h.1))
@@ -94,11 +100,11 @@ module _ (R : Demand) (basis : Basis) (Refers : ℕ → Text → Type 0) (names 
     unfolding fields_within
     fields_down d = described_fields basis Refers plain (fields_within basis.rows) (λ e n. refl) d
 
-    plain-entry : (n : ℕ) (e : Entry) → entry_at basis.rows n ≡ Some e → IsNotedUnder basis.rows (ArePlainParts basis.rows) e
+    plain-entry : (n : ℕ) (e : Entry) → entry_at basis.rows n ≡ Some e → IsNotedUnder basis.rows IsNoContent (ArePlainParts basis.rows) e
     plain-entry n e at =
         let entry : IsPlainEntry basis.rows (Some e) = subst (IsPlainEntry basis.rows) at (plain n) in
         let own : IsNotedThroughout (Some e) = subst IsNotedThroughout at (plain_rows basis.rows plain n) in
-        (entry.0, entry.1, own.1, entry.2)
+        (entry.0, (entry.1, entry.3), own.1, entry.2)
 
     plain-structs : (d : ℕ) → StructsGood (ArePlainParts basis.rows) d
     plain-structs d parts y own flat us fit =
@@ -108,7 +114,8 @@ module _ (R : Demand) (basis : Basis) (Refers : ℕ → Text → Type 0) (names 
         (struct_fills (Answer d) (fields_at d) basis.rows basis.contract (fields_down d) y flat us fit)
 
     pub described-good : (d n : ℕ) (t : Data) → Describes basis Refers d n t → IsGood R t
-    described-good = each-good (ArePlainParts basis.rows) (parts_apart basis.rows) plain-entry plain-structs
+    described-good = each-good IsNoContent (ArePlainParts basis.rows) (parts_apart basis.rows) plain-entry plain-structs
+        (λ d tag n t fits answer. absurd fits)
 
 -- ---- where references are names
 

@@ -1,6 +1,7 @@
 -- What fills the templates of enums and maps is what the laws of the drafts speak of, where the answers are.
 use Rattle.std.proofs.Common.{ℕ, List, [], ◌∷◌, ◌++◌, map, Bool, true, false, codes, refl, sym, subst}
-use Rattle.schemars_headline.proofs.Words.{all_filled, AllByRecursion, Data, string, no_members, put, Text, put_all, Field, Fields, Flattened, Shape, KeyOptions, keys, AreNoted, Keyword, Basis, Ask, part, Template, asks_of, filled, filled_in, keyed, left, struct_template, template_of, KeywordTemplate, typed_template, object_with, values_of, all_patterns, pattern_properties_at, properties_at, other_values, values_template, internally_tagged_variant, first_all, left_all, Fit, asked_of_members, recursion_from_All, literal_is_schema, text_items, flattened_fields, effective, expanded_shape, IsPlainShape, parts_in, payload_parts, variant_parts, IsNotedPayload, IsNotedShape, AreNotedVariants, row, asks_in, first, Templates, templates_of, map_template, tuple_template, content_template, title_alone, literal_document-schema, without_end, tuple_fills, title_noted, values_ask, of_each, AreKeysApart, Documents, Law, IsBeside, AreBeside, beside_halves, plain_variants, shape_holds, values_all, asked}
+use Rattle.schemars_headline.proofs.Words.{all_filled, AllByRecursion, Data, string, no_members, put, Text, put_all, Field, Fields, Flattened, Shape, KeyOptions, keys, AreNoted, Keyword, Basis, Ask, part, Template, asks_of, filled, filled_in, keyed, left, struct_template, template_of, KeywordTemplate, typed_template, object_with, values_of, all_patterns, pattern_properties_at, properties_at, other_values, values_template, internally_tagged_variant, first_all, left_all, Fit, asked_of_members, recursion_from_All, literal_is_schema, text_items, flattened_fields, effective, expanded_shape, IsPlainShape, ShapeHasContents, content, parts_in, payload_parts, variant_parts, IsNotedPayload, IsNotedShape, AreNotedVariants, row, asks_in, first, Templates, templates_of, map_template, tuple_template, content_template, title_alone, literal_document-schema, without_end, tuple_fills, title_noted, values_ask, of_each, AreKeysApart, Documents, Law, IsBeside, AreBeside, beside_halves, plain_variants, shape_holds, values_all, asked}
+use Rattle.schemars_templates.specs.Template.{asked as asked_for}
 use Rattle.schemars_headline.proofs.Changes.{Demand, Class, AreGood, are-put, IsGood, good, good_truth, good-annotated, good-allow_null}
 use Rattle.schemars_headline.proofs.Documents.{AllGood, are-typed, type-good, int-good, non_zero-good, char-good, formatted-good, bytes-good, schema_itself-good, empty_list-good, seq-good, set-good, array-good, up_to-good, tuple-good, parts-good, tagged-good, unit-good, units-good, one_of-good, any_of-good, map-good, AllNamed, asked-all, literal-good}
 
@@ -162,37 +163,43 @@ module _ (R : Demand) (A : Ask → Data → Type 0) (basis : Basis) (Under : Lis
     apart = λ ks h. tt;
   }
 
-  module _ (others : Flattened → List Field) (enums : Flattened → List ℕ) where
+  -- `Fits` says which rows may stand beside a tag
+  module _ (others : Flattened → List Field) (enums : Flattened → List ℕ) (Fits : Text → ℕ → Type 0)
+      (contents : (tag : Text) (n : ℕ) (t : Data) → Fits tag n → A (content n) t → IsGood R t) where
     abbrev pub OfShape : Shape → Type 0
-    OfShape kind = IsPlainShape (expanded_shape others enums kind) × IsNotedShape kind × Under (parts_in kind)
+    OfShape kind = (IsPlainShape (expanded_shape others enums kind) × ShapeHasContents Fits kind) × IsNotedShape kind × Under (parts_in kind)
+
+    content-makes : (tag : Text) (n : ℕ) → Fits tag n → Makes (asked_for (content n))
+    content-makes tag n fits [] fit = absurd fit
+    content-makes tag n fits (t ∷ us) fit = contents tag n t fits fit.0
 
     good_law : Law basis
     good_law = record {
       claim = of_each Makes;
       documents = documents;
       of_shape = OfShape;
-      of_variants = λ tagging xs. AreBeside others enums tagging xs × AreNotedVariants xs × Under (variant_parts xs);
-      of_payload = λ tagging p. IsBeside others enums tagging p × IsNotedPayload p × Under (payload_parts p);
+      of_variants = λ tagging xs. AreBeside others enums Fits tagging xs × AreNotedVariants xs × Under (variant_parts xs);
+      of_payload = λ tagging p. IsBeside others enums Fits tagging p × IsNotedPayload p × Under (payload_parts p);
       rows = λ kind m h is. row-makes m;
       option = λ n make us fit. good-allow_null R (first us) (make us fit);
       struct = λ x h. structs x h.1 h.2;
-      variants = λ tagging xs h. ((plain_variants others enums tagging xs h.0).1, h.1, h.2);
-      literal = λ d h us fit. rw (literal_document-schema d (literal_is_schema d h.0)) (literal-good R d h.0);
+      variants = λ tagging xs h. ((plain_variants others enums Fits tagging xs h.0.0 h.0.1).1, h.1, h.2);
+      literal = λ d h us fit. rw (literal_document-schema d (literal_is_schema d h.0.0)) (literal-good R d h.0.0);
       payload = λ tagging x xs h. (
-        (beside_halves others enums tagging x xs h.0).0,
+        (beside_halves others enums Fits tagging x xs h.0).0,
         h.1.1,
         (apart (payload_parts x.payload) (variant_parts xs) h.2).0,
       );
       notes = λ tagging x xs h t make us fit. good-annotated R x.notes (filled t us) h.1.0 (make us fit);
       later = λ tagging x xs h. (
-        (beside_halves others enums tagging x xs h.0).1,
+        (beside_halves others enums Fits tagging x xs h.0).1,
         h.1.2,
         (apart (payload_parts x.payload) (variant_parts xs) h.2).1,
       );
       title = λ name t make us fit. good-annotated R (title_alone name) (filled t us) (title_noted name) (make us fit);
       payload_rows = λ tagging p m h is. row-makes m;
       payload_struct = λ tagging x h. structs x h.1 h.2;
-      content_row = λ tag closed n h. absurd h.0;
+      content_row = λ tag closed n h. content-makes tag n h.0.1;
       tag = λ tag closed x xs h make us fit.
           let bare = filled (content_template basis.contract x.payload) us in
           good-annotated R x.notes (internally_tagged_variant tag x.name closed bare) h.1.0

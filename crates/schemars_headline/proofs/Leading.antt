@@ -22,6 +22,7 @@ same_number : (kind : Shape) (j : ℕ) → IsSame kind j → Contains (same_valu
 same_number (shape.option i) j same = (0, omega arith, sym same)
 same_number (shape.newtype i) j same = (0, omega arith, sym same)
 same_number (shape.enum shape.by_nothing xs) j same = newtype_number xs j same
+same_number (shape.enum (shape.by_tag tag closed) xs) j same = newtype_number xs j same
 same_number kind j same = absurd same
 
 rank_below : (rows : List Row) → IsChecked rows → (n : ℕ) (e : Entry) (j : ℕ) → entry_at rows n ≡ Some e → IsSame e.shape j

@@ -1,7 +1,7 @@
 -- In a table that is plain under its contract the document of each row is one that the law of 2019-09 speaks of, those of structs with
 -- flattened enums too.
 use Rattle.std.proofs.Common.{◌≡◌, ℕ, zero, inr, List, [], ◌∷◌, Option, Some, None, Bool, true, false, codes, refl, sym, ap, ◌∙◌, subst, arith}
-use Rattle.schemars_headline.proofs.Words.{bytes_eq-Decides, bytes_eq, if◌then◌else◌, Data, null, array, object, Members, no_members, member, get_member, items_of, Text, is_listed, NoSchemas, OneSchema, SchemaList, place_under, Judge, draft2020_12, follow, context2020_12, flattened, Everywhere, demanded, asked_of_items, asked_of_keywords, AreSchemas, IsSchemaList, IsTextWith, AreSomeTypes, absent-once, Field, Flattened, Fields, Entry, Row, entry_at, Keyword, required_names, AreNoted, IsNotedThroughout, Basis, Ask, part, members_of, Template, asks_of, filled, with_flattened, struct_template, Describes, Fit, under_rows, with_same_object, with_same_objects, Context, get_member-here, get_member-later, IsNoObject, IsNoList, VariantMatch, is_required, ArePartsUnder, IsEntryUnder, with_keywords, first, fields_template, parted, map_fills, field_keywords, IsSorted, get_member-above, Part, Parts, objects, unevaluated_beside, unevaluated_there, struct_keywords, IsForm, no_parts, IsItem, AllItems, PartsAre, OneIs, IsStruct, under_apart, struct_stands, tell_inside, IsSettled, asked, closed_there, all_there, one_there}
+use Rattle.schemars_headline.proofs.Words.{bytes_eq-Decides, bytes_eq, if◌then◌else◌, Data, null, array, object, Members, no_members, member, get_member, items_of, Text, is_listed, NoSchemas, OneSchema, SchemaList, place_under, Judge, draft2020_12, follow, context2020_12, flattened, Everywhere, demanded, asked_of_items, asked_of_keywords, AreSchemas, IsSchemaList, IsTextWith, AreSomeTypes, absent-once, Field, Flattened, Fields, Entry, Row, entry_at, Keyword, required_names, AreNoted, IsNotedThroughout, Basis, Ask, part, members_of, Template, asks_of, filled, with_flattened, struct_template, Describes, Fit, under_rows, with_same_object, with_same_objects, Context, get_member-here, get_member-later, IsNoObject, IsNoList, VariantMatch, is_required, ArePartsUnder, IsPlainContent, beside_written, IsEntryUnder, with_keywords, first, fields_template, parted, map_fills, field_keywords, IsSorted, get_member-above, Part, Parts, objects, unevaluated_beside, unevaluated_there, struct_keywords, IsForm, no_parts, IsItem, AllItems, PartsAre, OneIs, IsStruct, under_apart, struct_stands, tell_inside, IsSettled, asked, closed_there, all_there, one_there}
 use Rattle.schemars_flatten.proofs.Kept as kept
 use Rattle.schemars_types.specs.declared.contract.Contract.{Contract}
 use Rattle.schemars_templates.specs.Template.{asked as asked_for}
@@ -225,11 +225,11 @@ module _ (N : Text → Type 0) (basis : Basis) (Refers : ℕ → Text → Type 0
   abbrev contract : Contract
   contract = basis.contract
 
-  under-entry : (n : ℕ) (e : Entry) → entry_at rows n ≡ Some e → IsNotedUnder rows (ArePartsUnder contract rows) e
+  under-entry : (n : ℕ) (e : Entry) → entry_at rows n ≡ Some e → IsNotedUnder rows (IsPlainContent rows) (ArePartsUnder contract rows) e
   under-entry n e at =
       let entry : IsEntryUnder contract rows (Some e) = subst (IsEntryUnder contract rows) at (settled.plain n) in
       let own : IsNotedThroughout (Some e) = subst IsNotedThroughout at (under_rows contract rows settled.plain n) in
-      (entry.0, entry.1, own.1, entry.3)
+      (entry.0, (entry.1, entry.4), own.1, entry.3)
 
   -- its form is the same whatever value is looked at, and wherever references lead
   nowhere : Text → Judge
@@ -248,4 +248,5 @@ module _ (N : Text → Type 0) (basis : Basis) (Refers : ℕ → Text → Type 0
 
   pub described-under : (d n : ℕ) (t : Data) → Describes basis Refers d n t → IsGood (with_rest N) t
   described-under =
-      each-good (with_rest N) basis Refers names (ArePartsUnder contract rows) (under_apart contract rows) under-entry under-structs
+      each-good (with_rest N) basis Refers names (IsPlainContent rows) (ArePartsUnder contract rows) (under_apart contract rows) under-entry
+      under-structs (beside_written [] nowhere basis Refers settled 1 (omega arith))

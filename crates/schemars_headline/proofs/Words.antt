@@ -24,7 +24,7 @@ pub use Rattle.schemars_documents.specs.Describes.{AreAnswered, Fills, IsAnswere
 unfoldable pub use Rattle.schemars_documents.specs.Describes.{Describes}
 pub use Rattle.schemars_documents.specs.Documents.{byte_document, bytes_document, bytes_type, char_document, empty_list_document, formatted_document, int_document, int_keywords, is_signed, non_zero_document, required_names, schema_document}
 pub use Rattle.schemars_documents.specs.OfShape.{all_patterns, content_template, entry_template, fields_template, literal_document, members_asked, other_values, pattern_properties_at, property, struct_template, template_of, tuple_template, values_of, values_template, with_flattened}
-pub use Rattle.schemars_documents.specs.PlainTable.{AreNoted, AreNotedVariants, ArePartsUnder, ArePlainParts, EntryHasNoFloat, HasNoFloat, HasPlainLiteral, HasPlainNotes, HasPlainNotesThroughout, IsEntryUnder, IsNotedEntry, IsNotedPayload, IsNotedShape, IsNotedThroughout, IsPlainEntry, IsPlainShape, IsPlainTable, IsPlainUnder, parts_in, payload_parts, variant_parts}
+pub use Rattle.schemars_documents.specs.PlainTable.{AreNoted, AreNotedVariants, ArePartsUnder, ArePlainParts, EntryHasNoFloat, HasNoFloat, HasPlainLiteral, HasPlainNotes, HasPlainNotesThroughout, IsEntryUnder, IsNoContent, IsNotedEntry, IsNotedPayload, IsNotedShape, IsNotedThroughout, IsPlainContent, IsPlainEntry, IsPlainShape, IsPlainTable, IsPlainUnder, ShapeHasContents, parts_in, payload_parts, variant_parts}
 pub use Rattle.schemars_flatten.proofs.Floats.{flattened-whole, flattened_part-whole, opened_inside-whole}
 pub use Rattle.schemars_flatten.proofs.Kept.{AllMembers, IsByKeyword}
 pub use Rattle.schemars_flatten.proofs.References.{flattened_part-refers, opened_inside-refers}
@@ -76,6 +76,7 @@ pub use Rattle.schemars_meaning.proofs.Notes.{judge-root}
 pub use Rattle.schemars_meaning.proofs.Opened.{no_parts}
 pub use Rattle.schemars_meaning.proofs.Parts.{described_holds, either, first_all, left_all}
 pub use Rattle.schemars_meaning.proofs.PartsDescribed.{under_apart}
+pub use Rattle.schemars_meaning.proofs.ReadyUnder.{beside_written}
 pub use Rattle.schemars_meaning.proofs.ReferencesKept.{references-root}
 pub use Rattle.schemars_meaning.proofs.Referring.{IsReferring, described_refers, plain_rows, under_rows, written_refers}
 pub use Rattle.schemars_meaning.proofs.Rows.{all_asks, values_ask}

@@ -1,6 +1,6 @@
 -- In a plain table a flattened struct has the document of a map with its fields, and null can be added to each document.
 use Rattle.std.proofs.Common.{◌≡◌, inl, inr, ℕ, zero, suc, List, [], ◌∷◌, Option, Some, None, Bool, false, refl, sym, ap, ◌∙◌, subst, arith}
-use Rattle.schemars_meaning.proofs.Words.{is_some, ◌&&◌, option_map_or, Data, Text, Dialect, allow_null, IsReady, Field, Flattened, Fields, Shape, Entry, entry_at, effective, flattened_in, part_enums, shape_fields, flattened_part, annotated, required_names, ArePlainParts, IsPlainEntry, Basis, Ask, asks_of, filled, template_of, struct_template, IsOwnDocument, IsAnswered, IsWritten, IsDraft, AcceptsNullToo, ready-law, option_at, part_fields, IsOpenStruct, IsPlainTable, bare, part_same, parts_apart, fields_within, Describes}
+use Rattle.schemars_meaning.proofs.Words.{is_some, ◌&&◌, option_map_or, Data, Text, Dialect, allow_null, IsReady, Field, Flattened, Fields, Shape, Entry, entry_at, effective, flattened_in, part_enums, shape_fields, flattened_part, annotated, required_names, ArePlainParts, IsPlainEntry, Basis, Ask, asks_of, filled, template_of, struct_template, IsOwnDocument, IsAnswered, IsWritten, IsDraft, AcceptsNullToo, ready-law, option_at, part_fields, IsOpenStruct, IsPlainTable, IsNoContent, bare, part_same, parts_apart, fields_within, Describes}
 use Rattle.schemars_meaning.proofs.Spread.{field_keywords, IsFieldsDocument, AnswersFields}
 use Rattle.schemars_meaning.proofs.Flattening.{part-stays}
 use Rattle.schemars_meaning.proofs.Filling.{Fit}
@@ -112,7 +112,8 @@ module _ (basis : Basis) (Refers : ℕ → Text → Type 0) (plain : IsPlainTabl
       (struct_fills (Answer basis Refers d) (fields_at d) basis.rows basis.contract (fields_down d) y flat us fit) in
       subst IsReady (sym is.is) (ready-annotated e.notes (filled (template_of basis e.shape) is.parts) noted.0
       (shape_ready (Answer basis Refers d) basis (ArePlainParts basis.rows) (parts_apart basis.rows) ready structs
-      (flattened_in basis.rows) (part_enums basis.rows) e.shape noted.1 noted.2 is.parts is.answered))
+      (flattened_in basis.rows) (part_enums basis.rows) IsNoContent (λ tag n t fits answer. absurd fits) e.shape noted.1 noted.2 noted.3 is.parts
+      is.answered))
 
   written_by : (d : ℕ) → ((j : ℕ) (t : Data) → Describes basis Refers d j t → IsReady t) → (j : ℕ) (t : Data) → In basis Refers d j t
       → IsReady t

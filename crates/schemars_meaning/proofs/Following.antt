@@ -202,12 +202,13 @@ module _ (s : Setting) where
       written_ready patterns (at_most n) basis (InList refs) s.settled ranks some in
       let schema = ready-schema bare
       (bare_ready patterns (at_most n) basis (InList refs) s.settled ranks some
-      d (ready d) e.shape bare under.1 under.3 fills) in
+      d (ready d) e.shape bare under.1 under.3 under.4 fills) in
       rw (is.is) (ap (λ j. j.fits v) (judge-annotated patterns (at_most n) e.notes bare under.0 schema)
       ∙ shape_says patterns (at_most n) basis (InList refs) s.settled ranks some (depth v)
       (λ d j t w written js less m enough. smaller h n below (depth v) same k (rw same at costs) d j t w written js less m
       (omega (arith, written_low d j t written)))
-      ready v json (omega arith) m (omega arith) d e.shape (room (s.flattens k e at)) under.1 under.3 bare fills
+      ready v json (omega arith) m (omega arith) d e.shape (room (s.flattens k e at))
+      (λ j same_row. let b = s.ranked k e j at same_row in omega arith) under.1 under.3 under.4 bare fills
       (λ j t w written js inside. part_says h n d m below good said k e at v same costs low j t w written js inside))
     where
       room : (parts_in e.shape ≡ []) ⊎ (0 < rank k) → HasRoom ranks v m (parts_in e.shape)

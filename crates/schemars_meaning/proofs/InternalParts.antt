@@ -17,6 +17,13 @@ IsInside fields Told (newtype_payload n) = ⊥
 IsInside fields Told (tuple_payload ns) = ⊥
 IsInside fields Told (struct_payload y) = Told y × AreDistinct (fields y) × AreNoted (fields y)
 
+-- the same, and newtypes that `Fits` speaks of
+abbrev pub IsHeld : (Fields → List Field) → (Fields → Type 0) → (ℕ → Type 0) → Payload → Type 0
+IsHeld fields Told Fits no_payload = Unit {0}
+IsHeld fields Told Fits (newtype_payload n) = Fits n
+IsHeld fields Told Fits (tuple_payload ns) = ⊥
+IsHeld fields Told Fits (struct_payload y) = IsInside fields Told (struct_payload y)
+
 module _ (c : Context) (on : c.dialect.reads_unevaluated ≡ true) (contract : Contract) (A : Ask → Data → Type 0) (M : ℕ → Data → Bool)
     (schemas : (j : ℕ) (t : Data) → A (part j) t → IsSchema t) (v : Data) (json : IsJson v)
     (agree : (j : ℕ) (t w : Data) → A (part j) t → IsJson w → depth w < depth v → (judge c t).fits w ≡ verdict (M j w))

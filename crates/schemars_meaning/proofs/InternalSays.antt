@@ -1,14 +1,14 @@
--- What the document of an enum says that is tagged inside its maps, whose structs may have enums among their members.
+-- What the document of an enum says that is tagged inside its maps, whose structs may have enums among their members, and whose newtypes
+-- say what they mean beside the tag.
 use Rattle.std.proofs.Common.{◌≡◌, ℕ, ◌<◌, List, [], ◌∷◌, map, Option, Some, None, Bool, true, false, refl, sym, ap, ◌∙◌, subst, true≢false}
-use Rattle.schemars_meaning.proofs.Words.{bytes_eq, if◌then◌else◌, is_some, option_and_then, list_any, and_parts, bytes_eq-Decides, Data, null, object, Members, no_members, member, depth, get_member, as_str, Text, IsJson, IsSchema, without, verdict, Judge, Patterns, Context, judge, context2020_12, Field, Fields, Flattened, Payload, Variant, no_payload, newtype_payload, tuple_payload, struct_payload, holds, every_member, VariantMatch, every_part, excludes_key, matches_of, AreDistinctVariants, Ask, part, asks_of, filled, struct_template, content_template, internal_template, expanded_payload, expanded_variant, effective, flattened_enums, enum_at, option_map_or, not, as_object, has_content, has_internal, Member, member_named, has_each, are_members, tag_member, has_members_with, field_member, tagged}
+use Rattle.schemars_meaning.proofs.Words.{bytes_eq, if◌then◌else◌, is_some, option_and_then, list_any, and_parts, bytes_eq-Decides, Data, null, object, Members, no_members, member, depth, get_member, as_str, Text, IsJson, IsSchema, without, verdict, Judge, Patterns, Context, judge, context2020_12, Field, Fields, Flattened, Payload, Variant, no_payload, newtype_payload, tuple_payload, struct_payload, holds, every_member, VariantMatch, every_part, excludes_key, matches_of, AreDistinctVariants, Ask, part, content, asked, asks_of, filled, struct_template, content_template, internal_template, expanded_payload, expanded_variant, effective, flattened_enums, enum_at, option_map_or, not, as_object, has_content, has_internal, internally_tagged_variant, Member, member_named, has_each, are_members, tag_member, has_members_with, field_member, tagged}
 use Rattle.schemars_types.specs.declared.contract.Contract.{Contract}
 use Rattle.schemars_types.specs.Meaning.{is_text}
 use Rattle.schemars_text.proofs.Members.{get_member-member}
-use Rattle.schemars_meaning.proofs.MapDocument.{map_document}
 use Rattle.schemars_meaning.proofs.Filling.{Fit}
 use Rattle.schemars_meaning.proofs.StructDocuments.{IsStruct}
-use Rattle.schemars_meaning.proofs.InternalParts.{IsInside}
-use Rattle.schemars_meaning.proofs.Tags.{no_keys, null_tagged, tagged_means}
+use Rattle.schemars_meaning.proofs.InternalParts.{IsHeld}
+use Rattle.schemars_meaning.proofs.Tags.{null_means, tagged_means}
 use Rattle.schemars_meaning.proofs.Choices.{unit_says}
 use Rattle.schemars_meaning.proofs.OneOf.{AreTold, Tells, one_tells, one_says}
 
@@ -88,25 +88,29 @@ module _ (patterns : Patterns) (f : Text → Judge) (contract : Contract) (A : A
 
   -- ---- the whole
 
-  module _ (Told : Fields → Type 0) (json : IsJson v) (schemas : (j : ℕ) (t : Data) → A (part j) t → IsSchema t)
+  module _ (Told : Fields → Type 0) (Fits : ℕ → Type 0) (json : IsJson v) (schemas : (j : ℕ) (t : Data) → A (part j) t → IsSchema t)
       (agree : (j : ℕ) (t w : Data) → A (part j) t → IsJson w → depth w < depth v
       → (judge (context2020_12 patterns f) t).fits w ≡ verdict (M j w))
       (fills : (y : Fields) → Told y → (us : List Data) → Fit A (asks_of (struct_template contract y)) us
       → IsStruct (context2020_12 patterns f) refl contract (λ j. A (part j)) v (effective part_fields y)
       (matches_of C (map enum_at (flattened_enums enums y.flatten)) v) y.closed
-      (filled (struct_template contract y) us)) where
+      (filled (struct_template contract y) us))
+      (contents : (n : ℕ) (t : Data) → Fits n → A (content n) t → (name : Text)
+      → (judge (context2020_12 patterns f) (internally_tagged_variant tag name closed t)).fits v ≡ verdict (has_content (M n) tag name v)) where
     abbrev c : Context
     c = context2020_12 patterns f
 
-    item_tells : (name : Text) (p : Payload) → IsInside (effective part_fields) Told p
+    item_tells : (name : Text) (p : Payload) → IsHeld (effective part_fields) Told Fits p
         → Tells patterns f A v (tagged tag name closed (content_template contract p)) (inside name (expanded_payload part_fields enums p))
     item_tells name no_payload h = λ us fit. (
       tt,
-      ap (λ t. (judge c t).fits v) (sym (null_tagged tag name closed))
-          ∙ tagged_means c refl contract (λ j. A (part j)) M schemas v json agree (unit_says patterns f) tag name closed [] [] closed
-          (map_document [] [] closed) tt tt (no_keys c refl contract (λ j. A (part j)) v closed),
+      null_means c refl contract (λ j. A (part j)) M schemas v json agree (unit_says patterns f) tag name closed,
     )
-    item_tells name (newtype_payload n) h = absurd h
+    item_tells name (newtype_payload n) h = content_tells
+      where
+        content_tells : Tells patterns f A v (tagged tag name closed (asked (content n))) (has_content (M n) tag name v)
+        content_tells [] fit = absurd fit
+        content_tells (t ∷ us) fit = (tt, contents n t h fit.0 name)
     item_tells name (tuple_payload ns) h = absurd h
     item_tells name (struct_payload y) h = λ us fit. (
       tt,
@@ -115,10 +119,10 @@ module _ (patterns : Patterns) (f : Text → Judge) (contract : Contract) (A : A
     )
 
     -- the document of the enum says what the enum means
-    pub internal_says : (xs : List Variant) → AreDistinctVariants (map each xs) → AreTold (IsInside (effective part_fields) Told) xs
+    pub internal_says : (xs : List Variant) → AreDistinctVariants (map each xs) → AreTold (IsHeld (effective part_fields) Told Fits) xs
         → Tells patterns f A v (internal_template contract tag closed xs) (list_any has (map each xs))
     internal_says [] apart all = one_tells patterns f A v [] [] tt
     internal_says (x ∷ xs) apart all =
         one_says patterns f A v (λ y. tagged tag y.name closed (content_template contract y.payload)) each has
-        (IsInside (effective part_fields) Told) (λ y h. item_tells y.name y.payload h) (told tag v) (λ y. variant_told y.name y.payload)
+        (IsHeld (effective part_fields) Told Fits) (λ y h. item_tells y.name y.payload h) (told tag v) (λ y. variant_told y.name y.payload)
         (x ∷ xs) apart all

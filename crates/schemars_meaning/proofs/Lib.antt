@@ -59,5 +59,6 @@ pub mod NodeReferences
 pub mod References
 pub mod Referring
 pub mod Congruence
+pub mod Contents
 pub mod Equation
 mod WorkedTables

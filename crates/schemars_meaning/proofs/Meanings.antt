@@ -1,6 +1,6 @@
 -- The documents of shapes into which nothing is flattened say what the shapes mean, and null can be added to each document.
 use Rattle.std.proofs.Common.{◌≡◌, ◌⊎◌, ℕ, ◌<◌, inl, inr, List, [], ◌∷◌, ◌++◌, map, Bool, true, false, refl, sym, ◌∙◌, subst}
-use Rattle.schemars_meaning.proofs.Words.{AllByRecursion, ArePlainVariants, KeywordTemplate, Template, expanded_variant, filled_in, first, map_template, payload_parts, row, asks_in, template_of, templates_of, text_items, variant_parts, Data, depth, verdict, Text, IsJson, IsSchema, draft2020_12, Patterns, Judge, Context, judge, context2020_12, IsReady, ready-schema, key_options, Shape, Field, Flattened, Fields, VariantMatch, has_shape, Basis, IsPlainShape, parts_in, Ask, part, asks_of, filled, struct_template, codes, AreReady, ready-law, ready-allow_null, expanded_shape, title_alone, literal_is_schema, literal_judged, literal_ready, literal_document-schema}
+use Rattle.schemars_meaning.proofs.Words.{AllByRecursion, ArePlainVariants, KeywordTemplate, ShapeHasContents, Template, asked, content, expanded_variant, filled_in, first, map_template, payload_parts, row, asks_in, template_of, templates_of, text_items, variant_parts, Data, depth, verdict, Text, IsJson, IsSchema, draft2020_12, Patterns, Judge, Context, judge, context2020_12, IsReady, ready-schema, key_options, Shape, Field, Flattened, Fields, VariantMatch, has_shape, Basis, IsPlainShape, parts_in, Ask, part, asks_of, filled, struct_template, codes, AreReady, ready-law, ready-allow_null, expanded_shape, title_alone, literal_is_schema, literal_judged, literal_ready, literal_document-schema}
 use Rattle.schemars_meaning.proofs.Ready.{int_ready, non_zero_ready, bytes_ready, map_ready, tuple_ready, one_of_ready, any_of_ready, units_ready}
 use Rattle.schemars_meaning.proofs.Notes.{ready-annotated}
 use Rattle.schemars_meaning.proofs.Enums.{IsNewtypeIn, title_noted}
@@ -91,37 +91,43 @@ module _ (A : Ask → Data → Type 0) (basis : Basis) (Under : List Flattened �
     apart = λ ks h. tt;
   }
 
-  module _ (others : Flattened → List Field) (enums : Flattened → List ℕ) where
+  -- `Fits` says which rows may stand beside a tag
+  module _ (others : Flattened → List Field) (enums : Flattened → List ℕ) (Fits : Text → ℕ → Type 0)
+      (contents : (tag : Text) (n : ℕ) (t : Data) → Fits tag n → A (content n) t → IsReady t) where
+    content_ready : (tag : Text) (n : ℕ) → Fits tag n → Makes (asked (content n))
+    content_ready tag n fits [] fit = absurd fit
+    content_ready tag n fits (t ∷ us) fit = contents tag n t fits fit.0
+
     ready_law : Law basis
     ready_law = record {
       claim = claim;
       documents = documents;
-      of_shape = λ kind. IsPlainShape (expanded_shape others enums kind) × Under (parts_in kind);
+      of_shape = λ kind. IsPlainShape (expanded_shape others enums kind) × Under (parts_in kind) × ShapeHasContents Fits kind;
       of_variants = λ tagging xs.
-          ArePlainVariants (map (expanded_variant others enums) xs) × AreBeside others enums tagging xs × Under (variant_parts xs);
-      of_payload = λ tagging p. IsBeside others enums tagging p × Under (payload_parts p);
+          ArePlainVariants (map (expanded_variant others enums) xs) × AreBeside others enums Fits tagging xs × Under (variant_parts xs);
+      of_payload = λ tagging p. IsBeside others enums Fits tagging p × Under (payload_parts p);
       rows = λ kind m h is. row_ready m;
       option = λ n h us fit. ready-allow_null (first us) (h us fit);
       struct = λ x h. structs x h.1;
-      variants = λ tagging xs h. let own = plain_variants others enums tagging xs h.0 in (own.0, own.1, h.1);
+      variants = λ tagging xs h. let own = plain_variants others enums Fits tagging xs h.0 h.2 in (own.0, own.1, h.1);
       literal = λ d h us fit. rw (literal_document-schema d (literal_is_schema d h.0)) (literal_ready d h.0);
       payload = λ tagging x xs h.
-          ((beside_halves others enums tagging x xs h.1).0, (apart (payload_parts x.payload) (variant_parts xs) h.2).0);
+          ((beside_halves others enums Fits tagging x xs h.1).0, (apart (payload_parts x.payload) (variant_parts xs) h.2).0);
       notes = λ tagging x xs h t is us fit. ready-annotated x.notes (filled t us) h.0.0 (is us fit);
       later = λ tagging x xs h.
-          (h.0.2, (beside_halves others enums tagging x xs h.1).1, (apart (payload_parts x.payload) (variant_parts xs) h.2).1);
+          (h.0.2, (beside_halves others enums Fits tagging x xs h.1).1, (apart (payload_parts x.payload) (variant_parts xs) h.2).1);
       title = λ name t is us fit. ready-annotated (title_alone name) (filled t us) (title_noted name) (is us fit);
       payload_rows = λ tagging p m h is. row_ready m;
       payload_struct = λ tagging x h. structs x h.1;
-      content_row = λ tag closed n h. absurd h.0;
+      content_row = λ tag closed n h us fit. content_ready tag n h.0.1 us fit;
       tag = λ tag closed x xs h is. tt;
       beside = λ tag key closed p h. tt;
     }
 
     pub shape_ready : (kind : Shape) → IsPlainShape (expanded_shape others enums kind) → Under (parts_in kind)
-        → Makes (template_of basis kind)
+        → ShapeHasContents Fits kind → Makes (template_of basis kind)
     unfolding ready_law
-    shape_ready kind p flat = shape_holds basis ready_law kind (p, flat)
+    shape_ready kind p flat fit = shape_holds basis ready_law kind (p, flat, fit)
 
 -- ---- one shape
 
@@ -130,6 +136,7 @@ abbrev pub IsSame : Shape → ℕ → Type 0
 IsSame (shape.option n) j = j ≡ n
 IsSame (shape.newtype n) j = j ≡ n
 IsSame (shape.enum shape.by_nothing xs) j = IsNewtypeIn j xs
+IsSame (shape.enum (shape.by_tag tag closed) xs) j = IsNewtypeIn j xs
 IsSame _ j = ⊥
 
 -- where a part is asked: inside the value, or of the value itself

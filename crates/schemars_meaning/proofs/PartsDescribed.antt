@@ -1,6 +1,6 @@
 -- What rows of a table that is plain under the contract answer where they are flattened, as far as the documents go down.
 use Rattle.std.proofs.Common.{◌≡◌, ℕ, zero, suc, ◌<◌, List, [], ◌∷◌, ◌++◌, Option, Some, None, Bool, true, false, map, refl, sym, ap, ◌∙◌, subst, length, arith}
-use Rattle.schemars_meaning.proofs.Words.{is_some, ◌&&◌, not, if◌then◌else◌, map-append, Data, Members, depth, Text, IsJson, IsSchema, AreNotes, verdict, Context, judge, is_null, Patterns, null_schema, unit_variant, Field, Flattened, Fields, Shape, Entry, Payload, Variant, no_payload, newtype_payload, tuple_payload, struct_payload, Row, entry_at, is_required, VariantMatch, member_choice, matches_of, has_payload, belongs_within, parts_in, payload_parts, variant_parts, ArePartsUnder, IsEntryUnder, IsPlainShape, IsPlainPayload, ArePlainVariants, IsTagged, AreTagged, annotated, required_names, flattened_part, Basis, Ask, members_of, noted, asks_of, filled, struct_template, external_template, internal_template, payload_template, template_of, Fills, IsOwnDocument, IsAnswered, IsWritten, effective, flattened_in, shape_fields, flattened_enums, part_enums, enums_within, enum_at, expanded_payload, expanded_variant, expanded_shape_in, Required, option_at, external_choice, internal_choice, shape_choices, IsPartUnder, IsPartEntry, IsPartShape, may_miss, HasNoEnums, IsBare, HasBareUnits, VariantsHaveNoEnums, without_options, are_optional, required_only_if, row_fields, shape_enums, choices_within, Describes}
+use Rattle.schemars_meaning.proofs.Words.{is_some, ◌&&◌, not, if◌then◌else◌, map-append, Data, Members, depth, Text, IsJson, IsSchema, AreNotes, verdict, Context, judge, is_null, Patterns, null_schema, unit_variant, Field, Flattened, Fields, Shape, Entry, Payload, Variant, no_payload, newtype_payload, tuple_payload, struct_payload, Row, entry_at, is_required, VariantMatch, member_choice, matches_of, has_payload, belongs_within, parts_in, payload_parts, variant_parts, ArePartsUnder, IsEntryUnder, IsPlainShape, IsPlainPayload, ArePlainVariants, IsTagged, AreTagged, HasContent, HaveContents, IsNoContent, annotated, required_names, flattened_part, Basis, Ask, members_of, noted, asks_of, filled, struct_template, external_template, internal_template, payload_template, template_of, Fills, IsOwnDocument, IsAnswered, IsWritten, effective, flattened_in, shape_fields, flattened_enums, part_enums, enums_within, enum_at, expanded_payload, expanded_variant, expanded_shape_in, Required, option_at, external_choice, internal_choice, shape_choices, IsPartUnder, IsPartEntry, IsPartShape, may_miss, HasNoEnums, IsBare, HasBareUnits, VariantsHaveNoEnums, without_options, are_optional, required_only_if, row_fields, shape_enums, choices_within, Describes}
 use Rattle.schemars_shapes.specs.Shape as shape
 use Rattle.schemars_types.specs.declared.contract.Contract.{Contract}
 use Rattle.schemars_types.specs.declared.contract.Contract.TheVariants.{Deserialize, Serialize}
@@ -260,19 +260,21 @@ module _ (c : Context) (on : c.dialect.reads_unevaluated ≡ true) (basis : Basi
       abbrev Inside : List Variant → Type 0
       Inside = AreTold (IsInside (effective has) Plain)
 
-      inside_each : (tag : Text) (xs : List Variant) → ArePlainVariants (map each_expanded xs)
-          → AreTagged tag (map each_expanded xs) → VariantsHaveNoEnums rows xs → ArePartsUnder contract rows (variant_parts xs) → Inside xs
-      inside_each tag [] plain tags none flat = tt
-      inside_each tag (x ∷ xs) plain tags none flat =
-          let flats = under_apart contract rows (payload_parts x.payload) (variant_parts xs) flat in
-          ((by x.payload plain.1 tags.0 none.0 flats.0, plain.0), inside_each tag xs plain.2 tags.1 none.1 flats.1)
+      inside_each : (tag : Text) (xs : List Variant) → ArePlainVariants (map each_expanded xs) → AreTagged tag (map each_expanded xs)
+          → HaveContents IsNoContent tag xs → VariantsHaveNoEnums rows xs → ArePartsUnder contract rows (variant_parts xs) → Inside xs
+      inside_each tag [] plain tags contents none flat = tt
+      inside_each tag (x ∷ xs) plain tags contents none flat =
+          let flats = under_apart contract rows (payload_parts x.payload) (variant_parts xs) flat in (
+            (by x.payload plain.1 tags.0 contents.0 none.0 flats.0, plain.0),
+            inside_each tag xs plain.2 tags.1 contents.1 none.1 flats.1,
+          )
         where
-          by : (p : Payload) → IsPlainPayload (spreads p) → IsTagged tag (spreads p) → HasNoEnums rows (payload_parts p)
-              → ArePartsUnder contract rows (payload_parts p) → IsInside (effective has) Plain p
-          by no_payload plain tagged none flat = tt
-          by (newtype_payload n) plain tagged none flat = absurd tagged
-          by (tuple_payload ns) plain tagged none flat = absurd tagged
-          by (struct_payload y) plain tagged none flat = ((flat, none), plain.0, plain.1)
+          by : (p : Payload) → IsPlainPayload (spreads p) → IsTagged tag (spreads p) → HasContent IsNoContent tag p
+              → HasNoEnums rows (payload_parts p) → ArePartsUnder contract rows (payload_parts p) → IsInside (effective has) Plain p
+          by no_payload plain tagged content none flat = tt
+          by (newtype_payload n) plain tagged content none flat = absurd content
+          by (tuple_payload ns) plain tagged content none flat = absurd tagged
+          by (struct_payload y) plain tagged content none flat = ((flat, none), plain.0, plain.1)
 
       abbrev inside_offer : Text → Variant → VariantMatch
       inside_offer = offer c on contract (Answer d) M (schemas d) v json (agree d) unit_says (effective has) Plain (struct_filled d answers)
@@ -343,7 +345,7 @@ module _ (c : Context) (on : c.dialect.reads_unevaluated ≡ true) (basis : Basi
       shape_goal d answers p n e at (shape.enum (shape.by_tag tag closed) []) same notes fine under is s own = absurd is.1
       shape_goal d answers p n e at (shape.enum (shape.by_tag tag closed) (x ∷ xs)) same notes fine under is s own =
           enum_goal d p n e at (shape.enum (shape.by_tag tag closed) (x ∷ xs)) same s is.0
-          (internal_at d answers e tag closed x xs same notes (inside_each d answers tag (x ∷ xs) fine.1 fine.2 is.3 under) s own)
+          (internal_at d answers e tag closed x xs same notes (inside_each d answers tag (x ∷ xs) fine.1 fine.2 is.2 is.3 under) s own)
       shape_goal d answers p n e at k same notes fine under is s own = absurd is
 
       row_goal : (d : ℕ) → PartsAnswer d → (p : Flattened) (n : ℕ) (o : Option Entry) → entry_at rows n ≡ o → IsEntryUnder contract rows o

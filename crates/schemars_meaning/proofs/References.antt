@@ -1,6 +1,6 @@
 -- The references of the document of each shape are those of its answers.
 use Rattle.std.proofs.Common.{◌≡◌, ℕ, List, [], ◌∷◌, ◌++◌, map, Bool, false, Some, refl, sym, ap, ◌∙◌, subst, Contains, append-nil}
-use Rattle.schemars_meaning.proofs.Words.{All, AllByRecursion, codes, bytes_eq, map-append, Data, Text, NoSchemas, finished, list, IsSchema, references, Shape, Field, Flattened, Fields, Entry, Payload, Variant, no_payload, newtype_payload, tuple_payload, struct_payload, Row, is_required, flattened_fields, effective, flattened_in, part_enums, expanded_payload, expanded_variant, expanded_shape_in, required_names, AreDistinct, AreNoted, IsPlainShape, IsPlainEntry, IsPlainPayload, ArePlainVariants, payload_parts, variant_parts, parts_in, ArePlainParts, Basis, Template, Ask, members_of, asked, Templates, asks_of, filled, KeywordTemplate, templates_of, property, template_of, entry_template, fields_template, with_flattened, struct_template, content_template, AreAnswered, references_of, flipped, Place, SchemaList, SchemasByName, place_under, literal_is_schema, literal_refers_nowhere, Tagging, AreNotedVariants, IsNotedShape, IsNotedPayload, IsNotedThroughout, with_keywords, tagged, object_with, literal_document-schema, found_in}
+use Rattle.schemars_meaning.proofs.Words.{All, AllByRecursion, codes, bytes_eq, map-append, Data, Text, NoSchemas, finished, list, IsSchema, references, Shape, Field, Flattened, Fields, Entry, Payload, Variant, no_payload, newtype_payload, tuple_payload, struct_payload, Row, is_required, flattened_fields, effective, flattened_in, part_enums, expanded_payload, expanded_variant, expanded_shape_in, required_names, AreDistinct, AreNoted, IsPlainShape, IsPlainEntry, IsPlainPayload, ArePlainVariants, payload_parts, variant_parts, parts_in, ArePlainParts, IsNoContent, ShapeHasContents, Basis, Template, Ask, members_of, asked, Templates, asks_of, filled, KeywordTemplate, templates_of, property, template_of, entry_template, fields_template, with_flattened, struct_template, content_template, AreAnswered, references_of, flipped, Place, SchemaList, SchemasByName, place_under, literal_is_schema, literal_refers_nowhere, Tagging, AreNotedVariants, IsNotedShape, IsNotedPayload, IsNotedThroughout, with_keywords, tagged, object_with, literal_document-schema, found_in}
 use Rattle.schemars_shapes.specs.Shape as shape
 use Rattle.schemars_meaning.proofs.Spread.{AnswersFields}
 use Rattle.schemars_meaning.proofs.ReferencesKept.{Among, among_right, AreApart}
@@ -173,29 +173,30 @@ module _ (Q : Type 0) (Answers : Ask → Data → Type 0) (basis : Basis)
   later x xs h = (h.0.2, parts-later (payload_parts x.payload) (variant_parts xs) h.1)
 
   abbrev OfShape : Shape → Type 0
-  OfShape kind = IsNotedShape kind × (Q → IsPlainShape (expanded_shape_in basis.rows kind) × PlainParts (parts_in kind))
+  OfShape kind = IsNotedShape kind
+      × (Q → IsPlainShape (expanded_shape_in basis.rows kind) × PlainParts (parts_in kind) × ShapeHasContents IsNoContent kind)
 
   abbrev OfVariants : Tagging → List Variant → Type 0
-  OfVariants tagging xs = AreNotedVariants xs × (Q → ArePlainContents xs × AreBeside fields_at enums_at tagging xs)
+  OfVariants tagging xs = AreNotedVariants xs × (Q → ArePlainContents xs × AreBeside fields_at enums_at IsNoContent tagging xs)
 
   abbrev OfPayload : Tagging → Payload → Type 0
-  OfPayload tagging p = IsNotedPayload p × (Q → IsPlainContent p × IsBeside fields_at enums_at tagging p)
+  OfPayload tagging p = IsNotedPayload p × (Q → IsPlainContent p × IsBeside fields_at enums_at IsNoContent tagging p)
 
   variants : (tagging : Tagging) (xs : List Variant) → OfShape (shape.enum tagging xs) → OfVariants tagging xs
   variants tagging xs h =
-      (h.0, λ q. let own = plain_variants fields_at enums_at tagging xs (h.1 q).0 in ((own.0, (h.1 q).1), own.1))
+      (h.0, λ q. let own = plain_variants fields_at enums_at IsNoContent tagging xs (h.1 q).0 (h.1 q).2 in ((own.0, (h.1 q).1), own.1))
 
   payload : (tagging : Tagging) (x : Variant) (xs : List Variant) → OfVariants tagging (x ∷ xs) → OfPayload tagging x.payload
   payload tagging x xs h =
-      (h.0.1, λ q. (here x xs (h.1 q).0, (beside_halves fields_at enums_at tagging x xs (h.1 q).1).0))
+      (h.0.1, λ q. (here x xs (h.1 q).0, (beside_halves fields_at enums_at IsNoContent tagging x xs (h.1 q).1).0))
 
   -- beside the tag
   tagged_as_schema : (tag name : Text) (closed : Bool) (p : Payload) → OfPayload (shape.by_tag tag closed) p
       → Schema (content_template basis.contract p) → Schema (tagged tag name closed (content_template basis.contract p))
   unfolding found_in
   tagged_as_schema tag name closed no_payload h is = (is, λ q rest ts answers. among_right _ (references_of ts))
-  tagged_as_schema tag name closed (newtype_payload n) h is = (is, λ q. absurd (h.1 q).1)
-  tagged_as_schema tag name closed (tuple_payload ns) h is = (is, λ q. absurd (h.1 q).1)
+  tagged_as_schema tag name closed (newtype_payload n) h is = (is, λ q. absurd (h.1 q).1.1)
+  tagged_as_schema tag name closed (tuple_payload ns) h is = (is, λ q. absurd (h.1 q).1.0)
   tagged_as_schema tag name closed (struct_payload x) h is = (
     is,
     λ q.
@@ -204,7 +205,7 @@ module _ (Q : Type 0) (Answers : Ask → Data → Type 0) (basis : Basis)
         map_keeps Answers (tagged tag name closed (struct_template basis.contract x)) (names_in all ++ tag ∷ [])
         (tag_holds Answers tag name closed (struct_template basis.contract x) (names_in all)
         (struct_holds Answers basis.rows basis.contract (expanded_shape q) x h.0 plain.0.1))
-        (tag_apart tag all plain.1 plain.0.0.0),
+        (tag_apart tag all plain.1.0 plain.0.0.0),
   )
 
   -- ---- the shape of an entry
@@ -223,7 +224,7 @@ module _ (Q : Type 0) (Answers : Ask → Data → Type 0) (basis : Basis)
     literal = λ d h. ap references (literal_document-schema d (literal_is_schema d h.0)) ∙ literal_refers_nowhere d h.0;
     payload = payload;
     notes = λ tagging x xs h t is. (h.0.0, is);
-    later = λ tagging x xs h. (h.0.2, λ q. (later x xs (h.1 q).0, (beside_halves fields_at enums_at tagging x xs (h.1 q).1).1));
+    later = λ tagging x xs h. (h.0.2, λ q. (later x xs (h.1 q).0, (beside_halves fields_at enums_at IsNoContent tagging x xs (h.1 q).1).1));
     title = λ name t h. ((refl, tt), h);
     payload_rows = λ tagging p m h is. tt;
     payload_struct = λ tagging x h. struct_as_schema x h.0 (λ q. ((h.1 q).0.0.0, (h.1 q).0.1));
@@ -237,7 +238,7 @@ module _ (Q : Type 0) (Answers : Ask → Data → Type 0) (basis : Basis)
   shape_as_schema kind h = shape_holds basis refers_law kind h
 
   entry_as_schema : (e : Entry) → IsNotedThroughout (Some e) → (Q → IsPlainEntry basis.rows (Some e)) → Schema (entry_template basis e)
-  entry_as_schema e notes plain = (notes.0, shape_as_schema e.shape (notes.1, λ q. ((plain q).1, (plain q).2)))
+  entry_as_schema e notes plain = (notes.0, shape_as_schema e.shape (notes.1, λ q. ((plain q).1, (plain q).2, (plain q).3)))
 
 -- ---- a row's document
 

@@ -1,6 +1,6 @@
 -- What holds of the template of every shape, where it holds of each way that templates are put together.
 use Rattle.std.proofs.Common.{◌≡◌, ℕ, zero, suc, List, [], ◌∷◌, map, Bool, true, false, refl, arith, Contains}
-use Rattle.schemars_meaning.proofs.Words.{AllByRecursion, codes, bytes_eq, not, if◌then◌else◌, Data, boolean, Text, text_items, unit_variant, Shape, Field, Flattened, Fields, Payload, Variant, no_payload, newtype_payload, tuple_payload, struct_payload, is_bare_unit, expanded_payload, expanded_variant, KeyOptions, keys, key_options, type_alone, int_document, non_zero_document, bytes_document, ArePlainVariants, AreTagged, IsPlainShape, IsTagged, Basis, Template, content, finished, asked, row, nullable, noted, KeywordTemplate, map_template, member_template, struct_template, tuple_template, payload_template, named_template, content_template, bare_units, other_items, choice_of, titled, payload_item, untagged_template, internal_item, internal_template, said, whole_template, adjacent_payload, adjacent_item, adjacent_template, values_template, template_of, is_listed, type_names, Tagging, numbers_of, payload_numbers, expanded_shape, or_any_text, all_options, distinct_options, once, char_document, formatted_document, empty_list_document, schema_document, exactly, list_template, set_template, up_to_template, units_template, one_of_template, any_of_template, title_alone, literal_document}
+use Rattle.schemars_meaning.proofs.Words.{AllByRecursion, codes, bytes_eq, not, if◌then◌else◌, Data, boolean, Text, text_items, unit_variant, Shape, Field, Flattened, Fields, Payload, Variant, no_payload, newtype_payload, tuple_payload, struct_payload, is_bare_unit, expanded_payload, expanded_variant, KeyOptions, keys, key_options, type_alone, int_document, non_zero_document, bytes_document, ArePlainVariants, AreTagged, HasContent, HaveContents, IsPlainShape, IsTagged, ShapeHasContents, Basis, Template, content, finished, asked, row, nullable, noted, KeywordTemplate, map_template, member_template, struct_template, tuple_template, payload_template, named_template, content_template, bare_units, other_items, choice_of, titled, payload_item, untagged_template, internal_item, internal_template, said, whole_template, adjacent_payload, adjacent_item, adjacent_template, values_template, template_of, is_listed, type_names, Tagging, numbers_of, payload_numbers, expanded_shape, or_any_text, all_options, distinct_options, once, char_document, formatted_document, empty_list_document, schema_document, exactly, list_template, set_template, up_to_template, units_template, one_of_template, any_of_template, title_alone, literal_document}
 use Rattle.schemars_shapes.specs.Shape as shape
 use Rattle.schemars_shapes.specs.declared.shape.IntKind.{IntKind}
 use Rattle.schemars_types.specs.declared.contract.Contract.{Contract}
@@ -282,28 +282,28 @@ module _ (basis : Basis) (law : Law basis) where
 
 -- ---- variants of plain enums
 
--- below, `others` and `enums` say which fields flattened rows have, and which enums
-module _ (others : Flattened → List Field) (enums : Flattened → List ℕ) where
+-- below, `others` and `enums` say which fields flattened rows have, and which enums, and `Fits` which rows may stand beside a tag
+module _ (others : Flattened → List Field) (enums : Flattened → List ℕ) (Fits : Text → ℕ → Type 0) where
   -- what the tagging asks of what a variant has, and of all variants
   abbrev pub IsBeside : Tagging → Payload → Type 0
-  IsBeside (shape.by_tag tag closed) p = IsTagged tag (expanded_payload others enums p)
+  IsBeside (shape.by_tag tag closed) p = IsTagged tag (expanded_payload others enums p) × HasContent Fits tag p
   IsBeside (shape.by_tag_and_content tag key closed) p = bytes_eq tag key ≡ false
   IsBeside _ p = Unit {0}
 
   abbrev pub AreBeside : Tagging → List Variant → Type 0
-  AreBeside (shape.by_tag tag closed) xs = AreTagged tag (map (expanded_variant others enums) xs)
+  AreBeside (shape.by_tag tag closed) xs = AreTagged tag (map (expanded_variant others enums) xs) × HaveContents Fits tag xs
   AreBeside (shape.by_tag_and_content tag key closed) xs = bytes_eq tag key ≡ false
   AreBeside _ xs = Unit {0}
 
   pub beside_halves : (tagging : Tagging) (x : Variant) (xs : List Variant) → AreBeside tagging (x ∷ xs)
       → IsBeside tagging x.payload × AreBeside tagging xs
-  beside_halves (shape.by_tag tag closed) x xs h = h
+  beside_halves (shape.by_tag tag closed) x xs h = ((h.0.0, h.1.0), (h.0.1, h.1.1))
   beside_halves (shape.by_tag_and_content tag key closed) x xs h = (h, h)
   beside_halves _ x xs h = (tt, tt)
 
   pub plain_variants : (tagging : Tagging) (xs : List Variant) → IsPlainShape (expanded_shape others enums (shape.enum tagging xs))
-      → ArePlainVariants (map (expanded_variant others enums) xs) × AreBeside tagging xs
-  plain_variants shape.by_name xs h = (h.1, tt)
-  plain_variants shape.by_nothing xs h = (h, tt)
-  plain_variants (shape.by_tag tag closed) xs h = (h.1, h.2)
-  plain_variants (shape.by_tag_and_content tag key closed) xs h = (h.2, h.0)
+      → ShapeHasContents Fits (shape.enum tagging xs) → ArePlainVariants (map (expanded_variant others enums) xs) × AreBeside tagging xs
+  plain_variants shape.by_name xs h fit = (h.1, tt)
+  plain_variants shape.by_nothing xs h fit = (h, tt)
+  plain_variants (shape.by_tag tag closed) xs h fit = (h.1, h.2, fit)
+  plain_variants (shape.by_tag_and_content tag key closed) xs h fit = (h.2, h.0)

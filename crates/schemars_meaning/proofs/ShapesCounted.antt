@@ -1,7 +1,7 @@
 -- In a table that is plain under its contract the documents of structs, payloads and shapes say under 2020-12 what they mean, with
 -- steps counted down, where those of smaller values do.
-use Rattle.std.proofs.Common.{◌≡◌, ◌⊎◌, inl, inr, ℕ, zero, suc, ◌+◌, ◌*◌, ◌<◌, ◌≤◌, List, [], ◌∷◌, Bool, map, refl, sym, ap, ◌∙◌, subst, arith, ◌++◌}
-use Rattle.schemars_meaning.proofs.Words.{mul-le-mul_right, Data, depth, Text, IsJson, IsSchema, verdict, Context, Judge, Patterns, judge, context2020_12, ready-schema, IsReady, Field, Fields, Flattened, Payload, no_payload, newtype_payload, tuple_payload, struct_payload, Shape, Variant, Row, effective, flattened_in, flattened_enums, part_enums, enum_at, expanded_payload, expanded_variant, expanded_shape_in, VariantMatch, is_required, matches_of, has_payload, belongs_within, choices_within, has_shape, key_options, IsPlainPayload, ArePartsUnder, payload_parts, ArePlainVariants, IsTagged, AreTagged, IsPlainShape, parts_in, variant_parts, Basis, Ask, Template, members_of, asked, asks_of, filled, first, left, struct_template, payload_template, fields_template, with_flattened, template_of, IsAnswered, IsWritten, Describes, Fills, flattened-schema, IsPartUnder, with_keywords}
+use Rattle.std.proofs.Common.{◌≡◌, ◌⊎◌, inl, inr, ℕ, zero, suc, ◌+◌, ◌*◌, ◌<◌, ◌≤◌, List, [], ◌∷◌, Option, Some, None, Bool, true, false, map, refl, sym, ap, ◌∙◌, subst, arith, ◌++◌}
+use Rattle.schemars_meaning.proofs.Words.{fun_ext, Entry, entry_at, HasNoEnums, IsNoName, IsEntryUnder, IsContentEntry, IsContentShape, IsPlainContent, HasContent, HaveContents, ShapeHasContents, IsOwnDocument, content, opened_inside, must_be_in_place, internally_tagged_variant, has_content, has_fields, reference, mul-le-mul_right, Data, depth, Text, IsJson, IsSchema, verdict, Context, Judge, Patterns, judge, context2020_12, ready-schema, IsReady, Field, Fields, Flattened, Payload, no_payload, newtype_payload, tuple_payload, struct_payload, Shape, Variant, Row, effective, flattened_in, flattened_enums, part_enums, enum_at, expanded_payload, expanded_variant, expanded_shape_in, VariantMatch, is_required, matches_of, has_payload, belongs_within, choices_within, has_shape, key_options, IsPlainPayload, ArePartsUnder, payload_parts, ArePlainVariants, IsTagged, AreTagged, IsPlainShape, parts_in, variant_parts, Basis, Ask, Template, members_of, asked, asks_of, filled, first, left, struct_template, payload_template, fields_template, with_flattened, template_of, IsAnswered, IsWritten, Describes, Fills, flattened-schema, IsPartUnder, with_keywords}
 use Rattle.schemars_shapes.specs.Shape as shape
 use Rattle.schemars_types.specs.declared.contract.Contract.{Contract}
 use Rattle.schemars_meaning.proofs.Filling.{Fit}
@@ -12,14 +12,15 @@ use Rattle.schemars_meaning.proofs.Ready.{tuple_ready}
 use Rattle.schemars_meaning.proofs.Schemas.{written_schema}
 use Rattle.schemars_meaning.proofs.StructDocuments.{IsStruct, means, both_empty}
 use Rattle.schemars_meaning.proofs.StructFilled.{struct_fills}
-use Rattle.schemars_meaning.proofs.PartsDescribed.{parts_answer, known_all, offered_all, choices_counted, under_apart}
+use Rattle.schemars_meaning.proofs.PartsDescribed.{struct_at, parts_answer, known_all, offered_all, choices_counted, under_apart}
 use Rattle.schemars_meaning.proofs.SettledTables.{IsSettled}
 use Rattle.schemars_meaning.proofs.OneOf.{AreTold, TellsInside}
 use Rattle.schemars_meaning.proofs.Enums.{IsNewtypeIn, PayloadTells, untagged_says}
-use Rattle.schemars_meaning.proofs.Meanings.{Inside, simple_says}
+use Rattle.schemars_meaning.proofs.Meanings.{IsSame, Inside, simple_says}
 use Rattle.schemars_meaning.proofs.ExternalSays.{external_says}
-use Rattle.schemars_meaning.proofs.InternalParts.{IsInside}
+use Rattle.schemars_meaning.proofs.InternalParts.{IsHeld}
 use Rattle.schemars_meaning.proofs.InternalSays.{internal_says}
+use Rattle.schemars_meaning.proofs.Contents.{struct_stays, struct_open, struct_beside, reference_beside}
 use Rattle.schemars_meaning.proofs.AdjacentSays.{adjacent_says}
 
 closer : (a b h m : ℕ) → a < b → b * h ≤ m → a * h + h ≤ m
@@ -178,6 +179,96 @@ module _ (patterns : Patterns) (f : Text → Judge) (basis : Basis) (Refers : �
     pub tell_inside : (v : Data) → depth v ≤ top → (n : ℕ) → depth v * ranks ≤ n → (d : ℕ) → Tell v n d
     tell_inside v within n enough d = payloads (depth v) v (omega arith) within n enough d
 
+    -- ---- a struct beside a tag
+
+    -- the document of a struct that has no enum among its members
+    pub struct_of : (w : Data) → IsJson w → depth w ≤ top → (m : ℕ) → depth w * ranks ≤ m → (d n : ℕ) (e : Entry) → entry_at rows n ≡ Some e
+        → (x : Fields) → e.shape ≡ shape.struct x → HasNoEnums rows x.flatten → (s : Data) → Describes basis Refers d n s
+        → (k : ℕ) × IsStruct c refl contract (In k) w (effective (flattened_in rows) x) [] x.closed s
+    unfolding Describes
+    struct_of w js within m enough zero n e at x is none s own = absurd own
+    struct_of w js within m enough (suc d) n e at x is none s own =
+        let plain : IsEntryUnder contract rows (Some e) = subst (IsEntryUnder contract rows) at (settled.plain n) in
+        let answers = parts_answer c refl basis Refers settled w (C (suc m)) (B m) (C m)
+        (λ j g there. choices_counted rows contract patterns m j g w there) js (agree w within m enough) (null_says patterns f basis (B m))
+        (unit_says patterns f) (λ k. tell_inside w within m enough k) in (
+          d,
+          subst (λ os. IsStruct c refl contract (In d) w (effective (flattened_in rows) x) os x.closed s)
+              (ap (λ ns. matches_of (C (suc m)) (map enum_at ns) w) none)
+              (struct_at c refl basis Refers settled w (C (suc m)) d (answers d) e x is plain.0
+              (subst (λ k. ArePartsUnder contract rows (parts_in k)) is plain.3) s
+              (subst (λ o. IsOwnDocument (Answer d) basis o s) at own)),
+        )
+
+    row_means : (m n : ℕ) (e : Entry) → entry_at rows n ≡ Some e → (x : Fields) → e.shape ≡ shape.struct x → HasNoEnums rows x.flatten
+        → (w : Data) → B (suc m) n w ≡ has_fields contract (B m) [] (effective (flattened_in rows) x) x.closed w
+    unfolding belongs_within
+    row_means m n e at x is none w =
+        ap (λ o. elim o as (λ z. Bool) [
+          | None ↦ false
+          | Some g ↦ has_shape contract patterns (key_options rows) (C m) (B m) (expanded_shape_in rows g.shape) w
+        ]) at
+        ∙ (ap (λ k. has_shape contract patterns (key_options rows) (C m) (B m) (expanded_shape_in rows k) w) is
+        ∙ ap (λ ns. has_fields contract (B m) (matches_of (C m) (map enum_at ns) w) (effective (flattened_in rows) x) x.closed w) none)
+
+    -- what is written for it beside the tag says what it means there
+    content_says : (w : Data) → IsJson w → depth w ≤ top → (m : ℕ) → depth w * ranks < m → (tag : Text) (deny : Bool) (n : ℕ)
+        → IsPlainContent rows tag n → (d : ℕ) → ((t : Data) → In d n t → (judge c t).fits w ≡ verdict (B m n w)) → (t : Data)
+        → Answer d (content n) t → (name : Text)
+        → (judge c (internally_tagged_variant tag name deny t)).fits w ≡ verdict (has_content (B m n) tag name w)
+    content_says w js within zero less tag deny n fits d same t answer name = absurd (omega arith)
+    content_says w js within (suc m) less tag deny n fits d same t answer name = row (entry_at rows n) refl fits
+      where
+        Goal : Data → Type 0
+        Goal u = (judge c (internally_tagged_variant tag name deny u)).fits w ≡ verdict (has_content (B (suc m) n) tag name w)
+
+        enough : depth w * ranks ≤ m
+        enough = omega arith
+
+        beside : (e : Entry) → entry_at rows n ≡ Some e → (x : Fields) → e.shape ≡ shape.struct x
+            → IsNoName tag (effective (flattened_in rows) x) → HasNoEnums rows x.flatten → Goal t
+        beside e at x is apart none = by answer.4
+          where
+            xs : List Field
+            xs = effective (flattened_in rows) x
+
+            fine : IsPlainShape (expanded_shape_in rows (shape.struct x))
+            fine = subst (λ k. IsPlainShape (expanded_shape_in rows k)) is (subst (IsEntryUnder contract rows) at (settled.plain n)).1
+
+            means : (o : Bool) → x.closed ≡ o → has_fields contract (B m) [] xs o ≡ B (suc m) n
+            means o closed = fun_ext (λ u. ap (λ b. has_fields contract (B m) [] xs b u) (sym closed) ∙ sym (row_means m n e at x is none u))
+
+            of_row : (o : Bool) → x.closed ≡ o → (u : Data) → (judge c (internally_tagged_variant tag name deny u)).fits w
+                ≡ verdict (has_content (has_fields contract (B m) [] xs o) tag name w) → Goal u
+            of_row o closed u h = h ∙ ap (λ p. verdict (has_content p tag name w)) (means o closed)
+
+            in_place : (u : Data) → Describes basis Refers d n u → Goal u
+            in_place u own =
+                let a = struct_of w js within m enough d n e at x is none u own in
+                of_row x.closed refl u (struct_beside patterns f contract (In a.0) w xs (B m) (schemas a.0) js (agree w within m enough a.0)
+                tag name deny apart x.closed u fine.0 fine.1 a.1)
+
+            by : ((must_be_in_place answer.0 answer.2 ≡ true) × (t ≡ opened_inside answer.2))
+                ⊎ ((must_be_in_place answer.0 answer.2 ≡ false) × In d n t) → Goal t
+            by (inl (must, opens)) =
+                let a = struct_of w js within m enough d n e at x is none answer.2 answer.3 in
+                subst Goal (sym (opens ∙ struct_stays patterns f contract (In a.0) w xs x.closed answer.2 a.1)) (in_place answer.2 answer.3)
+            by (inr (may, inr own)) = in_place t own
+            by (inr (may, inl (r, refers, is_reference))) =
+                let a = struct_of w js within m enough d n e at x is none answer.2 answer.3 in
+                let closed : x.closed ≡ false = struct_open patterns f contract (In a.0) w xs x.closed answer.2 a.1 answer.0 may in
+                subst Goal (sym is_reference) (of_row false closed (reference r) (reference_beside patterns f contract (In d) w xs (B m) (schemas d)
+                js (agree w within m enough d) tag name deny apart r
+                (same (reference r) (inl (r, refers, refl)) ∙ ap (λ p. verdict (p w)) (sym (means false closed)))))
+
+        row : (o : Option Entry) → entry_at rows n ≡ o → IsContentEntry rows tag o → Goal t
+        row None at fits = absurd fits
+        row (Some e) at fits = of_shape e.shape refl fits
+          where
+            of_shape : (k : Shape) → e.shape ≡ k → IsContentShape rows tag k → Goal t
+            of_shape (shape.struct x) is fits = beside e at x is fits.0 fits.1
+            of_shape _ is fits = absurd fits
+
     -- ---- shapes
 
     -- `ready` speaks of what is written for rows
@@ -239,43 +330,56 @@ module _ (patterns : Patterns) (f : Text → Judge) (basis : Basis) (Refers : �
       abbrev StructTold : Fields → Type 0
       StructTold y = ArePartsUnder contract rows y.flatten × Room y.flatten
 
-      inside_one : (tag : Text) (p : Payload) → IsPlainPayload (spreads p) → IsTagged tag (spreads p)
-          → ArePartsUnder contract rows (payload_parts p) → Room (payload_parts p) → IsInside (effective (flattened_in rows)) StructTold p
-      inside_one tag no_payload fine tagged under room = tt
-      inside_one tag (newtype_payload n) fine tagged under room = absurd tagged
-      inside_one tag (tuple_payload ns) fine tagged under room = absurd tagged
-      inside_one tag (struct_payload y) fine tagged under room = ((under, room), fine.0, fine.1)
+      -- `Known n` says that a newtype of row n is among the variants
+      module _ (tag : Text) (Known : ℕ → Type 0) where
+        abbrev Content : ℕ → Type 0
+        Content n = Known n × IsPlainContent rows tag n
 
-      inside_each : (tag : Text) (xs : List Variant) → ArePlainVariants (map each xs) → AreTagged tag (map each xs)
-          → ArePartsUnder contract rows (variant_parts xs) → Room (variant_parts xs) → AreTold (IsInside (effective (flattened_in rows)) StructTold) xs
-      inside_each tag [] fine tagged under room = tt
-      inside_each tag (x ∷ xs) fine tagged under room =
-          let apart = under_apart contract rows (payload_parts x.payload) (variant_parts xs) under in
-          let rooms = room_apart ranks v m (payload_parts x.payload) (variant_parts xs) room in
-          ((inside_one tag x.payload fine.1 tagged.0 apart.0 rooms.0, fine.0), inside_each tag xs fine.2 tagged.1 apart.1 rooms.1)
+        abbrev Held : Payload → Type 0
+        Held = IsHeld (effective (flattened_in rows)) StructTold Content
+
+        inside_one : (p : Payload) → IsPlainPayload (spreads p) → IsTagged tag (spreads p) → HasContent (IsPlainContent rows) tag p
+            → ((n : ℕ) → p ≡ newtype_payload n → Known n) → ArePartsUnder contract rows (payload_parts p) → Room (payload_parts p) → Held p
+        inside_one no_payload fine tagged content known under room = tt
+        inside_one (newtype_payload n) fine tagged content known under room = (known n refl, content)
+        inside_one (tuple_payload ns) fine tagged content known under room = absurd tagged
+        inside_one (struct_payload y) fine tagged content known under room = ((under, room), fine.0, fine.1)
+
+        inside_each : (xs : List Variant) → ArePlainVariants (map each xs) → AreTagged tag (map each xs)
+            → HaveContents (IsPlainContent rows) tag xs → ((n : ℕ) → IsNewtypeIn n xs → Known n) → ArePartsUnder contract rows (variant_parts xs)
+            → Room (variant_parts xs) → AreTold Held xs
+        inside_each [] fine tagged contents known under room = tt
+        inside_each (x ∷ xs) fine tagged contents known under room =
+            let apart = under_apart contract rows (payload_parts x.payload) (variant_parts xs) under in
+            let rooms = room_apart ranks v m (payload_parts x.payload) (variant_parts xs) room in (
+              (inside_one x.payload fine.1 tagged.0 contents.0 (λ n is. known n (inl is)) apart.0 rooms.0, fine.0),
+              inside_each xs fine.2 tagged.1 contents.1 (λ n later. known n (inr later)) apart.1 rooms.1,
+            )
 
       -- ---- by shape
 
-      pub shape_says : (kind : Shape) → Room (parts_in kind) → IsPlainShape (expanded_shape_in rows kind)
-          → ArePartsUnder contract rows (parts_in kind)
-          → (s : Data) → Fills (Answer d) (template_of basis kind) s → Agrees kind
+      pub shape_says : (kind : Shape) → Room (parts_in kind) → ((j : ℕ) → IsSame kind j → depth v * ranks < m)
+          → IsPlainShape (expanded_shape_in rows kind) → ArePartsUnder contract rows (parts_in kind)
+          → ShapeHasContents (IsPlainContent rows) kind → (s : Data) → Fills (Answer d) (template_of basis kind) s → Agrees kind
           → (judge c s).fits v ≡ verdict (has_shape contract patterns (key_options rows) (C m) (B m) (expanded_shape_in rows kind) v)
-      shape_says (shape.struct x) room fine under s h agree =
+      shape_says (shape.struct x) room less fine under contents s h agree =
           rw h.is (struct_says v json within m enough d x room (fine, under) tell h.parts h.answered)
-      shape_says (shape.enum shape.by_name xs) room fine under s h agree =
+      shape_says (shape.enum shape.by_name xs) room less fine under contents s h agree =
           rw h.is (external_says patterns f contract (Answer d) (B m) (C m) v (flattened_in rows) (part_enums rows) IsTold json
           (tell m enough d) xs fine.0 (told_each xs fine.1 under) h.parts h.answered).1
-      shape_says (shape.enum shape.by_nothing xs) room fine under s h agree =
+      shape_says (shape.enum shape.by_nothing xs) room less fine under contents s h agree =
           rw h.is (untagged_says patterns f basis (Answer d) (B m) (C m) v (flattened_in rows) (part_enums rows) xs
           (payloads_tell xs fine under room (λ n t same w. agree n t v w json (inr (same, refl)))) h.parts h.answered).1
-      shape_says (shape.enum (shape.by_tag tag closed) xs) room fine under s h agree =
+      shape_says (shape.enum (shape.by_tag tag closed) xs) room less fine under contents s h agree =
           rw h.is (internal_says patterns f contract (Answer d) (B m) (C m) v (flattened_in rows) (part_enums rows) tag closed StructTold
-          json (schemas d) (λ j t w is js less. agree j t w is js (inl less))
-          (λ y told us fit. struct_stands v json within m enough d y told.1 told.0 tell us fit) xs fine.0
-          (inside_each tag xs fine.1 fine.2 under room) h.parts h.answered).1
-      shape_says (shape.enum (shape.by_tag_and_content tag key closed) xs) room fine under s h agree =
+          (Content tag (λ n. IsNewtypeIn n xs)) json (schemas d) (λ j t w is js less. agree j t w is js (inl less))
+          (λ y told us fit. struct_stands v json within m enough d y told.1 told.0 tell us fit)
+          (λ n t known answer name. content_says v json within m (less n known.0) tag closed n known.1 d
+          (λ u is. agree n u v is json (inr (known.0, refl))) t answer name) xs fine.0
+          (inside_each tag (λ n. IsNewtypeIn n xs) xs fine.1 fine.2 contents (λ n is. is) under room) h.parts h.answered).1
+      shape_says (shape.enum (shape.by_tag_and_content tag key closed) xs) room less fine under contents s h agree =
           rw h.is (adjacent_says patterns f contract (Answer d) (B m) (C m) v (flattened_in rows) (part_enums rows) tag key closed IsTold
           json (tell m enough d) fine.0 xs fine.1 (told_each xs fine.2 under) h.parts h.answered).1
-      shape_says kind room fine under s h agree =
+      shape_says kind room less fine under contents s h agree =
           simple_says patterns f basis (Answer d) (B m) (C m) (flattened_in rows) (part_enums rows) (ready d) kind s tt fine
           (others_fill (Answer d) (flattened_in rows) basis kind s h.parts tt h.answered h.is) v json agree

@@ -184,6 +184,14 @@ module _ (c : Context) (on : c.dialect.reads_unevaluated ≡ true) (contract : C
         (choices_say c on a.parts v a.choices)
         ∙ ap verdict (parts_alike (choices_in a.parts) os (with_tag tag name xs) closed a.every a.claimed v))
 
+  -- a unit
+  pub null_means : (tag name : Text) (deny : Bool)
+      → (judge c (internally_tagged_variant tag name deny (type_alone (codes "null")))).fits v
+      ≡ verdict (has_tagged contract M [] tag [] deny name v)
+  null_means tag name deny =
+      ap (λ t. (judge c t).fits v) (sym (null_tagged tag name deny))
+      ∙ tagged_means tag name deny [] [] deny (map_document [] [] deny) tt tt (no_keys c on contract W v deny)
+
   found_some : (m : Option Member) (g : Option Data) → IsFound c on v m g → is_some g ≡ is_some m
   found_some None g h = ap is_some h
   found_some (Some m) g h = ap is_some h.1

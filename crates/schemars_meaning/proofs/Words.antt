@@ -16,7 +16,7 @@ pub use Rattle.schemars_documents.specs.Describes.{AreAnswered, Fills, IsAnswere
 unfoldable pub use Rattle.schemars_documents.specs.Describes.{Describes}
 pub use Rattle.schemars_documents.specs.Documents.{bytes_document, char_document, count_at, empty_list_document, formatted_document, int_document, int_keywords, is_signed, non_zero_document, required_names, schema_document}
 pub use Rattle.schemars_documents.specs.OfShape.{adjacent_item, adjacent_payload, adjacent_template, all_patterns, bare_units, choice_of, content_template, entry_template, enum_template, exactly, external_template, fields_template, internal_item, internal_template, list_template, literal_document, members_asked, named_template, other_items, other_values, pattern_properties_at, payload_item, payload_template, property, set_template, struct_template, template_of, titled, tuple_template, units_template, untagged_template, up_to_template, values_of, values_template, with_flattened}
-pub use Rattle.schemars_documents.specs.PlainTable.{AreDistinct, AreDistinctVariants, AreNoted, AreNotedVariants, ArePartsUnder, ArePlainParts, ArePlainVariants, AreTagged, HasBareUnits, HasNoEnums, HasPlainNotesThroughout, IsBare, IsEntryUnder, IsNoName, IsNoVariant, IsNotedPayload, IsNotedShape, IsNotedThroughout, IsOpenStruct, IsPartEntry, IsPartShape, IsPartUnder, IsPlainEntry, IsPlainPart, IsPlainPayload, IsPlainShape, IsPlainTable, IsPlainUnder, IsTagged, VariantsHaveNoEnums, may_miss, parts_in, payload_parts, variant_parts}
+pub use Rattle.schemars_documents.specs.PlainTable.{AreDistinct, AreDistinctVariants, AreNoted, AreNotedVariants, ArePartsUnder, ArePlainParts, ArePlainVariants, AreTagged, HasBareUnits, HasContent, HasNoEnums, HasPlainNotesThroughout, HaveContents, IsBare, IsContentEntry, IsContentShape, IsEntryUnder, IsNoContent, IsNoName, IsNoVariant, IsNotedPayload, IsNotedShape, IsNotedThroughout, IsOpenStruct, IsPartEntry, IsPartShape, IsPartUnder, IsPlainContent, IsPlainEntry, IsPlainPart, IsPlainPayload, IsPlainShape, IsPlainTable, IsPlainUnder, IsTagged, ShapeHasContents, VariantsHaveNoEnums, may_miss, parts_in, payload_parts, variant_parts}
 pub use Rattle.schemars_flatten.proofs.Lookups.{either_option, united_beside, united_here, united_none, united_option}
 pub use Rattle.schemars_flatten.proofs.References.{flattened-refers, flattened_part-refers, opened_inside-refers}
 pub use Rattle.schemars_flatten.proofs.Schemas.{flattened-schema, flattened_part-schema, opened_inside-schema}

@@ -123,21 +123,21 @@ document-third = refl
 -- these tables are plain, the first under each contract
 plain-first : (contract : Contract) → IsPlainUnder contract first
 unfolding row variant part e_variants outer first fields_within enums_within
-plain-first Deserialize zero = (tt, tt, tt, tt)
-plain-first Deserialize (suc zero) = (tt, ((tt, tt), (tt, tt, tt)), (tt, tt), tt)
+plain-first Deserialize zero = (tt, tt, tt, tt, tt)
+plain-first Deserialize (suc zero) = (tt, ((tt, tt), (tt, tt, tt)), (tt, tt), tt, tt)
 plain-first Deserialize (suc (suc zero)) =
-    (tt, ((tt, tt), (tt, tt)), (((refl, tt), tt), tt, tt), ((refl, tt, (tt, tt)), tt))
+    (tt, ((tt, tt), (tt, tt)), (((refl, tt), tt), tt, tt), ((refl, tt, (tt, tt)), tt), tt)
 plain-first Deserialize (suc (suc (suc n))) = tt
-plain-first Serialize zero = (tt, tt, tt, tt)
-plain-first Serialize (suc zero) = (tt, ((tt, tt), (tt, tt, tt)), (tt, tt), tt)
+plain-first Serialize zero = (tt, tt, tt, tt, tt)
+plain-first Serialize (suc zero) = (tt, ((tt, tt), (tt, tt, tt)), (tt, tt), tt, tt)
 plain-first Serialize (suc (suc zero)) =
-    (tt, ((tt, tt), (tt, tt)), (((refl, tt), tt), tt, tt), ((refl, tt, (tt, tt)), tt))
+    (tt, ((tt, tt), (tt, tt)), (((refl, tt), tt), tt, tt), ((refl, tt, (tt, tt)), tt), tt)
 plain-first Serialize (suc (suc (suc n))) = tt
 
 plain-third : IsPlainUnder Deserialize third
 unfolding row part never inner with_option third fields_within enums_within
-plain-third zero = (tt, tt, tt, tt)
-plain-third (suc zero) = (tt, ((tt, tt), (tt, tt)), tt, tt)
-plain-third (suc (suc zero)) = (tt, tt, tt, tt)
-plain-third (suc (suc (suc zero))) = (tt, (((refl, tt), (tt, tt)), (tt, (tt, tt))), tt, ((refl, λ e. refl), tt))
+plain-third zero = (tt, tt, tt, tt, tt)
+plain-third (suc zero) = (tt, ((tt, tt), (tt, tt)), tt, tt, tt)
+plain-third (suc (suc zero)) = (tt, tt, tt, tt, tt)
+plain-third (suc (suc (suc zero))) = (tt, (((refl, tt), (tt, tt)), (tt, (tt, tt))), tt, ((refl, λ e. refl), tt), tt)
 plain-third (suc (suc (suc (suc n)))) = tt

@@ -1,6 +1,7 @@
 //! Whether a table of types is plain: what the promises on documents ask of a table.
 #![tactic(auto)]
 
+mod contents;
 mod enums;
 mod fields;
 mod literal;
@@ -11,6 +12,7 @@ mod table;
 mod under;
 mod variants;
 
+pub use contents::{has_no_contents, has_no_newtypes, has_plain_contents, is_plain_content};
 pub use fields::all_fields;
 pub use literal::{has_one_value, is_plain_literal, is_plain_member};
 pub use notes::{are_notes, is_annotation};

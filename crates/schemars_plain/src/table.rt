@@ -2,6 +2,7 @@
 ghost use Rattle.std.specs.Prelude.{◌↔◌, IsTrue, IfOk, map};
 ghost use Rattle.schemars_plain.specs.Words.{shape_of, enum, by_name, by_tag, by_tag_and_content, internal_view, adjacent_view, entry_at, expanded_shape_in, IsPlainShape, IsPlainEntry, IsPlainTable};
 
+use crate::contents::has_no_contents;
 use crate::fields::are_plain;
 use crate::literal::is_plain_literal;
 use crate::notes::are_notes;
@@ -42,7 +43,7 @@ pub fn is_plain_row(alloc: Global, types: &Types, n: TypeNo) -> Result<bool, All
     if !are_notes(&entry.notes) {
         return Ok(false);
     }
-    if !have_plain_parts(types, &entry.shape) {
+    if !have_plain_parts(types, &entry.shape) || !has_no_contents(&entry.shape) {
         return Ok(false);
     }
     is_plain_shape(alloc, types, &entry.shape)

@@ -1,14 +1,16 @@
 //! Tables that are plain under a contract: Options and enums may be flattened too.
 ghost use Rattle.std.specs.Prelude.{◌≡◌, ◌↔◌, map, IsTrue, IfOk, option_map, false};
-ghost use Rattle.schemars_plain.specs.Words.{shape_of, flattened_of, internal_variant_of, any_payload_of, entry_at, flattened_in, part_enums, expanded_payload, expanded_variant, expanded_shape_in, parts_in, variant_parts, may_miss, tag_names, enum_names_at, PayloadHasNamesApart, VariantsHaveNamesApart, ShapeHasNamesApart, IsBare, HasBareUnits, HasVariant, HasNoEnums, VariantsHaveNoEnums, IsPartShape, IsPartUnder, ArePartsUnder, IsEntryUnder, IsPlainUnder};
+ghost use Rattle.schemars_plain.specs.Words.{shape_of, flattened_of, internal_variant_of, internal_view, any_payload_of, entry_at, flattened_in, part_enums, expanded_payload, expanded_variant, expanded_shape_in, parts_in, variant_parts, may_miss, tag_names, enum_names_at, PayloadHasNamesApart, VariantsHaveNamesApart, ShapeHasNamesApart, IsBare, HasBareUnits, HaveContents, IsNoContent, HasVariant, HasNoEnums, VariantsHaveNoEnums, IsPartShape, IsPartUnder, ArePartsUnder, IsEntryUnder, IsPlainUnder};
 
+use crate::contents::{has_no_newtypes, has_plain_contents};
 use crate::enums::{fields_apart, flattened_enums};
 use crate::notes::{are_notes, has_no_notes};
 use crate::parts::payload_parts;
 use crate::table::is_plain_shape;
 use schemars_shapes::{AnyPayload, AnyVariant};
 use schemars_types::{
-    Contract, Flattened, InternalVariant, Shape, TypeNo, Types, row_inside, without_options,
+    Contract, Flattened, Internal, InternalVariant, Shape, TypeNo, Types, row_inside,
+    without_options,
 };
 use std::alloc::{AllocError, Global};
 
@@ -52,6 +54,9 @@ pub fn is_plain_row_under(
         return Ok(false);
     }
     if !has_names_apart(alloc, types, &entry.shape)? {
+        return Ok(false);
+    }
+    if !has_plain_contents(alloc, types, &entry.shape)? {
         return Ok(false);
     }
     has_parts_under(alloc, contract, types, &entry.shape)
@@ -231,7 +236,7 @@ fn is_part_shape(
         Shape::Struct(fields) if optional => has_no_enums(alloc, types, &fields.flatten),
         Shape::Struct(_) => Ok(true),
         Shape::External(variants) => Ok(!optional && is_part_enum(variants)),
-        Shape::Internal(internal) => is_part_internal(alloc, types, optional, &internal.variants),
+        Shape::Internal(internal) => is_part_internal(alloc, types, optional, internal),
         Shape::Untagged(_) | Shape::Adjacent(_) => Ok(false),
         Shape::Null | Shape::Bool | Shape::Int(_) | Shape::NonZero(_) => Ok(false),
         Shape::Number | Shape::Text | Shape::Char | Shape::Formatted(_) => Ok(false),
@@ -247,15 +252,15 @@ fn is_part_internal(
     alloc: Global,
     types: &Types,
     optional: bool,
-    variants: &[InternalVariant],
+    internal: &Internal,
 ) -> Result<bool, AllocError>
     ensures { IfOk result (λ b. IsTrue b ↔ ((optional ≡ false)
-        × HasVariant (map internal_variant_of variants.now)
-        × HasBareUnits (map internal_variant_of variants.now)
-        × VariantsHaveNoEnums types.now (map internal_variant_of variants.now))) }
+        × HasVariant (internal_view internal.now).2
+        × HaveContents IsNoContent (internal_view internal.now).0 (internal_view internal.now).2
+        × VariantsHaveNoEnums types.now (internal_view internal.now).2)) }
 {
-    if !optional && is_part_enum(variants) {
-        variants_have_no_enums(alloc, types, variants)
+    if !optional && !internal.variants.is_empty() && has_no_newtypes(internal) {
+        variants_have_no_enums(alloc, types, &internal.variants)
     } else {
         Ok(false)
     }
@@ -305,7 +310,8 @@ fn variants_have_no_enums(
     Ok(true)
 }
 
-fn has_no_enums(alloc: Global, types: &Types, parts: &[Flattened]) -> Result<bool, AllocError>
+/// Whether no enum is among the members of a map into which these rows are flattened.
+pub fn has_no_enums(alloc: Global, types: &Types, parts: &[Flattened]) -> Result<bool, AllocError>
     ensures { IfOk result (λ b. IsTrue b
         ↔ HasNoEnums types.now (map flattened_of parts.now)) }
 {

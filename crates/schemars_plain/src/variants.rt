@@ -80,7 +80,7 @@ pub fn variant_names<V: AnyVariant>(alloc: Global, variants: &[V]) -> Result<Vec
     Ok(names)
 }
 
-/// Whether each variant is a unit, or has fields of which none is named as the tag.
+/// Whether none of the variants is a tuple, and no field of a variant is named as the tag.
 pub fn are_tagged<V: AnyVariant>(
     alloc: Global,
     types: &Types,
@@ -110,8 +110,8 @@ fn is_tagged(
         (any_payload_of payload.entry))) }
 {
     match payload {
-        AnyPayload::Unit => Ok(true),
-        AnyPayload::Newtype(_) | AnyPayload::Tuple(_) => Ok(false),
+        AnyPayload::Unit | AnyPayload::Newtype(_) => Ok(true),
+        AnyPayload::Tuple(_) => Ok(false),
         AnyPayload::Struct(fields) => lacks(alloc, types, fields, tag),
     }
 }
