@@ -1,6 +1,6 @@
 -- What the generator asks of a table holds of each input, and what it answers is the root document of a row.
 use Rattle.std.proofs.Common.{◌≡◌, ◌≢◌, ◌⊎◌, ◌↔◌, ◌<◌, ◌≤◌, ℕ, codes, nat_lt, List, [], length, Bool, true, false, ◌&&◌, Some, refl, ap, ◌∙◌, subst, sym, inl, inr, Result, Ok, Err, IfOk, IfErr, arith}
-use Rattle.schemagen_run.proofs.Vocabulary.{ltb-true, Data, Members, no_members, has_float, Row, IsAccepted, draft2020_12, draft2019_09, draft07, Draft, dialect_of, some_own, made_by, IsMadeBy, HasFault, Headline, IsDraftPath, CannotPlace, IsPlainTable, HasPlainNotes, HasNoFloat, TransformStep, IsDefinitionsRefusal, Generator, Transforms, generator_over, settings_of, state, IsUntransformed, IsRefused, State, stripped, path_of, HasOwnDefinitions, components, transforms_openapi3, is_complete, is_table, settings_for, transforms_of_dialect, fresh, Means, IsWrittenDocument, IsUnplaced, IsRefusal, settings_of_dialect, AreTakenAt, AreTaken, AreDefinitionsOf}
+use Rattle.schemagen_run.proofs.Vocabulary.{ltb-true, Data, Members, no_members, has_float, Row, IsAccepted, draft2020_12, draft2019_09, draft07, Draft, dialect_of, some_own, made_by, IsMadeBy, HasFault, Headline, IsDraftPath, CannotPlace, IsPlainFor, openapi3, HasPlainNotes, HasNoFloat, TransformStep, IsDefinitionsRefusal, Generator, Transforms, generator_over, settings_of, state, IsUntransformed, IsRefused, State, stripped, path_of, HasOwnDefinitions, components, transforms_openapi3, is_complete, is_table, settings_for, transforms_of_dialect, fresh, Means, IsWrittenDocument, IsUnplaced, IsRefusal, settings_of_dialect, AreTakenAt, AreTaken, AreDefinitionsOf}
 use Rattle.schemars_types.specs.declared.contract.Contract.{Contract}
 use Rattle.schemars_headline.specs.Drafts as drafts
 use Rattle.schemars_transform.specs.declared.gen_transform.GenTransform.{GenTransform}
@@ -173,11 +173,11 @@ definitions_refusal s root ts Q e known none (inr (inr h)) unknown = h.3.only_me
 pub are_definitions : (s : State) (asked : Asked) (rows : List Row) (root : ℕ) (ts : List (GenTransform NoTransform)) (taken : Members)
     → asked.dialect ≡ OpenApi3 → s ≡ fresh asked rows → ts ≡ transforms_of_dialect asked.dialect → AreTaken ts s root taken
     → AreDefinitionsOf asked rows root taken
-are_definitions s asked rows root ts taken openapi3 same is made = (
+are_definitions s asked rows root ts taken dialect same is made = (
   now,
   at,
-  λ plain. there.2 refl (own (has_own_definitions asked rows)) (ap path_of held ∙ path asked openapi3)
-      (subst IsPlainTable (sym (ap (λ (t : State). t.rows) held)) plain),
+  λ plain. there.2 refl (own (has_own_definitions asked rows)) (ap path_of held ∙ path asked dialect)
+      (subst (λ (t : State). IsPlainFor openapi3 t.settings.contract t.rows) (sym held) plain),
   λ none. there.3 (subst HasNoFloat (sym (ap (λ (t : State). t.rows) held)) none) (own (has_own_definitions asked rows)),
 )
   where
@@ -185,7 +185,7 @@ are_definitions s asked rows root ts taken openapi3 same is made = (
     path asked same = ap (λ d. stripped (settings_of_dialect d).definitions_path) same
 
     these : ts ≡ transforms_openapi3
-    these = is ∙ ap transforms_of_dialect openapi3
+    these = is ∙ ap transforms_of_dialect dialect
 
     there : AreTaken transforms_openapi3 (fresh asked rows) root taken
     there =

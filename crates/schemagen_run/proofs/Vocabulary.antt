@@ -8,7 +8,7 @@ pub use Rattle.schemagen_run.specs.Output.{IsFreshFor, IsOutputOf}
 pub use Rattle.schemagen_run.specs.Promises.{WritesLineFor}
 pub use Rattle.schemagen_run.specs.Run.{AcceptsIn, AcceptsUnder, AreDefinitionsOf, AreTaken, AreTakenAt, GivesAll, IsAcceptedText, IsBadTable, IsDocumentLine, IsFaultyTable, IsLineIn, IsLineOf, IsLineRefusal, IsNoJson, IsNotedText, IsRefusal, IsSampleDocument, IsSampleLine, IsSampleLineOf, IsTableLine, IsTableText, IsUnplaced, IsUntransformedExample, IsWrittenDocument, Means, Tells, fresh, settings_for, settings_of_dialect, transforms_of_dialect}
 pub use Rattle.schemagen_run.specs.Writing.{WritesLine}
-pub use Rattle.schemars_documents.specs.PlainTable.{HasNoFloat, HasPlainNotes, IsPlainTable}
+pub use Rattle.schemars_documents.specs.PlainTable.{HasNoFloat, HasPlainNotes}
 pub use Rattle.schemars_generate.proofs.Words.{TransformStep}
 pub use Rattle.schemars_generate.specs.DefinitionsText.{IsDefinitionsRefusal}
 pub use Rattle.schemars_generate.specs.Generator.{Generator, Transforms, generator_over, held_transforms, settings_of, state, transforms_of}
@@ -18,11 +18,11 @@ pub use Rattle.schemars_generate.specs.Samples.{IsSampleRefused, IsSampleRoot}
 pub use Rattle.schemars_generate.specs.Settings.{transforms_openapi3}
 pub use Rattle.schemars_generate.specs.Through.{IsRefused, IsUntransformed}
 pub use Rattle.schemars_headline.specs.Drafts.{AcceptsExampleUnder, Draft, dialect_of}
-pub use Rattle.schemars_headline.specs.Headline.{CannotPlace, Headline, IsDraftPath}
+pub use Rattle.schemars_headline.specs.Headline.{CannotPlace, Headline, IsDraftPath, IsPlainFor}
 pub use Rattle.schemars_headline.specs.State.{HasOwnDefinitions, Settings, State, path_of, stripped}
 pub use Rattle.schemars_laws.specs.Paths.{components}
 pub use Rattle.schemars_sample.specs.Example.{Example, example_of}
-pub use Rattle.schemars_schema.specs.Dialects.{draft07, draft2019_09, draft2020_12}
+pub use Rattle.schemars_schema.specs.Dialects.{draft07, draft2019_09, draft2020_12, openapi3}
 pub use Rattle.schemars_schema.specs.Json.{Text}
 pub use Rattle.schemars_text.proofs.Begun.{begun_after, begun_longer}
 pub use Rattle.schemars_text.specs.OrderedText.{definitions_text}

@@ -12,11 +12,12 @@ use Rattle.schemars_sample.specs.Example.{Example}
 use Rattle.schemars_sample.specs.SampleJson.{HasWholeJson}
 use Rattle.schemars_sample.specs.SampleSchema.{sample_root}
 use Rattle.schemars_types.specs.Rows.{Row}
-use Rattle.schemars_documents.specs.PlainTable.{IsPlainTable, HasPlainNotes, HasNoFloat}
+use Rattle.schemars_documents.specs.PlainTable.{HasPlainNotes, HasNoFloat}
 use Rattle.schemars_generate.specs.declared.error.GenerateError.{GenerateError}
 use Rattle.schemars_generate.specs.declared.error.GenerateError.TheVariants.{OutOfMemory, DefinitionsPath}
-use Rattle.schemars_headline.specs.Headline.{Headline, CannotPlace}
+use Rattle.schemars_headline.specs.Headline.{Headline, CannotPlace, IsPlainFor}
 use Rattle.schemars_headline.specs.Calls.{IsLastRootCall, IsPartOf, HasAdded, IsNeeded}
+use Rattle.schemars_schema.specs.Dialects.{openapi3}
 use Rattle.schemars_headline.specs.Drafts as drafts
 use Rattle.schemars_headline.specs.Drafts.{Draft, dialect_of, AcceptsExampleUnder}
 use Rattle.schemars_headline.specs.Taken.{TakenHeadline, MeanTheirRows}
@@ -116,12 +117,13 @@ AreTaken ts old root taken =
     (s : State) × AreTakenAt ts old root s taken × (ts ≡ transforms_openapi3 → TakenHeadline s taken)
     × (HasNoFloat s.rows → HasOwnDefinitions s → members_have_float taken ≡ false)
 
--- those that it leads to, through the transforms of OpenAPI: where the table is plain, under `components.schemas` each accepts
--- under OpenAPI exactly the values of the row of its name, and its references resolve; the numbers in them are whole, where those
--- in notes and literals are
+-- those that it leads to, through the transforms of OpenAPI: where the table is plain for OpenAPI, under `components.schemas` each
+-- accepts under OpenAPI exactly the values of the row of its name, and its references resolve; the numbers in them are whole, where
+-- those in notes and literals are
 abbrev pub AreDefinitionsOf : Asked → List Row → ℕ → Members → Type 0
 AreDefinitionsOf asked rows root taken =
-    (s : State) × AreTakenAt transforms_openapi3 (fresh asked rows) root s taken × (IsPlainTable rows → MeanTheirRows s taken)
+    (s : State) × AreTakenAt transforms_openapi3 (fresh asked rows) root s taken
+    × (IsPlainFor openapi3 (fresh asked rows).settings.contract rows → MeanTheirRows s taken)
     × (HasNoFloat rows → members_have_float taken ≡ false)
 
 -- the text of a document in order, where the numbers in it are whole, and a newline

@@ -1,5 +1,5 @@
 -- Definitions that are taken for OpenAPI accept what is written.
-use Rattle.std.proofs.Common.{◌≡◌, ◌<◌, ℕ, zero, suc, [], List, Option, Some, None, true, false, inr, IfOk, IfErr, Result, Ok, Err, refl, sym, ap, arith, ◌∙◌, subst}
+use Rattle.std.proofs.Common.{◌≡◌, ◌<◌, ℕ, zero, suc, [], List, Option, Some, None, true, false, inl, inr, IfOk, IfErr, Result, Ok, Err, refl, sym, ap, arith, ◌∙◌, subst}
 use Rattle.schemars_accepted.proofs.Words.{is_some, Data, number, array, object, Members, no_members, get_member, Text, IsJson, resolved, IsSchema, verdict, Yes, No, Dialect, openapi3, Patterns, accepts, bound, read_data, follow, plain-components, resolved-definition, belongs, Row, place_of, is_inline_at, TypeRow, reference, IsPlainTable, IsOneToOne, name_of, is_in_place, IsKey, reference_to, components, components_of, components-found, TransformStep, IsReferenceOf, State, path_of, HasOwnDefinitions, MeanTheirRows, TakenHeadline, HasSameKeys, KeepsDefinitions, IsJoined, IsSubschemaOfType, with_rows, Generator, Transforms, held_transforms, settings_of, state, AreTransformed, AreGone, IsTakeRefusal, BelongsUnder, IsForOpenApi, DefinitionAccepts, ReferenceAccepts, TakenAccepts, HasJoined, AreTaken, IsNotTaken, IsTakenRefusal}
 use Rattle.serde_json.specs.Data.{null, boolean, string}
 use Rattle.schemars_types.specs.declared.contract.Contract.TheVariants.{Serialize}
@@ -79,7 +79,7 @@ pub taken_accepts : (reading : Patterns → Type 0) (t : TypeRow) (old s : State
     → place_of t.id s.rows ≡ Some n → BelongsUnder reading s.rows n v → IsJson v
     → TakenAccepts reading t (record s { definitions = no_members }) taken schema v
 taken_accepts reading t old s n taken schema v contract path settings own one plain same headline is_reference placed belongs_to json =
-    let means = headline own (ap (λ x. path_of (record s { settings = x })) settings ∙ path) plain in
+    let means = headline own (ap (λ x. path_of (record s { settings = x })) settings ∙ path) (inl plain) in
     let accept = definition_accepts reading s n taken v one (ap (λ x. x.contract) settings ∙ contract) means belongs_to json in
     record {
       n = n;

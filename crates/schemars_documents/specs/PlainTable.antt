@@ -258,6 +258,21 @@ IsEntryUnder contract rows (Some e) = AreNotes e.notes × IsPlainShape (expanded
 abbrev pub IsPlainUnder : Contract → List Row → Type 0
 IsPlainUnder contract rows = (n : ℕ) → IsEntryUnder contract rows (entry_at rows n)
 
+-- ---- tables into which no enum is flattened
+
+abbrev pub ShapeFlattensNoEnums : List Row → Shape → Type 0
+ShapeFlattensNoEnums rows (shape.struct x) = HasNoEnums rows x.flatten
+ShapeFlattensNoEnums rows (shape.enum tagging xs) = VariantsHaveNoEnums rows xs
+ShapeFlattensNoEnums rows _ = Unit {0}
+
+abbrev pub EntryFlattensNoEnums : List Row → Option Entry → Type 0
+EntryFlattensNoEnums rows None = Unit {0}
+EntryFlattensNoEnums rows (Some e) = ShapeFlattensNoEnums rows e.shape
+
+-- no enum is among the members of a map into which rows are flattened
+abbrev pub FlattensNoEnums : List Row → Type 0
+FlattensNoEnums rows = (n : ℕ) → EntryFlattensNoEnums rows (entry_at rows n)
+
 -- ---- notes and literals
 
 abbrev pub HasPlainLiteral : Shape → Type 0

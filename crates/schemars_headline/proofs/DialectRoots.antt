@@ -1,6 +1,6 @@
 -- Root documents mean their types in Draft 7 and 2019-09 too, after the transforms of these drafts.
 use Rattle.std.proofs.Common.{◌≡◌, ◌⊎◌, ℕ, inl, inr, Option, Some, None, true, codes, refl, sym, ap, ◌∙◌, subst}
-use Rattle.schemars_headline.proofs.Words.{false≢true, is_some, option_and_then, Data, null, boolean, number, string, array, object, Members, no_members, put, get_member, get_member-put, Text, lookup, IsSchema, resolves, draft2020_12, draft2019_09, draft07, IsChecked, IsPlainTable, IsPlainUnder, IsOneToOne, Plan, Registry, Refers, reference_to, basis_of_plan, described, plain_rows, under_rows, State, path_of, state_plan, HasOwnDefinitions, MeansItsType, IsRootOf, HasKeysOnce, IsName, IsMap, for_draft07, for_draft2019_09, Stands, IsForOpenApi, Draft2020_12, Draft2019_09, Draft07, schema_only, schema_only-schema, resolved-whole, settled, IsPlainFor, IsNameOf, DraftHeadlines, resolved}
+use Rattle.schemars_headline.proofs.Words.{FlattensNoEnums, false≢true, is_some, option_and_then, Data, null, boolean, number, string, array, object, Members, no_members, put, get_member, get_member-put, Text, lookup, IsSchema, resolves, draft2020_12, draft2019_09, draft07, IsChecked, IsPlainTable, IsPlainUnder, IsOneToOne, Plan, Registry, Refers, reference_to, basis_of_plan, described, plain_rows, under_rows, State, path_of, state_plan, HasOwnDefinitions, MeansItsType, IsRootOf, HasKeysOnce, IsName, IsMap, for_draft07, for_draft2019_09, Stands, IsForOpenApi, Draft2020_12, Draft2019_09, Draft07, schema_only, schema_only-schema, resolved-whole, settled, IsPlainFor, IsNameOf, DraftHeadlines, resolved}
 use Rattle.schemars_types.specs.declared.contract.Contract.{Contract}
 use Rattle.schemars_headline.proofs.Standing.{MayRefer, AllStand}
 use Rattle.schemars_headline.proofs.Standing as standings
@@ -8,7 +8,7 @@ use Rattle.schemars_headline.proofs.Placed.{StandsAt, holds_put, draft_key}
 use Rattle.schemars_headline.proofs.Calls.{definitions_in, root_means, plain_for}
 use Rattle.schemars_headline.proofs.Changes.{Class, IsDraft2019_09, without_rest, with_rest, for_openapi, for_items}
 use Rattle.schemars_headline.proofs.Classes.{described-good}
-use Rattle.schemars_headline.proofs.StructClass.{described-under}
+use Rattle.schemars_headline.proofs.StructClass.{described-simple, described-under}
 use Rattle.schemars_headline.proofs.RootClass.{IsReady, ready-as, entries, root_call-ready, may_refer-name, stands-place, to-name}
 use Rattle.schemars_headline.proofs.Definitions.{Has, prefix-has}
 use Rattle.schemars_headline.proofs.Accepting.{ready-has, draft07-has, draft07_accepts, draft2019_09_accepts}
@@ -138,10 +138,18 @@ module _ (s : State) (n : ℕ) (w : Registry) (document : Data) (root : IsRootOf
       (root_call-ready s n w document key root (under_rows contract s.rows plain) once standing at (with_rest N)
       (described-under N (basis_of_plan plan) (MayRefer plan w) refer (settled (basis_of_plan plan) checked plain)))
 
+  -- where no enum is flattened
+  simple_ready : IsChecked s.rows → IsPlainUnder contract s.rows → FlattensNoEnums s.rows → IsReadyAs IsForOpenApi
+  simple_ready checked plain none N refer =
+      ready-as (Class (without_rest N)) (Stands N IsForOpenApi) (for_openapi N) key w.definitions document
+      (root_call-ready s n w document key root (under_rows contract s.rows plain) once standing at (without_rest N)
+      (described-simple (without_rest N) (basis_of_plan plan) (MayRefer plan w) refer (settled (basis_of_plan plan) checked plain) none))
+
   -- Draft 7 does not read `unevaluatedProperties`
-  plain_for_draft07 : IsPlainFor draft07 contract s.rows → IsPlainTable s.rows
-  plain_for_draft07 (inl plain) = plain
-  plain_for_draft07 (inr (reads, plain)) = absurd (false≢true reads)
+  ready_for_draft07 : IsChecked s.rows → IsPlainFor draft07 contract s.rows → IsReadyAs IsForOpenApi
+  ready_for_draft07 checked (inl plain) = draft07_ready plain
+  ready_for_draft07 checked (inr (inl reads, plain)) = absurd (false≢true reads)
+  ready_for_draft07 checked (inr (inr none, plain)) = simple_ready checked plain none
 
 -- what a root call makes means its type in each draft
 pub draft_headlines : (s : State) (n : ℕ) (w : Registry) (d : Data) → IsChecked s.rows → IsRootOf s n w d → HasKeysOnce w.definitions
@@ -151,9 +159,9 @@ draft_headlines s n w d checked root once one Draft2019_09 own path plain =
     let place = draft_key (path_of s) path in
     let under = plain_for draft2019_09 s.settings.contract s.rows plain in
     draft2019_09_from s n w d root once own place.0 place.1 (wide_ready s n w d root once own place.0 place.1 checked under)
-    (root_means s n w d checked root once one own path (inr (refl, under)))
+    (root_means s n w d checked root once one own path (inr (inl refl, under)))
 draft_headlines s n w d checked root once one Draft07 own path plain =
     let place = draft_key (path_of s) path in
-    let table = plain_for_draft07 s n w d root once own place.0 place.1 plain in
-    draft07_from s n w d root once own place.0 place.1 (draft07_ready s n w d root once own place.0 place.1 table)
-    (root_means s n w d checked root once one own path (inl table))
+    let under = plain_for draft07 s.settings.contract s.rows plain in
+    draft07_from s n w d root once own place.0 place.1 (ready_for_draft07 s n w d root once own place.0 place.1 checked plain)
+    (root_means s n w d checked root once one own path (inr (inl refl, under)))

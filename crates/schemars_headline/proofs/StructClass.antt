@@ -1,7 +1,8 @@
 -- In a table that is plain under its contract the document of each row is one that the law of 2019-09 speaks of, those of structs with
--- flattened enums too.
-use Rattle.std.proofs.Common.{◌≡◌, ℕ, zero, inr, List, [], ◌∷◌, Option, Some, None, Bool, true, false, codes, refl, sym, ap, ◌∙◌, subst, arith}
-use Rattle.schemars_headline.proofs.Words.{bytes_eq-Decides, bytes_eq, if◌then◌else◌, Data, null, array, object, Members, no_members, member, get_member, items_of, Text, is_listed, NoSchemas, OneSchema, SchemaList, place_under, Judge, draft2020_12, follow, context2020_12, flattened, Everywhere, demanded, asked_of_items, asked_of_keywords, AreSchemas, IsSchemaList, IsTextWith, AreSomeTypes, absent-once, Field, Flattened, Fields, Entry, Row, entry_at, Keyword, required_names, AreNoted, IsNotedThroughout, Basis, Ask, part, members_of, Template, asks_of, filled, with_flattened, struct_template, Describes, Fit, under_rows, with_same_object, with_same_objects, Context, get_member-here, get_member-later, IsNoObject, IsNoList, VariantMatch, is_required, ArePartsUnder, IsPlainContent, beside_written, IsEntryUnder, with_keywords, first, fields_template, parted, map_fills, field_keywords, IsSorted, get_member-above, Part, Parts, objects, unevaluated_beside, unevaluated_there, struct_keywords, IsForm, no_parts, IsItem, AllItems, PartsAre, OneIs, IsStruct, under_apart, struct_stands, tell_inside, IsSettled, asked, closed_there, all_there, one_there}
+-- flattened enums too; and if no enum is flattened, one that all laws speak of.
+use Rattle.std.proofs.Common.{◌≡◌, ℕ, zero, inr, List, [], ◌∷◌, ◌++◌, append_assoc, map, Option, Some, None, Bool, true, false, codes, refl, sym, ap, ◌∙◌, subst, arith}
+use Rattle.schemars_headline.proofs.Words.{FlattensNoEnums, EntryFlattensNoEnums, ShapeFlattensNoEnums, HasNoEnums, VariantsHaveNoEnums, Shape, Variant, parts_in, payload_parts, variant_parts, effective, flattened_in, part_enums, flattened_enums, enum_at, matches_of, choices_within, both_empty, bytes_eq-Decides, bytes_eq, if◌then◌else◌, Data, null, array, object, Members, no_members, member, get_member, items_of, Text, is_listed, NoSchemas, OneSchema, SchemaList, place_under, Judge, draft2020_12, follow, context2020_12, flattened, Everywhere, demanded, asked_of_items, asked_of_keywords, AreSchemas, IsSchemaList, IsTextWith, AreSomeTypes, absent-once, Field, Flattened, Fields, Entry, Row, entry_at, Keyword, required_names, AreNoted, IsNotedThroughout, Basis, Ask, part, members_of, Template, asks_of, filled, with_flattened, struct_template, Describes, Fit, under_rows, with_same_object, with_same_objects, Context, get_member-here, get_member-later, IsNoObject, IsNoList, VariantMatch, is_required, ArePartsUnder, IsPlainContent, beside_written, IsEntryUnder, with_keywords, first, fields_template, parted, map_fills, field_keywords, IsSorted, get_member-above, Part, Parts, objects, unevaluated_beside, unevaluated_there, struct_keywords, IsForm, no_parts, IsItem, AllItems, PartsAre, OneIs, IsStruct, under_apart, struct_stands, tell_inside, IsSettled, asked, closed_there, all_there, one_there}
+use Rattle.schemars_shapes.specs.Shape as shape
 use Rattle.schemars_flatten.proofs.Kept as kept
 use Rattle.schemars_types.specs.declared.contract.Contract.{Contract}
 use Rattle.schemars_templates.specs.Template.{asked as asked_for}
@@ -52,10 +53,7 @@ unfolding all_there
 all_list [] = tt
 all_list (p ∷ ps) = schemas_in (p ∷ ps)
 
-module _ (N : Text → Type 0) where
-  abbrev R : Demand
-  R = with_rest N
-
+module _ (R : Demand) where
   abbrev C : Members → Type 0
   C = Class R
 
@@ -66,14 +64,11 @@ module _ (N : Text → Type 0) where
   -- ---- maps with choices
 
   module _ (es : List Keyword) (ns : List Text) (ps : Parts) (closed : Bool) (ms : Members)
-      (form : IsForm (struct_keywords es ns ps closed) ms) (all : IsSound (all_there ps.all)) (one : IsSound (one_there ps.one)) where
+      (form : IsForm (struct_keywords es ns ps closed) ms) (rest : R.rest ms) (all : IsSound (all_there ps.all)) (one : IsSound (one_there ps.one)) where
     own : Class R ms
     own =
-        class-of R ms (subst (IsTextWith N) (sym (form.at (codes "$ref") refl)) tt)
-        (absent-once (codes "$ref") ms (form.at (codes "$ref") refl)) (
-          subst IsNoObject (sym (form.at (codes "unevaluatedProperties") refl)) (no_object ps closed),
-          (form.at (codes "dependentSchemas") refl, (form.at (codes "unevaluatedItems") refl, tt)),
-        )
+        class-of R ms (subst (IsTextWith R.refers) (sym (form.at (codes "$ref") refl)) tt)
+        (absent-once (codes "$ref") ms (form.at (codes "$ref") refl)) rest
         (subst AreSomeTypes (sym (form.at (codes "type") refl)) tt) (form.at (codes "nullable") refl) (form.at (codes "const") refl)
         (form.at (codes "enum") refl) (subst IsSchemaList (sym (form.at (codes "allOf") refl)) (all_list ps.all)) (
           absent-once (codes "prefixItems") ms (form.at (codes "prefixItems") refl),
@@ -125,6 +120,25 @@ module _ (N : Text → Type 0) where
     form-good held =
         (own, asked-each C ms form.sorted (λ k d found. keyword k d found (kept.at (HoldsAt C) k ms d (held-members C ms held) found)))
 
+  -- without choices nothing is said of the rest
+  bare-rest : (es : List Keyword) (ns : List Text) (closed : Bool) (ms : Members) → IsForm (struct_keywords es ns no_parts closed) ms
+      → R.rest ms
+  bare-rest es ns closed ms form =
+      let none : get_member (codes "unevaluatedProperties") ms ≡ None = form.at (codes "unevaluatedProperties") refl in
+      R.lacking ms (
+        absent-once (codes "unevaluatedProperties") ms none,
+        none,
+        (
+          form.at (codes "minContains") refl,
+          form.at (codes "maxContains") refl,
+          form.at (codes "dependentRequired") refl,
+          form.at (codes "dependentSchemas") refl,
+          form.at (codes "unevaluatedItems") refl,
+          form.at (codes "dependencies") refl,
+          tt,
+        ),
+      )
+
   -- ---- choices
 
   no_part : IsSound (all_there [])
@@ -138,7 +152,8 @@ module _ (N : Text → Type 0) where
   module _ (c : Context) (on : c.dialect.reads_unevaluated ≡ true) (v : Data) where
     item-good : (closed : Bool) (t : Data) (o : VariantMatch) → IsItem c on closed t o v → Holds C t → Everywhere C t
     item-good closed t o i held =
-        subst (Everywhere C) (sym i.is) (form-good i.es i.ns no_parts closed i.members i.form no_part no_choice (subst (Holds C) i.is held))
+        subst (Everywhere C) (sym i.is) (form-good i.es i.ns no_parts closed i.members i.form (bare-rest i.es i.ns closed i.members i.form)
+        no_part no_choice (subst (Holds C) i.is held))
 
     items-good : (ts : List Data) (os : List VariantMatch) → AllItems c on false ts os v → HoldsEach C (items_of ts)
         → asked_of_items C (items_of ts)
@@ -173,11 +188,11 @@ module _ (N : Text → Type 0) where
         subst (λ e. HoldsList C e → (asked C e).as_list) same (items-good p.items p.choices h)
 
     struct-good : (contract : Contract) (W : ℕ → Data → Type 0) (list : List Field) (matches_of : List (List VariantMatch)) (closed : Bool) (s : Data)
-        → IsStruct c on contract W v list matches_of closed s → Holds C s → IsGood R s
-    struct-good contract W list matches_of closed s a held =
+        → (a : IsStruct c on contract W v list matches_of closed s) → R.rest a.members → Holds C s → IsGood R s
+    struct-good contract W list matches_of closed s a rest held =
         subst (IsGood R) (sym a.is) (record {
           schema = tt;
-          everywhere = form-good (field_keywords list a.written) (required_names contract list) a.parts closed a.members a.form
+          everywhere = form-good (field_keywords list a.written) (required_names contract list) a.parts closed a.members a.form rest
               (all-sound a.parts.all a.choices.0) (one-sound a.parts.one a.choices.1) (subst (Holds C) a.is held);
         })
 
@@ -217,7 +232,7 @@ module _ (N : Text → Type 0) where
 
 -- ---- the documents of rows
 
-module _ (N : Text → Type 0) (basis : Basis) (Refers : ℕ → Text → Type 0) (names : (j : ℕ) (r : Text) → Refers j r → N r)
+module _ (R : Demand) (basis : Basis) (Refers : ℕ → Text → Type 0) (names : (j : ℕ) (r : Text) → Refers j r → R.refers r)
     (settled : IsSettled basis) where
   abbrev rows : List Row
   rows = basis.rows
@@ -225,28 +240,93 @@ module _ (N : Text → Type 0) (basis : Basis) (Refers : ℕ → Text → Type 0
   abbrev contract : Contract
   contract = basis.contract
 
-  under-entry : (n : ℕ) (e : Entry) → entry_at rows n ≡ Some e → IsNotedUnder rows (IsPlainContent rows) (ArePartsUnder contract rows) e
-  under-entry n e at =
-      let entry : IsEntryUnder contract rows (Some e) = subst (IsEntryUnder contract rows) at (settled.plain n) in
-      let own : IsNotedThroughout (Some e) = subst IsNotedThroughout at (under_rows contract rows settled.plain n) in
-      (entry.0, (entry.1, entry.4), own.1, entry.3)
-
   -- its form is the same whatever value is looked at, and wherever references lead
   nowhere : Text → Judge
   nowhere = follow draft2020_12 null [] zero
 
-  under-structs : (d : ℕ) → StructsGood (with_rest N) basis Refers names (ArePartsUnder contract rows) d
-  under-structs d parts y noted under us fit =
-      struct-good N (context2020_12 [] nowhere) refl null contract (In (with_rest N) basis Refers names d) _ _ y.closed _
-      (struct_stands [] nowhere basis Refers settled 1 (omega arith) zero
-      (λ d j t w is js less. absurd (omega arith)) null tt (omega arith) 1 (omega arith) d y (inr (omega arith)) under
-      (tell_inside [] nowhere basis Refers settled 1 (omega arith) zero
-      (λ d j t w is js less. absurd (omega arith)) null (omega arith)) us fit)
-      (struct-holds N (Answer (with_rest N) basis Refers names d) contract parts
-      (λ n required t h. subst (Holds (Class (with_rest N))) (sym h.2)
-      (part-holds (with_rest N) _ h.0 (holds-everywhere (Class (with_rest N)) h.0 (parts _ h.0 (inr h.1)).everywhere))) y noted us fit)
+  abbrev StructOf : ℕ → Fields → Data → Type 0
+  StructOf d y s = IsStruct (context2020_12 [] nowhere) refl contract (In R basis Refers names d) null (effective (flattened_in rows) y)
+      (matches_of (choices_within rows contract [] 1) (map enum_at (flattened_enums (part_enums rows) y.flatten)) null) y.closed s
 
-  pub described-under : (d n : ℕ) (t : Data) → Describes basis Refers d n t → IsGood (with_rest N) t
-  described-under =
-      each-good (with_rest N) basis Refers names (IsPlainContent rows) (ArePartsUnder contract rows) (under_apart contract rows) under-entry
-      under-structs (beside_written [] nowhere basis Refers settled 1 (omega arith))
+  -- `Under` says what may be flattened, so that of the rest of a struct is said what the class asks
+  module _ (Under : List Flattened → Type 0) (apart : (ps qs : List Flattened) → Under (ps ++ qs) → Under ps × Under qs)
+      (of_entry : (n : ℕ) (e : Entry) → entry_at rows n ≡ Some e → Under (parts_in e.shape))
+      (parts_under : (ps : List Flattened) → Under ps → ArePartsUnder contract rows ps)
+      (rests : (d : ℕ) (y : Fields) (s : Data) → Under y.flatten → (a : StructOf d y s) → R.rest a.members) where
+    under-entry : (n : ℕ) (e : Entry) → entry_at rows n ≡ Some e → IsNotedUnder rows (IsPlainContent rows) Under e
+    under-entry n e at =
+        let entry : IsEntryUnder contract rows (Some e) = subst (IsEntryUnder contract rows) at (settled.plain n) in
+        let own : IsNotedThroughout (Some e) = subst IsNotedThroughout at (under_rows contract rows settled.plain n) in
+        (entry.0, (entry.1, entry.4), own.1, of_entry n e at)
+
+    under-structs : (d : ℕ) → StructsGood R basis Refers names Under d
+    under-structs d parts y noted under us fit =
+        let a : StructOf d y (filled (struct_template contract y) us) =
+        struct_stands [] nowhere basis Refers settled 1 (omega arith) zero
+        (λ d j t w is js less. absurd (omega arith)) null tt (omega arith) 1 (omega arith) d y (inr (omega arith)) (parts_under y.flatten under)
+        (tell_inside [] nowhere basis Refers settled 1 (omega arith) zero
+        (λ d j t w is js less. absurd (omega arith)) null (omega arith)) us fit in
+        struct-good R (context2020_12 [] nowhere) refl null contract (In R basis Refers names d) _ _ y.closed _ a (rests d y _ under a)
+        (struct-holds R (Answer R basis Refers names d) contract parts
+        (λ n required t h. subst (Holds (Class R)) (sym h.2)
+        (part-holds R _ h.0 (holds-everywhere (Class R) h.0 (parts _ h.0 (inr h.1)).everywhere))) y noted us fit)
+
+    described-as : (d n : ℕ) (t : Data) → Describes basis Refers d n t → IsGood R t
+    described-as =
+        each-good R basis Refers names (IsPlainContent rows) Under apart under-entry under-structs
+        (beside_written [] nowhere basis Refers settled 1 (omega arith))
+
+  enums_append : (ps qs : List Flattened) → flattened_enums (part_enums rows) (ps ++ qs)
+      ≡ flattened_enums (part_enums rows) ps ++ flattened_enums (part_enums rows) qs
+  enums_append [] qs = refl
+  enums_append (p ∷ ps) qs =
+      ap (λ ns. part_enums rows p ++ ns) (enums_append ps qs)
+      ∙ sym (append_assoc (part_enums rows p) (flattened_enums (part_enums rows) ps) (flattened_enums (part_enums rows) qs))
+
+  entry_under : (n : ℕ) (e : Entry) → entry_at rows n ≡ Some e → IsEntryUnder contract rows (Some e)
+  entry_under n e at = subst (IsEntryUnder contract rows) at (settled.plain n)
+
+  -- without enums of any class
+  module _ (none : FlattensNoEnums rows) where
+    abbrev Simple : List Flattened → Type 0
+    Simple ps = ArePartsUnder contract rows ps × HasNoEnums rows ps
+
+    simple_apart : (ps qs : List Flattened) → Simple (ps ++ qs) → Simple ps × Simple qs
+    simple_apart ps qs h =
+        let parts = under_apart contract rows ps qs h.0 in
+        let enums = both_empty (flattened_enums (part_enums rows) ps) (flattened_enums (part_enums rows) qs)
+        (sym (enums_append ps qs) ∙ h.1) in
+        ((parts.0, enums.0), (parts.1, enums.1))
+
+    simple_variants : (xs : List Variant) → VariantsHaveNoEnums rows xs → HasNoEnums rows (variant_parts xs)
+    simple_variants [] h = refl
+    simple_variants (x ∷ xs) h =
+        enums_append (payload_parts x.payload) (variant_parts xs) ∙ (λ i. h.0 i ++ simple_variants xs h.1 i)
+
+    simple_shape : (kind : Shape) → ShapeFlattensNoEnums rows kind → HasNoEnums rows (parts_in kind)
+    simple_shape (shape.struct x) h = h
+    simple_shape (shape.enum tagging xs) h = simple_variants xs h
+    simple_shape _ h = refl
+
+    simple_rest : (d : ℕ) (y : Fields) (s : Data) → Simple y.flatten → (a : StructOf d y s) → R.rest a.members
+    simple_rest d y s under a =
+        let bare : a.parts ≡ no_parts = a.bare (ap (λ ns. matches_of (choices_within rows contract [] 1) (map enum_at ns) null) under.1) in
+        let es = field_keywords (effective (flattened_in rows) y) a.written in
+        let ns = required_names contract (effective (flattened_in rows) y) in
+        bare-rest R es ns y.closed a.members (subst (λ ps. IsForm (struct_keywords es ns ps y.closed) a.members) bare a.form)
+
+    pub described-simple : (d n : ℕ) (t : Data) → Describes basis Refers d n t → IsGood R t
+    described-simple =
+        described-as Simple simple_apart
+        (λ n e at. ((entry_under n e at).3, simple_shape e.shape (subst (EntryFlattensNoEnums rows) at (none n))))
+        (λ ps h. h.0) simple_rest
+
+-- with enums of the class that 2019-09 asks for
+pub described-under : (N : Text → Type 0) (basis : Basis) (Refers : ℕ → Text → Type 0) → ((j : ℕ) (r : Text) → Refers j r → N r)
+    → IsSettled basis → (d n : ℕ) (t : Data) → Describes basis Refers d n t → IsGood (with_rest N) t
+described-under N basis Refers names settled =
+    described-as (with_rest N) basis Refers names settled (ArePartsUnder basis.contract basis.rows) (under_apart basis.contract basis.rows)
+    (λ n e at. (entry_under (with_rest N) basis Refers names settled n e at).3) (λ ps under. under) (λ d y s under a. (
+      subst IsNoObject (sym (a.form.at (codes "unevaluatedProperties") refl)) (no_object a.parts y.closed),
+      (a.form.at (codes "dependentSchemas") refl, (a.form.at (codes "unevaluatedItems") refl, tt)),
+    ))

@@ -1,13 +1,15 @@
 -- Definitions that are taken for OpenAPI mean the types of their names.
 use Rattle.std.proofs.Common.{◌≡◌, inl, inr, ◌+◌, ◌*◌, ◌≤◌, ◌∷◌, ◌++◌, ℕ, Option, Some, None, true, refl, sym, ap, ◌∙◌, subst}
-use Rattle.schemars_headline.proofs.Words.{is_some, IsUtf8, Data, string, Members, depth, get_member, pointer, members_len, Text, IsSchema, resolved, references, resolves, all_resolve, draft2020_12, accepts, count_of_definitions, IsChecked, IsPlainTable, IsOneToOne, Plan, Registry, basis_of_plan, Refers, plain_under, described, State, path_of, state_plan, registry_of, HasOwnDefinitions, AcceptsItsValues, Stands, IsForOpenApi, weaker, encoded, openapi3, plain-components, resolved-definition, count-place, IsDefinitionAt, EachEverywhere, components, components_of, Anything, for_openapi3, components-found, openapi-law, names-at_end, all_seven, schema-at_end, len-at_end, found-at_end, missing-at_end, seven-each, MeansItsRow, MeanTheirRows, OpenApiHeadline}
+use Rattle.schemars_headline.proofs.Words.{is_some, IsUtf8, Data, string, Members, depth, get_member, pointer, members_len, Text, IsSchema, resolved, references, resolves, all_resolve, draft2020_12, accepts, count_of_definitions, IsChecked, IsPlainFor, IsOneToOne, Plan, Registry, basis_of_plan, Refers, Basis, Describes, settled, false≢true, described, State, path_of, state_plan, registry_of, HasOwnDefinitions, AcceptsItsValues, Stands, IsForOpenApi, weaker, encoded, openapi3, plain-components, resolved-definition, count-place, IsDefinitionAt, EachEverywhere, components, components_of, Anything, for_openapi3, components-found, openapi-law, names-at_end, all_seven, schema-at_end, len-at_end, found-at_end, missing-at_end, seven-each, MeansItsRow, MeanTheirRows, OpenApiHeadline}
 use Rattle.schemars_headline.proofs.Standing.{MayRefer, AllStand, stands_now}
 use Rattle.schemars_headline.proofs.Placed.{held}
 use Rattle.schemars_headline.proofs.Leading.{HoldsDefinitions, IsItsRoot, written_accepts}
 use Rattle.schemars_headline.proofs.ReferencesKept.{RefersOnce}
 use Rattle.schemars_headline.proofs.DialectsResolving.{each-resolves}
-use Rattle.schemars_headline.proofs.Changes.{without_rest, for_openapi}
+use Rattle.schemars_headline.proofs.Changes.{IsGood, without_rest, for_openapi}
 use Rattle.schemars_headline.proofs.Classes.{described-good}
+use Rattle.schemars_headline.proofs.StructClass.{described-simple}
+use Rattle.schemars_headline.proofs.Calls.{plain_for}
 
 -- ---- names of these definitions
 
@@ -35,7 +37,7 @@ resolve-at_end es all name e found =
 
 -- ---- the generator's own definitions are of the class
 
-module _ (s : State) (own : HasOwnDefinitions s) (at : path_of s ≡ components) (plain : IsPlainTable s.rows) where
+module _ (s : State) (own : HasOwnDefinitions s) (at : path_of s ≡ components) where
   standing : AllStand (state_plan s None) (registry_of s)
   standing name d found = stands_now (state_plan s None) (registry_of s) name d (own name d found)
 
@@ -57,16 +59,31 @@ module _ (s : State) (own : HasOwnDefinitions s) (at : path_of s ≡ components)
   may_refer-one j r (inl is) = refers-one j r is
   may_refer-one j r (inr is) = refers-one j r is
 
-  pub own-class : EachEverywhere (Stands (NamesOne s.definitions) IsForOpenApi) s.definitions
-  own-class name d found =
+  abbrev basis : Basis
+  basis = basis_of_plan (state_plan s None)
+
+  abbrev Names : Text → Type 0
+  Names = NamesOne s.definitions
+
+  each_described : IsChecked s.rows → IsPlainFor openapi3 s.settings.contract s.rows → (d n : ℕ) (t : Data)
+      → Describes basis (MayRefer (state_plan s None) (registry_of s)) d n t → IsGood (without_rest Names) t
+  each_described checked (inl plain) =
+      described-good (without_rest Names) basis (MayRefer (state_plan s None) (registry_of s)) may_refer-one plain
+  each_described checked (inr (inl reads, plain)) = absurd (false≢true reads)
+  each_described checked (inr (inr none, plain)) =
+      described-simple (without_rest Names) basis (MayRefer (state_plan s None) (registry_of s)) may_refer-one
+      (settled basis checked plain) none
+
+  pub own-class : IsChecked s.rows → IsPlainFor openapi3 s.settings.contract s.rows
+      → EachEverywhere (Stands (NamesOne s.definitions) IsForOpenApi) s.definitions
+  own-class checked plain name d found =
       for_openapi (NamesOne s.definitions) d
-      (described-good (without_rest (NamesOne s.definitions)) (basis_of_plan (state_plan s None)) (MayRefer (state_plan s None) (registry_of s))
-      may_refer-one plain (standing name d found).depth (standing name d found).row d (standing name d found).describes).everywhere
+      (each_described checked plain (standing name d found).depth (standing name d found).row d (standing name d found).describes).everywhere
 
 -- ---- what they mean
 
 module _ (s : State) (checked : IsChecked s.rows) (one : IsOneToOne s.names) (own : HasOwnDefinitions s) (at : path_of s ≡ components)
-    (plain : IsPlainTable s.rows) where
+    (plain : IsPlainFor openapi3 s.settings.contract s.rows) where
   abbrev es : Members
   es = s.definitions
 
@@ -77,7 +94,7 @@ module _ (s : State) (checked : IsChecked s.rows) (one : IsOneToOne s.names) (ow
   w = registry_of s
 
   stand : AllStand plan w
-  stand = standing s own at plain
+  stand = standing s own at
 
   rootless : IsItsRoot plan w (components_of es)
   rootless m is = absurd (let never : None ≡ Some m = is in cc)
@@ -88,7 +105,7 @@ module _ (s : State) (checked : IsChecked s.rows) (one : IsOneToOne s.names) (ow
   accepts-before : (name : Text) (d : Data) (found : get_member name es ≡ Some d)
       → AcceptsItsValues draft2020_12 s.rows s.settings.contract (path_of s) (stand name d found).row (components_of es) d
   accepts-before name d found =
-      written_accepts plan w (components_of es) checked (plain_under s.rows s.settings.contract plain) one stand holds rootless
+      written_accepts plan w (components_of es) checked (plain_for openapi3 s.settings.contract s.rows plain) one stand holds rootless
       (stand name d found).depth (stand name d found).row d
       (inr (stand name d found).describes)
 
@@ -128,4 +145,4 @@ module _ (s : State) (checked : IsChecked s.rows) (one : IsOneToOne s.names) (ow
 
 pub openapi_headline : (s : State) → IsChecked s.rows → IsOneToOne s.names → OpenApiHeadline s
 openapi_headline s checked one own at plain =
-    subst (MeanTheirRows s) (seven-each s.definitions) (taken_means s checked one own at plain (own-class s own at plain))
+    subst (MeanTheirRows s) (seven-each s.definitions) (taken_means s checked one own at plain (own-class s own at checked plain))

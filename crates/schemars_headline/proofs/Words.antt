@@ -24,7 +24,7 @@ pub use Rattle.schemars_documents.specs.Describes.{AreAnswered, Fills, IsAnswere
 unfoldable pub use Rattle.schemars_documents.specs.Describes.{Describes}
 pub use Rattle.schemars_documents.specs.Documents.{byte_document, bytes_document, bytes_type, char_document, empty_list_document, formatted_document, int_document, int_keywords, is_signed, non_zero_document, required_names, schema_document}
 pub use Rattle.schemars_documents.specs.OfShape.{all_patterns, content_template, entry_template, fields_template, literal_document, members_asked, other_values, pattern_properties_at, property, struct_template, template_of, tuple_template, values_of, values_template, with_flattened}
-pub use Rattle.schemars_documents.specs.PlainTable.{AreNoted, AreNotedVariants, ArePartsUnder, ArePlainParts, EntryHasNoFloat, HasNoFloat, HasPlainLiteral, HasPlainNotes, HasPlainNotesThroughout, IsEntryUnder, IsNoContent, IsNotedEntry, IsNotedPayload, IsNotedShape, IsNotedThroughout, IsPlainContent, IsPlainEntry, IsPlainShape, IsPlainTable, IsPlainUnder, ShapeHasContents, parts_in, payload_parts, variant_parts}
+pub use Rattle.schemars_documents.specs.PlainTable.{AreNoted, AreNotedVariants, ArePartsUnder, ArePlainParts, EntryFlattensNoEnums, EntryHasNoFloat, FlattensNoEnums, HasNoEnums, HasNoFloat, HasPlainLiteral, HasPlainNotes, HasPlainNotesThroughout, IsEntryUnder, IsNoContent, IsNotedEntry, IsNotedPayload, IsNotedShape, IsNotedThroughout, IsPlainContent, IsPlainEntry, IsPlainShape, IsPlainTable, IsPlainUnder, ShapeFlattensNoEnums, ShapeHasContents, VariantsHaveNoEnums, parts_in, payload_parts, variant_parts}
 pub use Rattle.schemars_flatten.proofs.Floats.{flattened-whole, flattened_part-whole, opened_inside-whole}
 pub use Rattle.schemars_flatten.proofs.Kept.{AllMembers, IsByKeyword}
 pub use Rattle.schemars_flatten.proofs.References.{flattened_part-refers, opened_inside-refers}
@@ -85,7 +85,7 @@ pub use Rattle.schemars_meaning.proofs.SettledTables.{IsSettled}
 pub use Rattle.schemars_meaning.proofs.ShapeInduction.{AreBeside, AreKeysApart, Documents, IsBeside, Law, beside_halves, of_each, plain_variants, shape_holds}
 pub use Rattle.schemars_meaning.proofs.ShapesCounted.{struct_stands, tell_inside}
 pub use Rattle.schemars_meaning.proofs.Spread.{AnswersFields, AreWritten, IsFieldsDocument, field_keywords}
-pub use Rattle.schemars_meaning.proofs.StructDocuments.{IsStruct}
+pub use Rattle.schemars_meaning.proofs.StructDocuments.{IsStruct, both_empty}
 pub use Rattle.schemars_meaning.proofs.StructForm.{Part, Parts, objects, struct_keywords, unevaluated_beside, unevaluated_there}
 unfoldable pub use Rattle.schemars_meaning.proofs.StructForm.{all_there, one_there}
 pub use Rattle.schemars_meaning.proofs.Uniting.{IsForm}
@@ -135,11 +135,11 @@ pub use Rattle.schemars_types.proofs.Asked.{entry_low, flattened_number}
 pub use Rattle.schemars_types.proofs.Settling.{further_rows, length-take}
 pub use Rattle.schemars_types.specs.Edges.{DirectEdge, SameValueEdge, is_inline_at, names_at, numbers_at, option_at}
 unfoldable pub use Rattle.schemars_types.specs.Edges.{height, rank}
-pub use Rattle.schemars_types.specs.Effective.{effective, expanded_shape, expanded_shape_in, flattened_fields, flattened_in, part_enums, part_fields, required_only_if, shape_fields}
+pub use Rattle.schemars_types.specs.Effective.{effective, enum_at, expanded_shape, expanded_shape_in, flattened_enums, flattened_fields, flattened_in, part_enums, part_fields, required_only_if, shape_fields}
 unfoldable pub use Rattle.schemars_types.specs.Effective.{fields_within}
 pub use Rattle.schemars_types.specs.Faults.{HasRepeated, IsAccepted, IsChecked, IsUndefined}
 pub use Rattle.schemars_types.specs.KeyOptions.{KeyOptions, key_options, keys}
-pub use Rattle.schemars_types.specs.Meaning.{Member, VariantMatch, belongs, every_member, field_member, greatest_of, is_required, least_of, member_named}
+pub use Rattle.schemars_types.specs.Meaning.{Member, VariantMatch, belongs, choices_within, every_member, field_member, greatest_of, is_required, least_of, matches_of, member_named}
 unfoldable pub use Rattle.schemars_types.specs.Meaning.{belongs_within}
 pub use Rattle.schemars_types.specs.Rows.{Row, entry_at, name_at}
 pub use Rattle.schemars_walk.proofs.KeywordLaws.{keywords_get}

@@ -15,7 +15,7 @@ use Rattle.schemars_types.specs.Edges.{numbers_at}
 use Rattle.schemars_cycles.specs.Walks.{OnCycle, IsFree}
 use Rattle.schemars_types.specs.declared.contract.Contract.{Contract}
 use Rattle.schemars_types.specs.Meaning.{belongs}
-use Rattle.schemars_documents.specs.PlainTable.{IsPlainTable, IsPlainUnder}
+use Rattle.schemars_documents.specs.PlainTable.{IsPlainTable, IsPlainUnder, FlattensNoEnums}
 use Rattle.schemars_templates.specs.Finished.{root_document}
 use Rattle.schemars_build.specs.Registry.{Registry, Step}
 use Rattle.schemars_build.specs.Parts.{IsDocumentOf}
@@ -36,10 +36,11 @@ pub record MeansItsType (dialect : Dialect) (rows : List Row) (contract : Contra
   pub accepts_its_values : AcceptsItsValues dialect rows contract path n document document
   pub references_resolve : ReferencesResolve document
 
--- the tables whose documents are promised under a dialect: plain ones, and where `unevaluatedProperties` is read also those that
--- are plain under the contract, with enums and Options among what is flattened
+-- the tables whose documents are promised under a dialect: plain ones, and those that are plain under the contract, if the dialect reads
+-- `unevaluatedProperties`, or no enum is flattened
 abbrev pub IsPlainFor : Dialect → Contract → List Row → Type 0
-IsPlainFor dialect contract rows = IsPlainTable rows ⊎ ((dialect.reads_unevaluated ≡ true) × IsPlainUnder contract rows)
+IsPlainFor dialect contract rows =
+    IsPlainTable rows ⊎ (((dialect.reads_unevaluated ≡ true) ⊎ FlattensNoEnums rows) × IsPlainUnder contract rows)
 
 abbrev pub Headline : Dialect → List Row → Contract → Text → ℕ → Data → Type 0
 Headline dialect rows contract path n document =

@@ -6,12 +6,11 @@ use Rattle.serde_json.specs.Find.{get_member}
 use Rattle.schemars_schema.specs.Json.{Text}
 use Rattle.schemars_schema.specs.Dialects.{openapi3}
 use Rattle.schemars_schema.specs.References.{references, all_resolve}
-use Rattle.schemars_documents.specs.PlainTable.{IsPlainTable}
 use Rattle.schemars_build.specs.Naming.{name_of}
 use Rattle.schemars_laws.specs.Paths.{components, components_of, each_changed}
 use Rattle.schemars_laws.specs.Laws.{for_openapi3}
 use Rattle.schemars_headline.specs.State.{State, path_of, HasOwnDefinitions}
-use Rattle.schemars_headline.specs.Headline.{AcceptsItsValues}
+use Rattle.schemars_headline.specs.Headline.{AcceptsItsValues, IsPlainFor}
 
 -- in this document the schema of this name accepts under OpenAPI exactly the JSON values that belong to the row of the name, under
 -- every reading of patterns, from the bound on, and leaves none open; and its references resolve
@@ -25,9 +24,10 @@ pub record MeansItsRow (s : State) (name : Text) (document schema : Data) : Type
 abbrev pub MeanTheirRows : State → Members → Type 0
 MeanTheirRows s taken = (name : Text) (d : Data) → get_member name taken ≡ Some d → MeansItsRow s name (components_of taken) d
 
--- where the definitions are the generator's own, of a plain table, for /components/schemas
+-- where the definitions are the generator's own, for /components/schemas, of a table whose documents are promised under OpenAPI
 abbrev pub TakenHeadline : State → Members → Type 0
-TakenHeadline s taken = HasOwnDefinitions s → path_of s ≡ components → IsPlainTable s.rows → MeanTheirRows s taken
+TakenHeadline s taken =
+    HasOwnDefinitions s → path_of s ≡ components → IsPlainFor openapi3 s.settings.contract s.rows → MeanTheirRows s taken
 
 -- what the transforms of OpenAPI make of the definitions that a generator holds
 abbrev pub OpenApiHeadline : State → Type 0

@@ -1,5 +1,5 @@
 -- Words that many proofs of this crate name.
-pub use Rattle.schemars_documents.specs.PlainTable.{AreApart, AreApartFrom, AreDistinct, AreDistinctVariants, AreNoNames, AreNoted, AreOthers, ArePartsUnder, ArePlainParts, ArePlainVariants, AreTagged, HasBareUnits, HaveContents, IsEntryUnder, IsNoContent, IsNoName, IsNoVariant, IsOpenStruct, IsPlainContent, IsPlainEntry, VariantsHaveNamesApart, VariantsHaveNoEnums, all_payload_names, enum_names_at, tag_names, variant_parts}
+pub use Rattle.schemars_documents.specs.PlainTable.{AreApart, AreApartFrom, AreDistinct, AreDistinctVariants, AreNoNames, AreNoted, AreOthers, ArePartsUnder, ArePlainParts, ArePlainVariants, AreTagged, EntryFlattensNoEnums, HasBareUnits, HaveContents, IsEntryUnder, IsNoContent, IsNoName, IsNoVariant, IsOpenStruct, IsPlainContent, IsPlainEntry, VariantsHaveNamesApart, VariantsHaveNoEnums, all_payload_names, enum_names_at, tag_names, variant_parts}
 pub use Rattle.schemars_plain.specs.Said.{Said, as_said}
 pub use Rattle.schemars_schema.proofs.SortedMembers.{IsSorted, above-trans, get_member-above}
 pub use Rattle.schemars_schema.specs.Annotations.{AreNotes}

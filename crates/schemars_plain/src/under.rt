@@ -1,6 +1,6 @@
 //! Tables that are plain under a contract: Options and enums may be flattened too.
 ghost use Rattle.std.specs.Prelude.{◌≡◌, ◌↔◌, map, IsTrue, IfOk, option_map, false};
-ghost use Rattle.schemars_plain.specs.Words.{shape_of, flattened_of, internal_variant_of, internal_view, any_payload_of, entry_at, flattened_in, part_enums, expanded_payload, expanded_variant, expanded_shape_in, parts_in, variant_parts, may_miss, tag_names, enum_names_at, PayloadHasNamesApart, VariantsHaveNamesApart, ShapeHasNamesApart, IsBare, HasBareUnits, HaveContents, IsNoContent, HasVariant, HasNoEnums, VariantsHaveNoEnums, IsPartShape, IsPartUnder, ArePartsUnder, IsEntryUnder, IsPlainUnder};
+ghost use Rattle.schemars_plain.specs.Words.{shape_of, flattened_of, internal_view, any_payload_of, entry_at, flattened_in, part_enums, expanded_payload, expanded_variant, expanded_shape_in, parts_in, variant_parts, may_miss, tag_names, enum_names_at, PayloadHasNamesApart, VariantsHaveNamesApart, ShapeHasNamesApart, IsBare, HasBareUnits, HaveContents, IsNoContent, HasVariant, HasNoEnums, VariantsHaveNoEnums, IsPartShape, IsPartUnder, ArePartsUnder, IsEntryUnder, IsPlainUnder};
 
 use crate::contents::{has_no_newtypes, has_plain_contents};
 use crate::enums::{fields_apart, flattened_enums};
@@ -9,8 +9,7 @@ use crate::parts::payload_parts;
 use crate::table::is_plain_shape;
 use schemars_shapes::{AnyPayload, AnyVariant};
 use schemars_types::{
-    Contract, Flattened, Internal, InternalVariant, Shape, TypeNo, Types, row_inside,
-    without_options,
+    Contract, Flattened, Internal, Shape, TypeNo, Types, row_inside, without_options,
 };
 use std::alloc::{AllocError, Global};
 
@@ -294,13 +293,14 @@ fn is_bare<V: AnyVariant>(variant: &V) -> bool
     }
 }
 
-fn variants_have_no_enums(
+/// Whether no enum is among the members of a map of the variants into which rows are flattened.
+pub fn variants_have_no_enums<V: AnyVariant>(
     alloc: Global,
     types: &Types,
-    variants: &[InternalVariant],
+    variants: &[V],
 ) -> Result<bool, AllocError>
     ensures { IfOk result (λ b. IsTrue b
-        ↔ VariantsHaveNoEnums types.now (map internal_variant_of variants.now)) }
+        ↔ VariantsHaveNoEnums types.now (map V.says variants.now)) }
 {
     for variant in variants {
         if !has_no_enums(alloc, types, payload_parts(variant.payload()))? {
