@@ -1,9 +1,10 @@
 -- Definitions that are taken for OpenAPI accept what is written.
-use Rattle.std.proofs.Common.{◌≡◌, ◌<◌, ℕ, zero, suc, [], List, Option, Some, None, true, false, inl, inr, IfOk, IfErr, Result, Ok, Err, refl, sym, ap, arith, ◌∙◌, subst}
-use Rattle.schemars_accepted.proofs.Words.{is_some, Data, number, array, object, Members, no_members, get_member, Text, IsJson, resolved, IsSchema, verdict, Yes, No, Dialect, openapi3, Patterns, accepts, bound, read_data, follow, plain-components, resolved-definition, belongs, Row, place_of, is_inline_at, TypeRow, reference, IsPlainTable, IsOneToOne, name_of, is_in_place, IsKey, reference_to, components, components_of, components-found, TransformStep, IsReferenceOf, State, path_of, HasOwnDefinitions, MeanTheirRows, TakenHeadline, HasSameKeys, KeepsDefinitions, IsJoined, IsSubschemaOfType, with_rows, Generator, Transforms, held_transforms, settings_of, state, AreTransformed, AreGone, IsTakeRefusal, BelongsUnder, IsForOpenApi, DefinitionAccepts, ReferenceAccepts, TakenAccepts, HasJoined, AreTaken, IsNotTaken, IsTakenRefusal}
+use Rattle.std.proofs.Common.{◌≡◌, ◌<◌, ℕ, zero, suc, [], List, Option, Some, None, true, false, inr, IfOk, IfErr, Result, Ok, Err, refl, sym, ap, arith, ◌∙◌, subst}
+use Rattle.schemars_accepted.proofs.Words.{is_some, Data, number, array, object, Members, no_members, get_member, Text, IsJson, resolved, IsSchema, verdict, Yes, No, Dialect, openapi3, Patterns, accepts, bound, read_data, follow, plain-components, resolved-definition, belongs, Row, place_of, is_inline_at, TypeRow, reference, IsPlainForEach, IsOneToOne, name_of, is_in_place, IsKey, reference_to, components, components_of, components-found, TransformStep, IsReferenceOf, State, path_of, HasOwnDefinitions, MeanTheirRows, TakenHeadline, HasSameKeys, KeepsDefinitions, IsJoined, IsSubschemaOfType, with_rows, Generator, Transforms, held_transforms, settings_of, state, AreTransformed, AreGone, IsTakeRefusal, BelongsUnder, IsForOpenApi, DefinitionAccepts, ReferenceAccepts, TakenAccepts, HasJoined, AreTaken, IsNotTaken, IsTakenRefusal}
 use Rattle.serde_json.specs.Data.{null, boolean, string}
 use Rattle.schemars_types.specs.declared.contract.Contract.TheVariants.{Serialize}
 use Rattle.schemars_generate.specs.declared.error.GenerateError.{GenerateError}
+use Rattle.schemars_accepted.proofs.Rooting.{plain_for_each}
 
 -- ---- references
 
@@ -75,11 +76,12 @@ reference_leads reading s taken name schema v own same key is accept = go (get_m
 -- the definitions that a type's row needs are taken from s, and accept what belongs to the row
 pub taken_accepts : (reading : Patterns → Type 0) (t : TypeRow) (old s : State) (n : ℕ) (taken : Members) (schema v : Data)
     → old.settings.contract ≡ Serialize → path_of old ≡ components → s.settings ≡ old.settings → HasOwnDefinitions s → IsOneToOne s.names
-    → IsPlainTable s.rows → HasSameKeys taken s.definitions → TakenHeadline s taken → IsReferenceOf (with_rows s.rows old) s n schema
+    → IsPlainForEach Serialize s.rows → HasSameKeys taken s.definitions → TakenHeadline s taken → IsReferenceOf (with_rows s.rows old) s n schema
     → place_of t.id s.rows ≡ Some n → BelongsUnder reading s.rows n v → IsJson v
     → TakenAccepts reading t (record s { definitions = no_members }) taken schema v
 taken_accepts reading t old s n taken schema v contract path settings own one plain same headline is_reference placed belongs_to json =
-    let means = headline own (ap (λ x. path_of (record s { settings = x })) settings ∙ path) (inl plain) in
+    let means = headline own (ap (λ x. path_of (record s { settings = x })) settings ∙ path)
+    (plain_for_each openapi3 s.settings.contract s.rows (subst (λ c. IsPlainForEach c s.rows) (sym (ap (λ x. x.contract) settings ∙ contract)) plain)) in
     let accept = definition_accepts reading s n taken v one (ap (λ x. x.contract) settings ∙ contract) means belongs_to json in
     record {
       n = n;
@@ -178,7 +180,7 @@ module _ {O : Type 0} (t : TypeRow) (old mid : Generator O) (schema : Data) (is 
 
   -- what is taken for OpenAPI accepts what belongs to the row
   pub all_accept : (reading : Patterns → Type 0) (Q : TransformStep O) (new : Generator O) (taken : Members) (v : Data)
-      → IsForOpenApi old → IsOneToOne mid.names → IsPlainTable mid.rows
+      → IsForOpenApi old → IsOneToOne mid.names → IsPlainForEach Serialize mid.rows
       → AreTransformed Q (held_transforms mid) (held_transforms new) (state mid) taken → AreGone (state mid) (state new)
       → BelongsUnder reading mid.rows is.n v → IsJson v
       → TakenAccepts reading t (state new) taken schema v

@@ -17,7 +17,7 @@ pub use Rattle.schemars_build.specs.Placed.{is_in_place}
 pub use Rattle.schemars_build.specs.Registry.{IsKey, reference_to}
 pub use Rattle.schemars_accepted.specs.Laws.{follows_told, told_in_empty}
 pub use Rattle.schemars_accepted.specs.Told.{AreAsTold, IsToldIn}
-pub use Rattle.schemars_documents.specs.PlainTable.{IsPlainTable}
+pub use Rattle.schemars_documents.specs.PlainTable.{IsPlainForEach}
 pub use Rattle.schemars_generate.specs.Answers.{KeepsDefinitions}
 pub use Rattle.schemars_generate.specs.ByType.{IsJoined, IsRootOfType, IsRootOfTypeRefusal, IsSubschemaOfType, with_rows}
 unfoldable pub use Rattle.schemars_generate.specs.ByType.{MeansType}
@@ -25,7 +25,7 @@ pub use Rattle.schemars_generate.specs.Generator.{Generator, Transforms, held_tr
 pub use Rattle.schemars_generate.specs.Settings.{settings07, settings2019_09, settings_openapi3, transforms07, transforms2019_09, transforms_openapi3}
 pub use Rattle.schemars_generate.specs.Through.{AreGone, AreTransformed, IsTakeRefusal}
 pub use Rattle.schemars_headline.specs.Calls.{IsReferenceOf}
-pub use Rattle.schemars_headline.specs.Drafts.{Draft, Draft07, Draft2019_09, Draft2020_12}
+pub use Rattle.schemars_headline.specs.Drafts.{Draft, Draft07, Draft2019_09, Draft2020_12, dialect_of}
 pub use Rattle.schemars_headline.specs.Headline.{IsDraftPath, IsPlainFor, RootHeadline}
 pub use Rattle.schemars_headline.specs.State.{HasOwnDefinitions, Settings, State, path_of, settings2020_12, stripped}
 pub use Rattle.schemars_headline.specs.Taken.{HasSameKeys, MeanTheirRows, TakenHeadline}

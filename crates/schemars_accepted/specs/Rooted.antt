@@ -7,7 +7,7 @@ use Rattle.schemars_schema.specs.Judges.{Patterns}
 use Rattle.schemars_schema.specs.Acceptance.{accepts, bound}
 use Rattle.schemars_types.specs.Rows.{Row}
 use Rattle.schemars_types.specs.declared.contract.Contract.TheVariants.{Serialize}
-use Rattle.schemars_documents.specs.PlainTable.{IsPlainTable}
+use Rattle.schemars_documents.specs.PlainTable.{IsPlainForEach}
 use Rattle.schemars_headline.specs.Drafts.{Draft, dialect_of}
 use Rattle.schemars_headline.specs.Headline.{IsDraftPath}
 use Rattle.schemars_headline.specs.State.{State, HasOwnDefinitions, stripped}
@@ -41,10 +41,10 @@ AcceptsWritten reading draft path document v =
     (patterns : Patterns) → reading patterns → (followed : ℕ) → bound path document v ≤ followed
     → accepts (dialect_of draft) document patterns followed document v ≡ Yes
 
--- The table is refused only if it is not plain, and the value only if JSON does not have it; the document for a cause.
+-- The table is refused only if it is neither plain, nor plain under writing without flattened enums, and the value only if JSON does not have it; the document for a cause.
 abbrev pub RefusesRoot : (GenerateError → Type 0) → Type 0 → List Row → RootError → Type 0
 RefusesRoot Cause Valid rows OutOfMemory = Unit {0}
-RefusesRoot Cause Valid rows NotPlain = IsPlainTable rows → ⊥
+RefusesRoot Cause Valid rows NotPlain = IsPlainForEach Serialize rows → ⊥
 RefusesRoot Cause Valid rows (Generate e) = Cause e
 RefusesRoot Cause Valid rows (Write e) = e ≡ NotInJson → Valid → ⊥
 

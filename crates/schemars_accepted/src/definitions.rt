@@ -6,8 +6,9 @@ use crate::error::RootError;
 use crate::law::AgreesAsDescribed;
 use schemars_agreement::WriteError;
 use schemars_generate::{SchemaGenerator, SchemaSettings};
-use schemars_plain::is_plain;
+use schemars_plain::is_plain_for_each;
 use schemars_schema::Schema;
+use schemars_types::Contract;
 use schemars_validate::look;
 use schemars_walk::Transform;
 use serde_json::{Map, Value};
@@ -25,7 +26,8 @@ use std::alloc::Global;
 ///
 /// # Errors
 ///
-/// `NotPlain` if the table is not plain with the type; those of `subschema_for`, of
+/// `NotPlain` if with the type the table is neither plain, nor plain under writing without flattened
+/// enums; those of `subschema_for`, of
 /// `take_definitions` and of `to_member_value`. The generator is unchanged if JSON does not have
 /// the value or the type is refused. On any other error it has the type and its definitions, and
 /// none is taken.
@@ -54,7 +56,7 @@ pub fn to_accepted_definitions<T: AgreesAsDescribed, O: Transform + Drop>(
         Ok(schema) => schema,
         Err(error) => return Err(RootError::Generate(error)),
     };
-    match is_plain(alloc, generator.types()) {
+    match is_plain_for_each(alloc, Contract::Serialize, generator.types()) {
         Ok(true) => {}
         Ok(false) => return Err(RootError::NotPlain),
         Err(_) => return Err(RootError::OutOfMemory),

@@ -21,7 +21,8 @@ pub enum RootError {
     /// Out of memory.
     #[error("OutOfMemory")]
     OutOfMemory,
-    /// The table is not plain, so that nothing is promised of its documents.
+    /// The table is neither plain, nor plain under writing without flattened enums, so that nothing is
+    /// promised of its documents in some dialect.
     #[error("NotPlain")]
     NotPlain,
     /// The document is not generated.

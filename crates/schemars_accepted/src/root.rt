@@ -6,8 +6,9 @@ use crate::error::RootError;
 use crate::law::AgreesAsDescribed;
 use schemars_agreement::WriteError;
 use schemars_generate::{SchemaGenerator, SchemaSettings};
-use schemars_plain::is_plain;
+use schemars_plain::is_plain_for_each;
 use schemars_schema::Schema;
+use schemars_types::Contract;
 use schemars_validate::look;
 use schemars_walk::Transform;
 use serde_json::Value;
@@ -20,7 +21,8 @@ use std::alloc::Global;
 ///
 /// # Errors
 ///
-/// `NotPlain` if the table is not plain with the type; those of `root_schema_for` and of
+/// `NotPlain` if with the type the table is neither plain, nor plain under writing without flattened
+/// enums; those of `root_schema_for` and of
 /// `to_member_value`. The generator is unchanged if JSON does not have the value, and unchanged apart
 /// from the state of user-defined transforms if the document is not generated. On any other error it
 /// has the type and the definitions of its document.
@@ -48,7 +50,7 @@ pub fn to_accepted_root<T: AgreesAsDescribed, O: Transform + Drop>(
         Ok(document) => document,
         Err(error) => return Err(RootError::Generate(error)),
     };
-    match is_plain(alloc, generator.types()) {
+    match is_plain_for_each(alloc, Contract::Serialize, generator.types()) {
         Ok(true) => {}
         Ok(false) => return Err(RootError::NotPlain),
         Err(_) => return Err(RootError::OutOfMemory),

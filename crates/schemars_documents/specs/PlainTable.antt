@@ -1,6 +1,6 @@
 -- Tables of plain parts.
 -- This file is trusted: the theorem is stated in its words.
-use Rattle.std.specs.Prelude.{◌≡◌, ℕ, List, [], ◌∷◌, ◌++◌, map, Option, Some, None, Bool, true, false, not, is_some, ◌&&◌, bytes_eq}
+use Rattle.std.specs.Prelude.{◌≡◌, ◌⊎◌, ℕ, List, [], ◌∷◌, ◌++◌, map, Option, Some, None, Bool, true, false, not, is_some, ◌&&◌, bytes_eq}
 use Rattle.std.specs.List.{AllByRecursion}
 use Rattle.schemars_schema.specs.Json.{Text}
 use Rattle.schemars_text.specs.OrderedText.{is_listed}
@@ -272,6 +272,10 @@ EntryFlattensNoEnums rows (Some e) = ShapeFlattensNoEnums rows e.shape
 -- no enum is among the members of a map into which rows are flattened
 abbrev pub FlattensNoEnums : List Row → Type 0
 FlattensNoEnums rows = (n : ℕ) → EntryFlattensNoEnums rows (entry_at rows n)
+
+-- what is promised of the documents for the contract is promised in each dialect
+abbrev pub IsPlainForEach : Contract → List Row → Type 0
+IsPlainForEach contract rows = IsPlainTable rows ⊎ (FlattensNoEnums rows × IsPlainUnder contract rows)
 
 -- ---- notes and literals
 

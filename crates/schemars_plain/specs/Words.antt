@@ -1,5 +1,5 @@
 -- Words that many contracts of this crate name.
-pub use Rattle.schemars_documents.specs.PlainTable.{AreDistinct, AreDistinctVariants, AreNoted, ArePartsUnder, ArePlainParts, ArePlainVariants, AreTagged, EntryFlattensNoEnums, FlattensNoEnums, HasBareUnits, HasContent, HasNamesApart, HasNoEnums, HasVariant, HaveContents, IsBare, IsContentShape, IsEntryUnder, IsNoContent, IsNoName, IsOpenStruct, IsPartShape, IsPartUnder, IsPlainContent, IsPlainEntry, IsPlainPayload, IsPlainShape, IsPlainTable, IsPlainUnder, IsTagged, PayloadHasNamesApart, ShapeFlattensNoEnums, ShapeHasContents, ShapeHasNamesApart, VariantsHaveNamesApart, VariantsHaveNoEnums, all_payload_names, enum_names, enum_names_at, may_miss, parts_in, payload_parts, tag_names, variant_parts}
+pub use Rattle.schemars_documents.specs.PlainTable.{AreDistinct, AreDistinctVariants, AreNoted, ArePartsUnder, ArePlainParts, ArePlainVariants, AreTagged, EntryFlattensNoEnums, FlattensNoEnums, HasBareUnits, HasContent, HasNamesApart, HasNoEnums, HasVariant, HaveContents, IsBare, IsContentShape, IsEntryUnder, IsNoContent, IsNoName, IsOpenStruct, IsPartShape, IsPartUnder, IsPlainContent, IsPlainEntry, IsPlainForEach, IsPlainPayload, IsPlainShape, IsPlainTable, IsPlainUnder, IsTagged, PayloadHasNamesApart, ShapeFlattensNoEnums, ShapeHasContents, ShapeHasNamesApart, VariantsHaveNamesApart, VariantsHaveNoEnums, all_payload_names, enum_names, enum_names_at, may_miss, parts_in, payload_parts, tag_names, variant_parts}
 pub use Rattle.schemars_plain.specs.OneValue.{HasOneValue}
 pub use Rattle.schemars_plain.specs.Said.{as_said}
 pub use Rattle.schemars_schema.specs.Annotations.{AreNotes, is_annotation}

@@ -18,6 +18,6 @@ pub use fields::all_fields;
 pub use literal::{has_one_value, is_plain_literal, is_plain_member};
 pub use notes::{are_notes, is_annotation};
 pub use parts::have_plain_parts;
-pub use simple::flattens_no_enums;
+pub use simple::{flattens_no_enums, is_plain_for_each};
 pub use table::{is_plain, is_plain_row, is_plain_shape};
 pub use under::{has_names_apart, has_parts_under, is_plain_row_under, is_plain_under};

@@ -1,13 +1,36 @@
-//! Tables into which no enum is flattened.
+//! Tables into which no enum is flattened: what is promised of these is promised in each dialect.
 ghost use Rattle.std.specs.Prelude.{◌↔◌, IsTrue, IfOk, map};
-ghost use Rattle.schemars_plain.specs.Words.{shape_of, entry_at, EntryFlattensNoEnums, FlattensNoEnums, ShapeFlattensNoEnums};
+ghost use Rattle.schemars_plain.specs.Words.{shape_of, entry_at, EntryFlattensNoEnums, FlattensNoEnums, IsPlainForEach, ShapeFlattensNoEnums};
 
-use crate::under::{has_no_enums, variants_have_no_enums};
-use schemars_types::{Shape, TypeNo, Types};
+use crate::table::is_plain;
+use crate::under::{has_no_enums, is_plain_under, variants_have_no_enums};
+use schemars_types::{Contract, Shape, TypeNo, Types};
 use std::alloc::{AllocError, Global};
 
-/// Returns whether no enum is flattened. What is promised of a table that is plain under a contract
-/// then holds in Draft 7 and OpenAPI 3.0 too.
+/// Returns whether a table is plain, or is plain under a contract and flattens no enum: whether in
+/// each dialect the documents of its types for that contract are promised to accept exactly the
+/// values of the types.
+///
+/// # Errors
+///
+/// Only where memory runs out.
+pub fn is_plain_for_each(
+    alloc: Global,
+    contract: Contract,
+    types: &Types,
+) -> Result<bool, AllocError>
+    ensures { IfOk result (λ b. IsTrue b ↔ IsPlainForEach contract types.now) }
+{
+    if is_plain(alloc, types)? {
+        return Ok(true);
+    }
+    if !flattens_no_enums(alloc, types)? {
+        return Ok(false);
+    }
+    is_plain_under(alloc, contract, types)
+}
+
+/// Returns whether no enum is flattened.
 ///
 /// # Errors
 ///

@@ -1,5 +1,6 @@
 use Rattle.std.proofs.Common.{inr, subst, true, refl}
-use Rattle.schemars_accepted.proofs.Words.{view, members_view, place_of-below, IsChecked, IsPlainTable, IsAmong, as_read}
+use Rattle.schemars_accepted.proofs.Words.{view, members_view, place_of-below, IsChecked, IsPlainForEach, IsAmong, as_read}
+use Rattle.schemars_types.specs.declared.contract.Contract.TheVariants.{Serialize}
 use Rattle.schemars_accepted.proofs.Rooting.{joined_row}
 use Rattle.schemars_accepted.proofs.Taking.{none_taken, none_left, all_taken, take_refused, all_accept}
 use Rattle.schemars_accepted.proofs.definitions.to_accepted_definitions.Goals as goal
@@ -11,8 +12,8 @@ returns-in-Ok-false-clause-unchanged g c =
     none_taken g.T.JsonSchema.says c.args.generator.now c.subschema_for.new.self c.in-Ok.schema c.in-Ok.ensures.subschema
     c.subschema_for.ensures.own c.subschema_for.ensures.keeps c.subschema_for.ensures.rest
 
-pub returns-in-Err-is_plain-clause-unchanged : goal.returns-in-Err-is_plain-clause-unchanged
-returns-in-Err-is_plain-clause-unchanged g c =
+pub returns-in-Err-is_plain_for_each-clause-unchanged : goal.returns-in-Err-is_plain_for_each-clause-unchanged
+returns-in-Err-is_plain_for_each-clause-unchanged g c =
     none_taken g.T.JsonSchema.says c.args.generator.now c.subschema_for.new.self c.in-Ok.schema c.in-Ok.ensures.subschema
     c.subschema_for.ensures.own c.subschema_for.ensures.keeps c.subschema_for.ensures.rest
 
@@ -40,7 +41,7 @@ returns-in-Ok-take_definitions-clause-accepted g c = λ for.
     (λ d rows n told are checked there. g.met.T.AgreesAsDescribed.described d rows n told are checked there)
     c.args.generator.now.rows rows is.n c.requires.told is.joined checked in
     let h = c.in-Ok-to_value.ensures.events in
-    let plain : IsPlainTable rows = subst (λ rows. IsPlainTable rows) c.types.ensures.table
+    let plain : IsPlainForEach Serialize rows = subst (IsPlainForEach Serialize) c.types.ensures.table
     (c.in-Ok-true.ensures.0 c.in-Ok-true.field-0-test) in
     all_accept g.T.JsonSchema.says c.args.generator.now c.subschema_for.new.self c.in-Ok.schema is
     c.subschema_for.ensures.own c.subschema_for.ensures.keeps c.subschema_for.ensures.rest

@@ -1,11 +1,12 @@
 use Rattle.std.proofs.Common.{◌≡◌, ◌∙◌, refl, sym, subst, true, false}
-use Rattle.schemars_accepted.proofs.Words.{view, place_of-below, IsChecked, IsPlainTable, state, IsAmong, as_read}
+use Rattle.schemars_accepted.proofs.Words.{view, place_of-below, IsChecked, IsPlainForEach, state, IsAmong, as_read}
+use Rattle.schemars_types.specs.declared.contract.Contract.TheVariants.{Serialize}
 use Rattle.schemars_accepted.proofs.Rooting.{has_root, joined_row, root_accepts}
 use Rattle.schemars_accepted.proofs.root.to_accepted_root.Goals as goal
 
 pub returns-in-Ok-false-clause-refused : goal.returns-in-Ok-false-clause-refused
 returns-in-Ok-false-clause-refused g c = λ plain.
-    let same : IsPlainTable c.types.result.now = subst (λ rows. IsPlainTable rows) (sym c.types.ensures.table) plain in
+    let same : IsPlainForEach Serialize c.types.result.now = subst (IsPlainForEach Serialize) (sym c.types.ensures.table) plain in
     let never : false ≡ true = sym c.in-Ok-false.field-0-test ∙ c.in-Ok-false.ensures.1 same in
     absurd (cc)
 
@@ -20,7 +21,7 @@ returns-in-Ok-to_value-clause-accepted g c = λ draft writing.
     (λ d rows n told are checked there. g.met.T.AgreesAsDescribed.described d rows n told are checked there)
     c.args.generator.now.rows rows root.n c.requires.told root.joined checked in
     let h = c.in-Ok-to_value.ensures.events in
-    let plain : IsPlainTable rows = subst (λ rows. IsPlainTable rows) c.types.ensures.table
+    let plain : IsPlainForEach Serialize rows = subst (IsPlainForEach Serialize) c.types.ensures.table
     (c.in-Ok-true.ensures.0 c.in-Ok-true.field-0-test) in
     root_accepts (IsAmong g.T.Agrees.readings c.args.value.now) draft g.T.JsonSchema.says (state c.args.generator.now).settings rows root.n c.in-Ok.document (view c.in-Ok-to_value.written)
     (c.in-Ok.ensures.means draft (state c.args.generator.now).settings refl writing.settings.transforms writing.own writing.settings.path) number plain writing.settings.contract
@@ -42,8 +43,8 @@ returns-in-Ok-false-clause-left g c = (
       c.root_schema_for.ensures.own c.root_schema_for.ensures.keeps,
 )
 
-pub returns-in-Err-is_plain-clause-left : goal.returns-in-Err-is_plain-clause-left
-returns-in-Err-is_plain-clause-left g c = (
+pub returns-in-Err-is_plain_for_each-clause-left : goal.returns-in-Err-is_plain_for_each-clause-left
+returns-in-Err-is_plain_for_each-clause-left g c = (
   c.in-Ok.document,
   has_root g.O.Transform.makes g.T.JsonSchema.says c.args.generator.now c.root_schema_for.new.self c.in-Ok.document c.in-Ok.ensures.root
       c.root_schema_for.ensures.own c.root_schema_for.ensures.keeps,
