@@ -1,12 +1,12 @@
 -- What a call makes of what a generator holds.
 use Rattle.std.proofs.Common.{◌≡◌, inl, inr, ℕ, List, [], ◌∷◌, length, Bool, true, false, Option, Some, None, refl, sym, ap, ◌∙◌, arith, subst, true≢false, Result, Ok, Err, IsErrAnd, IfErr}
-use Rattle.schemars_headline.proofs.Words.{if◌then◌else◌, Data, Members, get_member, has_float, members_have_float, Dialect, draft2020_12, placed_at, Text, Row, name_at, IsChecked, plain_under, name_of, IsOneToOne, reference, root_document, Basis, HasKeysOnce, IsPlainUnder, HasPlainNotes, Plan, Registry, IsKey, Refers, reference_to, basis_of_plan, State, state_plan, registry_of, HasOwnDefinitions, IsDraftPath, IsRootOf, with_definitions, IsPlaced, IsSubschema, document_describes, references, members_view, DirectEdge, SameValueEdge, IsAccepted, HasNoFloat, IsDefinition, Step, after_root, IsPlainFor, RootHeadline, IsTitledRoot, CannotPlace, is_in_place, IsDocument, IsDocumentOf, placed_map, document-wider, AreReached, Wider, step_wider, definition-wider, IsDistinct, height, rank}
+use Rattle.schemars_headline.proofs.Words.{if◌then◌else◌, Data, Members, get_member, has_float, members_have_float, draft2020_12, placed_at, Text, Row, name_at, IsChecked, name_of, IsOneToOne, reference, root_document, Basis, HasKeysOnce, HasPlainNotes, Plan, Registry, IsKey, Refers, reference_to, basis_of_plan, State, state_plan, registry_of, HasOwnDefinitions, IsDraftPath, IsRootOf, with_definitions, IsPlaced, IsSubschema, document_describes, references, members_view, DirectEdge, SameValueEdge, IsAccepted, HasNoFloat, IsDefinition, Step, after_root, RootHeadline, IsTitledRoot, CannotPlace, is_in_place, IsDocument, IsDocumentOf, placed_map, document-wider, AreReached, Wider, step_wider, definition-wider, IsDistinct, height, rank}
 use Rattle.serde_json.proofs.Views.{Entry as Entries}
 use Rattle.schemars_cycles.specs.Walks as walks
 use Rattle.schemars_types.specs.declared.contract.Contract.{Contract}
 use Rattle.schemars_headline.proofs.Standing.{Stands, AllStand, stands_now, stands_before}
 use Rattle.schemars_headline.proofs.Floats.{described_whole, root_whole, definitions_whole, whole_with_definitions}
-use Rattle.schemars_headline.proofs.Roots.{root_placed, root_call_means}
+use Rattle.schemars_headline.proofs.Roots.{plain_for, root_placed, root_call_means}
 
 -- ---- definitions between calls
 
@@ -103,12 +103,6 @@ part_own s new same step own =
     subst HasOwnDefinitions (sym same) (definitions_kept s None (registry_of new) refl step own)
 
 -- ---- root documents
-
--- a plain table is plain under each contract
-pub plain_for : (dialect : Dialect) (contract : Contract) (rows : List Row) → IsPlainFor dialect contract rows
-    → IsPlainUnder contract rows
-plain_for dialect contract rows (inl plain) = plain_under rows contract plain
-plain_for dialect contract rows (inr (reads, plain)) = plain
 
 pub root_means : (s : State) (n : ℕ) (w : Registry) (d : Data) → IsChecked s.rows → IsRootOf s n w d → HasKeysOnce w.definitions
     → IsOneToOne w.names → RootHeadline draft2020_12 s n d

@@ -5,7 +5,8 @@ use Rattle.schemars_types.specs.declared.contract.Contract.{Contract}
 use Rattle.schemars_headline.proofs.Standing.{MayRefer, AllStand}
 use Rattle.schemars_headline.proofs.Standing as standings
 use Rattle.schemars_headline.proofs.Placed.{StandsAt, holds_put, draft_key}
-use Rattle.schemars_headline.proofs.Calls.{definitions_in, root_means, plain_for}
+use Rattle.schemars_headline.proofs.Calls.{definitions_in, root_means}
+use Rattle.schemars_headline.proofs.Roots.{plain_for}
 use Rattle.schemars_headline.proofs.Changes.{Class, IsDraft2019_09, without_rest, with_rest, for_openapi, for_items}
 use Rattle.schemars_headline.proofs.Classes.{described-good}
 use Rattle.schemars_headline.proofs.StructClass.{described-simple, described-under}

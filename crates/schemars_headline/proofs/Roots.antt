@@ -1,6 +1,6 @@
 -- Root documents mean their types, and so do subschemas beside their definitions.
 use Rattle.std.proofs.Common.{[], ◌≡◌, inl, inr, ℕ, List, Option, Some, None, Bool, true, refl, sym, ap, ◌∙◌, subst, arith}
-use Rattle.schemars_headline.proofs.Words.{is_some, Data, object, Members, get_member, Text, IsSchema, members_in, resolved, references, resolves, Dialect, Patterns, Judge, judge, draft2020_12, follow, IsSilent, context2020_12, Entry, Shape, Field, Flattened, Row, name_at, entry_at, IsChecked, root_document, IsWritten, Describes, HasPlainLiteral, IsPlainUnder, IsPlainTable, IsNotedEntry, HasPlainNotes, HasPlainNotesThroughout, plain_under, IsOneToOne, Plan, Registry, Refers, basis_of_plan, allow_null, State, state_plan, registry_of, HasOwnDefinitions, IsRootOf, MeansItsType, IsDraftPath, with_definitions, HasKeysOnce, describes-wider, IsSubschema, document_describes, described, under_rows, judge-put, IsDraft, AcceptsNullToo, expanded_shape, flattened_in, part_enums, IsPlainShape, IsEntryUnder, written_or_null, MeansItsTypeIn, SubschemaHeadline, judge-root, written_map, placed_written}
+use Rattle.schemars_headline.proofs.Words.{is_some, Data, object, Members, get_member, Text, IsSchema, members_in, resolved, references, resolves, Dialect, Patterns, Judge, judge, draft2020_12, follow, IsSilent, context2020_12, Entry, Shape, Field, Flattened, Row, name_at, entry_at, IsChecked, root_document, IsWritten, Describes, HasPlainLiteral, IsPlainFor, IsPlainUnder, IsPlainTable, IsNotedEntry, HasPlainNotes, HasPlainNotesThroughout, plain_under, IsOneToOne, Plan, Registry, Refers, basis_of_plan, allow_null, State, state_plan, registry_of, HasOwnDefinitions, IsRootOf, MeansItsType, IsDraftPath, with_definitions, HasKeysOnce, describes-wider, IsSubschema, document_describes, described, under_rows, judge-put, IsDraft, AcceptsNullToo, expanded_shape, flattened_in, part_enums, IsPlainShape, IsEntryUnder, written_or_null, MeansItsTypeIn, SubschemaHeadline, judge-root, written_map, placed_written}
 use Rattle.schemars_types.specs.declared.contract.Contract.{Contract}
 use Rattle.schemars_shapes.specs.Shape as shape
 use Rattle.schemars_headline.proofs.Keys.{all_members, IsDefinitionsKey}
@@ -148,6 +148,12 @@ root_call_means old n w document h checked one once definitions draft =
 
 -- ---- subschemas
 
+-- a plain table is plain under each contract
+pub plain_for : (dialect : Dialect) (contract : Contract) (rows : List Row) → IsPlainFor dialect contract rows
+    → IsPlainUnder contract rows
+plain_for dialect contract rows (inl plain) = plain_under rows contract plain
+plain_for dialect contract rows (inr (reads, plain)) = plain
+
 -- a subschema means its type in each document that holds its definitions
 pub subschema_means : (plan : Plan) (w : Registry) (n : ℕ) (free : Bool) (depth : ℕ) (schema document : Data) → IsChecked plan.rows
     → IsOneToOne w.names → plan.root ≡ None → AllStand plan w
@@ -176,7 +182,7 @@ subschema_headline s n free schema checked one definitions h plain known documen
     let written = placed_written (basis_of_plan plan) plan.inlines (Refers plan free (registry_of s)) [] n schema h in
     subschema_means plan (registry_of s) n free written.0 schema document checked one refl
     (λ name d found. stands_now plan (registry_of s) name d (definitions name d found)) written.1
-    (plain_under s.rows s.settings.contract plain) (held plan.path s.definitions document known holding)
+    (plain_for draft2020_12 s.settings.contract s.rows plain) (held plan.path s.definitions document known holding)
 
 -- with null added, a subschema of a plain table accepts under each draft what it accepted, and null
 pub subschema_or_null : (s : State) (n : ℕ) (free : Bool) (schema : Data) → IsSubschema (state_plan s None) free (registry_of s) n schema

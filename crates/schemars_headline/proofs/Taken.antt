@@ -9,7 +9,7 @@ use Rattle.schemars_headline.proofs.DialectsResolving.{each-resolves}
 use Rattle.schemars_headline.proofs.Changes.{IsGood, without_rest, for_openapi}
 use Rattle.schemars_headline.proofs.Classes.{described-good}
 use Rattle.schemars_headline.proofs.StructClass.{described-simple}
-use Rattle.schemars_headline.proofs.Calls.{plain_for}
+use Rattle.schemars_headline.proofs.Roots.{plain_for}
 
 -- ---- names of these definitions
 

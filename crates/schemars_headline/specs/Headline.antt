@@ -105,7 +105,7 @@ pub record MeansItsTypeIn (rows : List Row) (contract : Contract) (path : Text) 
 -- in each document that holds the definitions at the path
 abbrev pub SubschemaHeadline : State → ℕ → Data → Type 0
 SubschemaHeadline s n schema =
-    IsPlainTable s.rows → IsKnownPath (path_of s) → (document : Data) → IsHolding (path_of s) s.definitions document
+    IsPlainFor draft2020_12 s.settings.contract s.rows → IsKnownPath (path_of s) → (document : Data) → IsHolding (path_of s) s.definitions document
     → MeansItsTypeIn s.rows s.settings.contract (path_of s) n s.definitions document schema
 
 -- ---- rows in place
