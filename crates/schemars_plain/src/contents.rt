@@ -61,11 +61,7 @@ pub fn has_plain_contents(alloc: Global, types: &Types, shape: &Shape) -> Result
     }
 }
 
-fn are_plain_contents(
-    alloc: Global,
-    types: &Types,
-    internal: &Internal,
-) -> Result<bool, AllocError>
+fn are_plain_contents(alloc: Global, types: &Types, internal: &Internal) -> Result<bool, AllocError>
     ensures { IfOk result (λ b. IsTrue b ↔ HaveContents (IsPlainContent types.now)
         (internal_view internal.now).0 (internal_view internal.now).2) }
 {
