@@ -1,6 +1,6 @@
 -- What a call makes of what a generator holds.
 use Rattle.std.proofs.Common.{◌≡◌, inl, inr, ℕ, List, [], ◌∷◌, length, Bool, true, false, Option, Some, None, refl, sym, ap, ◌∙◌, arith, subst, true≢false, Result, Ok, Err, IsErrAnd, IfErr}
-use Rattle.schemars_headline.proofs.Words.{if◌then◌else◌, Data, Members, get_member, has_float, members_have_float, draft2020_12, placed_at, Text, Row, name_at, IsChecked, name_of, IsOneToOne, reference, root_document, Basis, HasKeysOnce, HasPlainNotes, Plan, Registry, IsKey, Refers, reference_to, basis_of_plan, State, state_plan, registry_of, HasOwnDefinitions, IsDraftPath, IsRootOf, with_definitions, IsPlaced, IsSubschema, document_describes, references, members_view, DirectEdge, SameValueEdge, IsAccepted, HasNoFloat, IsDefinition, Step, after_root, RootHeadline, IsTitledRoot, CannotPlace, is_in_place, IsDocument, IsDocumentOf, placed_map, document-wider, AreReached, Wider, step_wider, definition-wider, IsDistinct, height, rank}
+use Rattle.schemars_headline.proofs.Words.{if◌then◌else◌, Data, Members, get_member, has_float, members_have_float, draft2020_12, placed_at, Text, name_at, IsChecked, name_of, IsOneToOne, reference, root_document, Basis, HasKeysOnce, HasPlainNotes, Plan, Registry, IsKey, Refers, reference_to, basis_of_plan, State, state_plan, registry_of, HasOwnDefinitions, IsDraftPath, IsRootOf, with_definitions, IsPlaced, IsSubschema, document_describes, references, members_view, DirectEdge, SameValueEdge, IsAccepted, HasNoFloat, IsDefinition, Step, after_root, RootHeadline, IsTitledRoot, CannotPlace, is_in_place, IsDocument, IsDocumentOf, placed_map, document-wider, AreReached, Wider, step_wider, definition-wider, IsDistinct, height, rank}
 use Rattle.serde_json.proofs.Views.{Entry as Entries}
 use Rattle.schemars_cycles.specs.Walks as walks
 use Rattle.schemars_headline.proofs.Standing.{Stands, AllStand, stands_now, stands_before}

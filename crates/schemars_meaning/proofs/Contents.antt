@@ -1,9 +1,12 @@
 -- A struct beside the tag of a variant: what it means, and what its document says, which is in place or a reference.
-use Rattle.std.proofs.Common.{◌≡◌, ℕ, ◌<◌, List, [], ◌∷◌, map, Option, Some, None, Bool, true, false, option_map, refl, sym, ap, ◌∙◌, subst, true≢false}
-use Rattle.schemars_meaning.proofs.Words.{bytes_eq, if◌then◌else◌, is_some, not, ◌&&◌, ◌||◌, and-true, and-false, and_assoc, and_comm, or-true, codes, bytes_eq-Decides, Data, null, boolean, number, string, array, object, Members, no_members, member, depth, get_member, get_member-without, Text, IsJson, IsSchema, AreJsonMembers, is_annotation, without, verdict, both, both-verdict, both-yes, required_names, with_same_object, with_same_objects, Judge, Patterns, Context, judge, context2020_12, read_data, all_keywords, reference, type_alone, internally_tagged_variant, option_map_or, Field, VariantMatch, IsNoName, Member, member_named, has_each, every_member, field_member, has_fields, has_content, has_tagged, holds, tag_member, AreDistinct, AreNoted, opened_inside, opening, forms, form_at, in_keywords, same_object_place, must_be_in_place, closes_by, closes_inside, is_false, has_type, NoSchemas, annotation-not_listed, IsSorted}
+use Rattle.std.proofs.Common.{◌≡◌, ℕ, ◌<◌, List, [], ◌∷◌, map, Some, None, Bool, true, false, refl, sym, ap, ◌∙◌, subst, true≢false}
+use Rattle.schemars_meaning.proofs.Words.{bytes_eq, if◌then◌else◌, is_some, not, ◌&&◌, ◌||◌, and-true, and_assoc, and_comm, or-true, codes, bytes_eq-Decides, Data, null, object, Members, no_members, member, depth, get_member, get_member-without, Text, IsJson, IsSchema, AreJsonMembers, is_annotation, without, verdict, both, both-verdict, both-yes, required_names, Judge, Patterns, Context, judge, context2020_12, read_data, all_keywords, reference, type_alone, internally_tagged_variant, option_map_or, Field, IsNoName, Member, member_named, has_each, every_member, field_member, has_fields, has_content, has_tagged, holds, tag_member, AreDistinct, AreNoted, opened_inside, opening, forms, form_at, in_keywords, same_object_place, must_be_in_place, has_type, NoSchemas, IsSorted}
 use Rattle.schemars_types.specs.declared.contract.Contract.{Contract}
 use Rattle.schemars_types.specs.Meaning.{is_text}
 use Rattle.schemars_text.proofs.Members.{get_member-member}
+use Rattle.schemars_schema.specs.References.{with_same_object, with_same_objects}
+use Rattle.schemars_schema.proofs.Objects.{annotation-not_listed}
+use Rattle.schemars_flatten.specs.Opening.{closes_by, closes_inside, is_false}
 use Rattle.schemars_meaning.proofs.Joining.{without-here}
 use Rattle.schemars_meaning.proofs.MapKeywords.{closed_there}
 use Rattle.schemars_meaning.proofs.MapForm.{look_up}
@@ -215,7 +218,7 @@ module _ (patterns : Patterns) (f : Text → Judge) (contract : Contract) (W : �
             ∙ (ap (λ z. b || z) (or-true (has_type (codes "null") (object a.members))) ∙ or-true b)
 
         go : (o : Bool) → closed ≡ o → o ≡ false
-        go false open = refl
+        go false opened = refl
         go true shut = absurd (true≢false (sym (must shut) ∙ (ap (must_be_in_place b) (sym a.is) ∙ is)))
 
   -- ---- beside the tag

@@ -1,5 +1,5 @@
 -- Null can be added to each document of a table that is plain under its contract.
-use Rattle.std.proofs.Common.{◌≡◌, ◌⊎◌, inl, inr, ℕ, zero, suc, ◌<◌, List, [], Bool, true, false, ◌∙◌, Option, Some, None, refl, sym, subst, arith}
+use Rattle.std.proofs.Common.{◌≡◌, ◌⊎◌, inl, inr, ℕ, zero, suc, ◌<◌, List, true, false, ◌∙◌, Option, Some, None, refl, sym, subst, arith}
 use Rattle.schemars_meaning.proofs.Words.{IsContentEntry, IsContentShape, IsPlainContent, ShapeHasContents, content, opened_inside, must_be_in_place, effective, Data, null, Text, Patterns, Judge, context2020_12, IsReady, Fields, Shape, Entry, entry_at, flattened_in, part_enums, expanded_shape_in, IsPlainShape, ArePartsUnder, IsEntryUnder, parts_in, Basis, Ask, asks_of, filled, struct_template, template_of, Fills, IsOwnDocument, IsAnswered, IsWritten, Describes}
 use Rattle.schemars_shapes.specs.Shape as shape
 use Rattle.schemars_meaning.proofs.Filling.{Fit}
@@ -34,21 +34,21 @@ module _ (patterns : Patterns) (f : Text → Judge) (basis : Basis) (Refers : �
 
   -- what stands beside a tag is written as a part is
   pub beside_written : (d : ℕ) (tag : Text) (n : ℕ) (t : Data) → IsPlainContent rows tag n → Answer d (content n) t → In d n t
-  beside_written d tag n t fits answer = by (entry_at rows n) refl fits answer.4
+  beside_written d tag n t fits answer = by (entry_at rows n) refl fits answer.2.2
     where
-      struct : (e : Entry) → entry_at rows n ≡ Some e → (k : Shape) → e.shape ≡ k → IsContentShape rows tag k → opened_inside answer.2 ≡ answer.2
+      struct : (e : Entry) → entry_at rows n ≡ Some e → (k : Shape) → e.shape ≡ k → IsContentShape rows tag k → opened_inside answer.2.0 ≡ answer.2.0
       struct e at (shape.struct x) is fits =
           let a = struct_of patterns f basis Refers settled ranks some zero (λ d j t w is js less. absurd (omega arith)) null tt (omega arith) 0
-          (omega arith) d n e at x is fits.1 answer.2 answer.3 in
-          struct_stays patterns f contract (In a.0) null (effective (flattened_in rows) x) x.closed answer.2 a.1
+          (omega arith) d n e at x is fits.1 answer.2.0 answer.2.1 in
+          struct_stays patterns f contract (In a.0) null (effective (flattened_in rows) x) x.closed answer.2.0 a.1
       struct e at _ is fits = absurd fits
 
       by : (o : Option Entry) → entry_at rows n ≡ o → IsContentEntry rows tag o
-          → ((must_be_in_place answer.0 answer.2 ≡ true) × (t ≡ opened_inside answer.2))
-          ⊎ ((must_be_in_place answer.0 answer.2 ≡ false) × In d n t) → In d n t
+          → ((must_be_in_place answer.0 answer.2.0 ≡ true) × (t ≡ opened_inside answer.2.0))
+          ⊎ ((must_be_in_place answer.0 answer.2.0 ≡ false) × In d n t) → In d n t
       by None at fits how = absurd fits
       by (Some e) at fits (inl opens) =
-          inr (subst (Describes basis Refers d n) (sym (opens.1 ∙ struct e at e.shape refl fits)) answer.3)
+          inr (subst (Describes basis Refers d n) (sym (opens.1 ∙ struct e at e.shape refl fits)) answer.2.1)
       by (Some e) at fits (inr written) = written.1
 
   pub bare_ready : (d : ℕ) → ((j : ℕ) (t : Data) → In d j t → IsReady t) → (kind : Shape) (s : Data) → IsPlainShape (expanded_shape_in rows kind)

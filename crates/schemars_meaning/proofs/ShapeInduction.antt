@@ -305,5 +305,5 @@ module _ (others : Flattened → List Field) (enums : Flattened → List ℕ) (F
       → ShapeHasContents Fits (shape.enum tagging xs) → ArePlainVariants (map (expanded_variant others enums) xs) × AreBeside tagging xs
   plain_variants shape.by_name xs h fit = (h.1, tt)
   plain_variants shape.by_nothing xs h fit = (h, tt)
-  plain_variants (shape.by_tag tag closed) xs h fit = (h.1, h.2, fit)
+  plain_variants (shape.by_tag tag closed) xs h fit = (h.1, (h.2, fit))
   plain_variants (shape.by_tag_and_content tag key closed) xs h fit = (h.2, h.0)

@@ -1,8 +1,9 @@
 -- In a table that is plain under its contract the documents of structs, payloads and shapes say under 2020-12 what they mean, with
 -- steps counted down, where those of smaller values do.
 use Rattle.std.proofs.Common.{◌≡◌, ◌⊎◌, inl, inr, ℕ, zero, suc, ◌+◌, ◌*◌, ◌<◌, ◌≤◌, List, [], ◌∷◌, Option, Some, None, Bool, true, false, map, refl, sym, ap, ◌∙◌, subst, arith, ◌++◌}
-use Rattle.schemars_meaning.proofs.Words.{fun_ext, Entry, entry_at, HasNoEnums, IsNoName, IsEntryUnder, IsContentEntry, IsContentShape, IsPlainContent, HasContent, HaveContents, ShapeHasContents, IsOwnDocument, content, opened_inside, must_be_in_place, internally_tagged_variant, has_content, has_fields, reference, mul-le-mul_right, Data, depth, Text, IsJson, IsSchema, verdict, Context, Judge, Patterns, judge, context2020_12, ready-schema, IsReady, Field, Fields, Flattened, Payload, no_payload, newtype_payload, tuple_payload, struct_payload, Shape, Variant, Row, effective, flattened_in, flattened_enums, part_enums, enum_at, expanded_payload, expanded_variant, expanded_shape_in, VariantMatch, is_required, matches_of, has_payload, belongs_within, choices_within, has_shape, key_options, IsPlainPayload, ArePartsUnder, payload_parts, ArePlainVariants, IsTagged, AreTagged, IsPlainShape, parts_in, variant_parts, Basis, Ask, Template, members_of, asked, asks_of, filled, first, left, struct_template, payload_template, fields_template, with_flattened, template_of, IsAnswered, IsWritten, Describes, Fills, flattened-schema, IsPartUnder, with_keywords}
+use Rattle.schemars_meaning.proofs.Words.{Entry, entry_at, HasNoEnums, IsNoName, IsEntryUnder, IsContentEntry, IsContentShape, IsPlainContent, HasContent, HaveContents, ShapeHasContents, IsOwnDocument, content, opened_inside, must_be_in_place, internally_tagged_variant, has_content, has_fields, reference, mul-le-mul_right, Data, depth, Text, IsJson, IsSchema, verdict, Context, Judge, Patterns, judge, context2020_12, ready-schema, IsReady, Field, Fields, Flattened, Payload, no_payload, newtype_payload, tuple_payload, struct_payload, Shape, Variant, Row, effective, flattened_in, flattened_enums, part_enums, enum_at, expanded_payload, expanded_variant, expanded_shape_in, VariantMatch, is_required, matches_of, has_payload, belongs_within, choices_within, has_shape, key_options, IsPlainPayload, ArePartsUnder, payload_parts, ArePlainVariants, IsTagged, AreTagged, IsPlainShape, parts_in, variant_parts, Basis, Ask, Template, members_of, asked, asks_of, filled, first, left, struct_template, payload_template, fields_template, with_flattened, template_of, IsAnswered, IsWritten, Describes, Fills, flattened-schema, IsPartUnder, with_keywords}
 use Rattle.schemars_shapes.specs.Shape as shape
+use Rattle.std.proofs.Math.Path.{fun_ext}
 use Rattle.schemars_types.specs.declared.contract.Contract.{Contract}
 use Rattle.schemars_meaning.proofs.Filling.{Fit}
 use Rattle.schemars_meaning.proofs.ByShape.{tuple_fills, tuple_document, others_fill}
@@ -227,7 +228,7 @@ module _ (patterns : Patterns) (f : Text → Judge) (basis : Basis) (Refers : �
 
         beside : (e : Entry) → entry_at rows n ≡ Some e → (x : Fields) → e.shape ≡ shape.struct x
             → IsNoName tag (effective (flattened_in rows) x) → HasNoEnums rows x.flatten → Goal t
-        beside e at x is apart none = by answer.4
+        beside e at x is apart none = by answer.2.2
           where
             xs : List Field
             xs = effective (flattened_in rows) x
@@ -248,15 +249,15 @@ module _ (patterns : Patterns) (f : Text → Judge) (basis : Basis) (Refers : �
                 of_row x.closed refl u (struct_beside patterns f contract (In a.0) w xs (B m) (schemas a.0) js (agree w within m enough a.0)
                 tag name deny apart x.closed u fine.0 fine.1 a.1)
 
-            by : ((must_be_in_place answer.0 answer.2 ≡ true) × (t ≡ opened_inside answer.2))
-                ⊎ ((must_be_in_place answer.0 answer.2 ≡ false) × In d n t) → Goal t
+            by : ((must_be_in_place answer.0 answer.2.0 ≡ true) × (t ≡ opened_inside answer.2.0))
+                ⊎ ((must_be_in_place answer.0 answer.2.0 ≡ false) × In d n t) → Goal t
             by (inl (must, opens)) =
-                let a = struct_of w js within m enough d n e at x is none answer.2 answer.3 in
-                subst Goal (sym (opens ∙ struct_stays patterns f contract (In a.0) w xs x.closed answer.2 a.1)) (in_place answer.2 answer.3)
+                let a = struct_of w js within m enough d n e at x is none answer.2.0 answer.2.1 in
+                subst Goal (sym (opens ∙ struct_stays patterns f contract (In a.0) w xs x.closed answer.2.0 a.1)) (in_place answer.2.0 answer.2.1)
             by (inr (may, inr own)) = in_place t own
             by (inr (may, inl (r, refers, is_reference))) =
-                let a = struct_of w js within m enough d n e at x is none answer.2 answer.3 in
-                let closed : x.closed ≡ false = struct_open patterns f contract (In a.0) w xs x.closed answer.2 a.1 answer.0 may in
+                let a = struct_of w js within m enough d n e at x is none answer.2.0 answer.2.1 in
+                let closed : x.closed ≡ false = struct_open patterns f contract (In a.0) w xs x.closed answer.2.0 a.1 answer.0 may in
                 subst Goal (sym is_reference) (of_row false closed (reference r) (reference_beside patterns f contract (In d) w xs (B m) (schemas d)
                 js (agree w within m enough d) tag name deny apart r
                 (same (reference r) (inl (r, refers, refl)) ∙ ap (λ p. verdict (p w)) (sym (means false closed)))))
@@ -340,10 +341,10 @@ module _ (patterns : Patterns) (f : Text → Judge) (basis : Basis) (Refers : �
 
         inside_one : (p : Payload) → IsPlainPayload (spreads p) → IsTagged tag (spreads p) → HasContent (IsPlainContent rows) tag p
             → ((n : ℕ) → p ≡ newtype_payload n → Known n) → ArePartsUnder contract rows (payload_parts p) → Room (payload_parts p) → Held p
-        inside_one no_payload fine tagged content known under room = tt
-        inside_one (newtype_payload n) fine tagged content known under room = (known n refl, content)
-        inside_one (tuple_payload ns) fine tagged content known under room = absurd tagged
-        inside_one (struct_payload y) fine tagged content known under room = ((under, room), fine.0, fine.1)
+        inside_one no_payload fine tagged beside known under room = tt
+        inside_one (newtype_payload n) fine tagged beside known under room = (known n refl, beside)
+        inside_one (tuple_payload ns) fine tagged beside known under room = absurd tagged
+        inside_one (struct_payload y) fine tagged beside known under room = ((under, room), fine.0, fine.1)
 
         inside_each : (xs : List Variant) → ArePlainVariants (map each xs) → AreTagged tag (map each xs)
             → HaveContents (IsPlainContent rows) tag xs → ((n : ℕ) → IsNewtypeIn n xs → Known n) → ArePartsUnder contract rows (variant_parts xs)
