@@ -21,10 +21,12 @@ pub fn is_plain_for_each(
 ) -> Result<bool, AllocError>
     ensures { IfOk result (λ b. IsTrue b ↔ IsPlainForEach contract types.now) }
 {
-    if is_plain(alloc, types)? {
+    let plain = is_plain(alloc, types)?;
+    if plain {
         return Ok(true);
     }
-    if !flattens_no_enums(alloc, types)? {
+    let has_none = flattens_no_enums(alloc, types)?;
+    if !has_none {
         return Ok(false);
     }
     is_plain_under(alloc, contract, types)
