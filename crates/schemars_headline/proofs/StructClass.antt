@@ -130,12 +130,16 @@ module _ (R : Demand) where
         none,
         (
           form.at (codes "minContains") refl,
-          form.at (codes "maxContains") refl,
-          form.at (codes "dependentRequired") refl,
-          form.at (codes "dependentSchemas") refl,
-          form.at (codes "unevaluatedItems") refl,
-          form.at (codes "dependencies") refl,
-          tt,
+          (
+            form.at (codes "maxContains") refl,
+            (
+              form.at (codes "dependentRequired") refl,
+              (
+                form.at (codes "dependentSchemas") refl,
+                (form.at (codes "unevaluatedItems") refl, (form.at (codes "dependencies") refl, tt)),
+              ),
+            ),
+          ),
         ),
       )
 
