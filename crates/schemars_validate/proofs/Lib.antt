@@ -21,4 +21,5 @@ pub mod Keeping
 pub mod Recalling
 pub mod Uniting
 pub mod PartsKnown
+pub mod Chaining
 mod Words

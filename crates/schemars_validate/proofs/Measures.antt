@@ -172,7 +172,17 @@ less_times (suc n) w h = grind arith
 
 -- a schema of a document, with one reference less
 pub reference_less : (left : ℕ) (document : Data) (d : ℕ) → 0 < left → d ≤ depth document
-    → work (left - 1) document d 2 < work left document 0 12
+    → work (left - 1) document d 2 < work left document 0 11
 reference_less left document d some shallow =
     let step = less_times left (16 * depth document + 16) some in
     omega (arith, step)
+
+-- fewer references are left
+pub fewer_less : (rest left : ℕ) (document : Data) → 0 < left → rest ≤ left - 1 → work rest document 0 12 < work left document 0 10
+fewer_less rest left document some few =
+    let step = less_times left (16 * depth document + 16) some in
+    let under = times_le rest (left - 1) (16 * depth document + 16) few in
+    omega (arith, step, under)
+  where
+    times_le : (m n w : ℕ) → m ≤ n → m * w ≤ n * w
+    times_le m n w h = grind arith

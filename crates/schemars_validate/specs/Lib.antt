@@ -5,3 +5,4 @@ pub mod Joined
 pub mod Parts
 pub mod Words
 pub mod Memos
+pub mod Chains

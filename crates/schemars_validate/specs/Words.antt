@@ -6,6 +6,7 @@ pub use Rattle.schemars_schema.specs.Dialects.{reads_dependencies}
 pub use Rattle.schemars_schema.specs.Evaluated.{judged_beside, judged_by, judged_by_condition, judged_by_contains, judged_by_reference, judged_by_some, judged_itself}
 pub use Rattle.schemars_schema.specs.Judges.{Raw, where_some}
 pub use Rattle.schemars_schema.specs.Lookup.{resolved, schema_only}
+pub use Rattle.schemars_text.specs.OrderedText.{is_listed}
 pub use Rattle.schemars_schema.specs.Verdict.{No, Yes, all_of, is_yes}
 pub use Rattle.schemars_validate.specs.Joined.{joined_by, so_far, taken_by, with_one}
 pub use Rattle.schemars_validate.specs.Judged.{at_keys, at_positions, each_unmarked, each_unmarked_item, first_marked, fits_at, is_marked, is_matched, is_named, is_placed, is_taken, judged_beside_members, judged_by_one, keys_in, marked, matches_one, parts_of, positions_in, united, unmarked, unmarked_by}

@@ -1,6 +1,7 @@
 //! What a schema of a document says of a value, decided.
 #![tactic(auto)]
 
+mod chains;
 mod document;
 mod found;
 mod joined;
@@ -8,6 +9,7 @@ mod judge;
 mod marks;
 mod memo;
 
+pub use chains::lone_reference;
 pub use document::{
     bound, is_valid, judged, judged_with, validate, validate_document, validate_with,
 };

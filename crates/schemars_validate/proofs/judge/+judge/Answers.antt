@@ -128,14 +128,20 @@ one::reference-returns-in_default-clause-verdict = one.one::reference-returns-in
 pub one::reference-returns-in_default-clause-judged : goal.one::reference-returns-in_default-clause-judged
 one::reference-returns-in_default-clause-judged = one.one::reference-returns-in_default-clause-judged
 
-pub one::reference-followed-requires : goal.one::reference-followed-requires
-one::reference-followed-requires = one.one::reference-followed-requires
+pub one::reference-named-requires : goal.one::reference-named-requires
+one::reference-named-requires = one.one::reference-named-requires
 
-pub one::reference-returns-in-None-clause-verdict : goal.one::reference-returns-in-None-clause-verdict
-one::reference-returns-in-None-clause-verdict = one.one::reference-returns-in-None-clause-verdict
+pub one::reference-returns-clause-verdict : goal.one::reference-returns-clause-verdict
+one::reference-returns-clause-verdict = one.one::reference-returns-clause-verdict
 
-pub one::reference-returns-in-None-clause-judged : goal.one::reference-returns-in-None-clause-judged
-one::reference-returns-in-None-clause-judged = one.one::reference-returns-in-None-clause-judged
+pub one::reference-returns-clause-judged : goal.one::reference-returns-clause-judged
+one::reference-returns-clause-judged = one.one::reference-returns-clause-judged
+
+pub one::named-followed-requires : goal.one::named-followed-requires
+one::named-followed-requires = one.one::named-followed-requires
+
+pub one::named-returns-in-None-clause-judged : goal.one::named-returns-in-None-clause-judged
+one::named-returns-in-None-clause-judged = one.one::named-returns-in-None-clause-judged
 
 pub one::followed-returns-then-left-eq0-clause-verdict : goal.one::followed-returns-then-left-eq0-clause-verdict
 one::followed-returns-then-left-eq0-clause-verdict = one.one::followed-returns-then-left-eq0-clause-verdict
@@ -148,6 +154,9 @@ one::followed-returns-in_default-clause-verdict = one.one::followed-returns-in_d
 
 pub one::followed-returns-in_default-clause-judged : goal.one::followed-returns-in_default-clause-judged
 one::followed-returns-in_default-clause-judged = one.one::followed-returns-in_default-clause-judged
+
+pub one::followed-passed_on-requires : goal.one::followed-passed_on-requires
+one::followed-passed_on-requires = one.one::followed-passed_on-requires
 
 pub one::followed-alone-requires : goal.one::followed-alone-requires
 one::followed-alone-requires = one.one::followed-alone-requires
@@ -178,6 +187,36 @@ one::followed-returns-clause-keeps = one.one::followed-returns-clause-keeps
 
 pub one::followed-returns-in_err-keep-2-clause-keeps : goal.one::followed-returns-in_err-keep-2-clause-keeps
 one::followed-returns-in_err-keep-2-clause-keeps = one.one::followed-returns-in_err-keep-2-clause-keeps
+
+pub one::passed_on-named-requires : goal.one::passed_on-named-requires
+one::passed_on-named-requires = one.one::passed_on-named-requires
+
+pub one::passed_on-named-requires-2 : goal.one::passed_on-named-requires-2
+one::passed_on-named-requires-2 = one.one::passed_on-named-requires-2
+
+pub one::passed_on-returns-then-is_empty-clause-verdict : goal.one::passed_on-returns-then-is_empty-clause-verdict
+one::passed_on-returns-then-is_empty-clause-verdict = one.one::passed_on-returns-then-is_empty-clause-verdict
+
+pub one::passed_on-returns-then-is_empty-clause-judged : goal.one::passed_on-returns-then-is_empty-clause-judged
+one::passed_on-returns-then-is_empty-clause-judged = one.one::passed_on-returns-then-is_empty-clause-judged
+
+pub one::passed_on-returns-then-is_empty-clause-keeps : goal.one::passed_on-returns-then-is_empty-clause-keeps
+one::passed_on-returns-then-is_empty-clause-keeps = one.one::passed_on-returns-then-is_empty-clause-keeps
+
+pub one::passed_on-returns-in_err-keep-clause-keeps : goal.one::passed_on-returns-in_err-keep-clause-keeps
+one::passed_on-returns-in_err-keep-clause-keeps = one.one::passed_on-returns-in_err-keep-clause-keeps
+
+pub one::passed_on-returns-clause-verdict : goal.one::passed_on-returns-clause-verdict
+one::passed_on-returns-clause-verdict = one.one::passed_on-returns-clause-verdict
+
+pub one::passed_on-returns-clause-judged : goal.one::passed_on-returns-clause-judged
+one::passed_on-returns-clause-judged = one.one::passed_on-returns-clause-judged
+
+pub one::passed_on-returns-clause-keeps : goal.one::passed_on-returns-clause-keeps
+one::passed_on-returns-clause-keeps = one.one::passed_on-returns-clause-keeps
+
+pub one::passed_on-returns-in_err-keep-2-clause-keeps : goal.one::passed_on-returns-in_err-keep-2-clause-keeps
+one::passed_on-returns-in_err-keep-2-clause-keeps = one.one::passed_on-returns-in_err-keep-2-clause-keeps
 
 pub one::fits-returns-clause-judged : goal.one::fits-returns-clause-judged
 one::fits-returns-clause-judged = one.one::fits-returns-clause-judged

@@ -40,8 +40,14 @@ decreases-several::dependents g l =
 abbrev pub decreases-one::reference : goal.decreases-one::reference
 decreases-one::reference g l = work l.left (view l.d.now.whole.now) (members_depth (members_view l.keywords.now.entries)) 13
 
+abbrev pub decreases-one::named : goal.decreases-one::named
+decreases-one::named g l = work l.left (view l.d.now.whole.now) 0 12
+
 abbrev pub decreases-one::followed : goal.decreases-one::followed
-decreases-one::followed g l = work l.left (view l.d.now.whole.now) 0 12
+decreases-one::followed g l = work l.left (view l.d.now.whole.now) 0 11
+
+abbrev pub decreases-one::passed_on : goal.decreases-one::passed_on
+decreases-one::passed_on g l = work l.left (view l.d.now.whole.now) 0 10
 
 abbrev pub decreases-parts::part_at : goal.decreases-parts::part_at
 decreases-parts::part_at g l = work l.left (view l.d.now.whole.now) (depth_at (option_map (λ s. view s.now) l.schema)) 2
