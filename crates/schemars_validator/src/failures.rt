@@ -14,6 +14,7 @@ use crate::ways::{
 use schemars_assertions::member;
 use schemars_readable::{Draft, member_place};
 use schemars_schema::Schema;
+use schemars_validate::lone_reference;
 use serde_json::{Map, Value};
 use std::alloc::{AllocError, Global};
 
@@ -57,11 +58,23 @@ fn explain(
     at: &At<'_>,
     told: &mut Told,
 ) -> Result<(), AllocError> {
-    if left == 0 || told.is_full() {
-        told.pass_over();
+    if left > 0 && !told.is_full() && !is_denied(asked, schema, at.value)? {
         return Ok(());
     }
-    if !is_denied(asked, schema, at.value)? {
+    explain_denied(asked, left, schema, at, told)
+}
+
+// Adds why a schema denies a value that it is known to deny.
+#[cycle(explain)]
+fn explain_denied(
+    asked: &Asked<'_>,
+    left: u32,
+    schema: &Value,
+    at: &At<'_>,
+    told: &mut Told,
+) -> Result<(), AllocError> {
+    if left == 0 || told.is_full() {
+        told.pass_over();
         return Ok(());
     }
     told.begin();
@@ -80,13 +93,12 @@ fn explain_object(
     told: &mut Told,
 ) -> Result<(), AllocError> {
     let before = told.count();
-    let alone = refers_alone(asked.draft, keywords);
-    if !alone {
-        explain_itself(asked, keywords, at, told)?;
-    }
     let referred = way_of_reference(asked.alloc, asked.document, keywords)?;
-    explain_ways(asked, left, &referred, at, told)?;
-    if !alone {
+    if lone_reference(asked.draft.dialect(), keywords).is_some() {
+        explain_referred(asked, left, &referred, at, told)?;
+    } else {
+        explain_itself(asked, keywords, at, told)?;
+        explain_ways(asked, left, &referred, at, told)?;
         explain_inside(asked, left, keywords, at, told)?;
     }
     if told.count() == before {
@@ -95,12 +107,25 @@ fn explain_object(
     Ok(())
 }
 
-// Whether the reference alone judges values.
-fn refers_alone(draft: Draft, keywords: &Map<String, Value>) -> bool {
-    match keywords.get("$ref") {
-        Some(Value::String(_)) => !draft.judges_siblings(),
-        _ => false,
+// What a reference that stands alone leads to denies what the reference denies.
+#[cycle(explain)]
+fn explain_referred(
+    asked: &Asked<'_>,
+    left: u32,
+    referred: &[Way<'_>],
+    at: &At<'_>,
+    told: &mut Told,
+) -> Result<(), AllocError> {
+    for way in referred {
+        let place = way.place_in(asked.alloc, at.keywords)?;
+        let inner = At {
+            instance: at.instance,
+            keywords: place.as_str(),
+            value: at.value,
+        };
+        explain_denied(asked, left, way.schema, &inner, told)?;
     }
+    Ok(())
 }
 
 // The keywords with schemas.

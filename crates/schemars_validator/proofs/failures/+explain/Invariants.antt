@@ -5,6 +5,12 @@ use Rattle.schemars_validator.proofs.failures.+explain.Given as goal
 abbrev pub decreases-explain : goal.decreases-explain
 decreases-explain l = l.left * 9 + 2
 
+abbrev pub decreases-explain_denied : goal.decreases-explain_denied
+decreases-explain_denied l = l.left * 9 + 1
+
+abbrev pub decreases-explain_referred : goal.decreases-explain_referred
+decreases-explain_referred l = l.left * 9 + 2
+
 abbrev pub decreases-explain_way : goal.decreases-explain_way
 decreases-explain_way l = l.left * 9 + 3
 
