@@ -1,9 +1,17 @@
-use Rattle.std.proofs.Common.{inr, subst, true, refl}
+use Rattle.std.proofs.Common.{◌≡◌, ◌∙◌, inr, subst, sym, true, false, refl}
 use Rattle.schemars_accepted.proofs.Words.{view, members_view, place_of-below, IsChecked, IsPlainForEach, IsAmong, as_read}
 use Rattle.schemars_types.specs.declared.contract.Contract.TheVariants.{Serialize}
 use Rattle.schemars_accepted.proofs.Rooting.{joined_row}
 use Rattle.schemars_accepted.proofs.Taking.{none_taken, none_left, all_taken, take_refused, all_accept}
 use Rattle.schemars_accepted.proofs.definitions.to_accepted_definitions.Goals as goal
+
+-- ---- a table that is plain for each dialect is not refused
+
+pub returns-in-Ok-false-clause-refused : goal.returns-in-Ok-false-clause-refused
+returns-in-Ok-false-clause-refused g c = λ plain.
+    let same : IsPlainForEach Serialize c.types.result.now = subst (IsPlainForEach Serialize) (sym c.types.ensures.table) plain in
+    let never : false ≡ true = sym c.in-Ok-false.field-0-test ∙ c.in-Ok-false.ensures.1 same in
+    absurd (cc)
 
 -- ---- the type has joined, and nothing is taken
 
